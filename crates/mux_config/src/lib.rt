@@ -1,0 +1,15 @@
+//! Configurations of a multiplex: what its sub-channels, services and packet components are at one time
+//! (EN 300 401 clauses 6.1 to 6.3), and what the entries of FIG 0/0 to 0/3 can say of them.
+//!
+//! The definitions that contracts cite stand in `specs/`: begin with `Configuration.antt` and `Facts.antt`.
+#![tactic(auto)]
+
+pub mod entry;
+pub mod few;
+pub mod numbers;
+pub mod parts;
+
+pub use entry::{ComponentEntry, Ensemble, Entry, PacketEntry, ServiceEntry, ShortEntry, SubEntry};
+pub use few::Few;
+pub use numbers::{Bits, ScId, ScTy, Sid, SubId};
+pub use parts::{Carrier, Component, Packet, Service, Sub};

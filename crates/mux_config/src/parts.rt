@@ -1,0 +1,63 @@
+//! What a configuration consists of: sub-channels, services with their components, packet components.
+
+use mux_eep::Protection;
+
+use crate::few::Few;
+use crate::numbers::{ScId, ScTy, Sid, SubId};
+
+/// A sub-channel: a part of the multiplex that is protected as one (EN 300 401 clauses 5.1 and 6.2.1).
+#[derive(Clone, Copy, Debug, PartialEq, Eq)]
+pub struct Sub {
+    /// Its identifier.
+    pub id: SubId,
+    /// The first of its capacity units, numbered from 0.
+    pub start: u16,
+    /// Its protection profile.
+    pub protection: Protection,
+    /// Its bit rate in kbit/s.
+    pub kbits: u16,
+}
+
+/// A component of a service, by the kind of its transport (EN 300 401 clause 6.3.1).
+#[derive(Clone, Copy, Debug, PartialEq, Eq)]
+pub enum Component {
+    /// Audio in stream mode, TMId 00.
+    Sound { ty: ScTy, sub: SubId },
+    /// Data in stream mode, TMId 01.
+    Stream { ty: ScTy, sub: SubId },
+    /// Data in packet mode, TMId 11.
+    Packet { scid: ScId },
+}
+
+/// What a component names as the carrier of its content. No two components of one service name the same.
+#[derive(Clone, Copy, Debug, PartialEq, Eq)]
+pub enum Carrier {
+    /// A sub-channel, of a component in stream mode.
+    Sub(SubId),
+    /// A packet component, of a component in packet mode.
+    Packet(ScId),
+}
+
+/// A service and its components, of which the first is the primary one (EN 300 401 clause 6.3.1).
+#[derive(Drop)]
+pub struct Service {
+    /// Its identifier.
+    pub sid: Sid,
+    /// Its components in order: at most 12 with a 16-bit SId, and at most 11 with a 32-bit SId.
+    pub components: Few<Component, 12>,
+}
+
+/// A service component in packet mode (EN 300 401 clause 6.3.2).
+#[derive(Clone, Copy, Debug, PartialEq, Eq)]
+pub struct Packet {
+    /// Its identifier.
+    pub scid: ScId,
+    /// The DG flag as it is sent: false where data groups are used.
+    pub dg: bool,
+    /// Its type, DSCTy.
+    pub ty: ScTy,
+    /// The sub-channel that carries its packets.
+    pub sub: SubId,
+    /// The address of its packets, 1 to 1023 in a configuration.
+    pub address: u16,
+}
