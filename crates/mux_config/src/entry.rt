@@ -3,10 +3,9 @@
 
 ghost use Rattle.std.specs.Prelude.{◌≡◌, ◌≢◌, ◌<◌, ◌≤◌, ◌↔◌, IsSome, IfSome};
 
-use std::marker::Model;
-
 use crate::few::Few;
 use crate::numbers::{Bits, ScId, ScTy, Sid, SubId};
+use std::marker::Model;
 
 /// One entry of FIG 0/0 to 0/3.
 #[derive(Drop)]
@@ -53,7 +52,13 @@ impl Ensemble {
 
     /// The ensemble information of these fields; None where `change` is above 3, `count` is above 4999,
     /// or `occurrence` is not there exactly where `change` is not 0.
-    pub fn new(eid: u16, change: u8, al: bool, count: u16, occurrence: Option<u8>) -> Option<Ensemble>
+    pub fn new(
+        eid: u16,
+        change: u8,
+        al: bool,
+        count: u16,
+        occurrence: Option<u8>,
+    ) -> Option<Ensemble>
         ensures within { IsSome result ↔ ((change < 4) × (count < 5000) × (IsSome occurrence ↔ (0 < change))) }
         ensures value { IfSome result (λ e. e ≡ record { eid = eid; change = change; al = al; count = count; occurrence = occurrence }) }
     {
@@ -75,7 +80,13 @@ impl Ensemble {
                 }
             }
         }
-        Some(Ensemble { eid, change, al, count, occurrence })
+        Some(Ensemble {
+            eid,
+            change,
+            al,
+            count,
+            occurrence,
+        })
     }
 
     /// The identifier of the ensemble, EId.
@@ -151,13 +162,29 @@ pub struct ShortEntry {
 #[derive(Clone, Copy, Debug, PartialEq, Eq)]
 pub enum ComponentEntry {
     /// TMId 00, audio in stream mode: ASCTy, SubChId.
-    Sound { ty: ScTy, sub: SubId, primary: bool, ca: bool },
+    Sound {
+        ty: ScTy,
+        sub: SubId,
+        primary: bool,
+        ca: bool,
+    },
     /// TMId 01, data in stream mode: DSCTy, SubChId.
-    Stream { ty: ScTy, sub: SubId, primary: bool, ca: bool },
+    Stream {
+        ty: ScTy,
+        sub: SubId,
+        primary: bool,
+        ca: bool,
+    },
     /// TMId 10, which this profile doesn't interpret: the 14 bits after it.
-    Other { bits: Bits<14> },
+    Other {
+        bits: Bits<14>,
+    },
     /// TMId 11, data in packet mode: SCId.
-    Packet { scid: ScId, primary: bool, ca: bool },
+    Packet {
+        scid: ScId,
+        primary: bool,
+        ca: bool,
+    },
 }
 
 /// The basic service and service component definition, FIG 0/2 (EN 300 401 clause 6.3.1). Its SId is

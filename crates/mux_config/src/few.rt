@@ -26,7 +26,9 @@ impl<T: Default + Drop, const CAP: usize> Few<T, CAP> {
     pub fn new() -> Self
         ensures { result ≡ [] }
     {
-        Few { items: ArrayVec::new() }
+        Few {
+            items: ArrayVec::new(),
+        }
     }
 }
 

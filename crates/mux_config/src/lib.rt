@@ -4,11 +4,13 @@
 //! The definitions that contracts cite stand in `specs/`: begin with `Configuration.antt` and `Facts.antt`.
 #![tactic(auto)]
 
+pub mod edit;
 pub mod entry;
 pub mod few;
 pub mod numbers;
 pub mod parts;
 
+pub use edit::{Edit, NewSub, Start};
 pub use entry::{ComponentEntry, Ensemble, Entry, PacketEntry, ServiceEntry, ShortEntry, SubEntry};
 pub use few::Few;
 pub use numbers::{Bits, ScId, ScTy, Sid, SubId};

@@ -1,9 +1,8 @@
 //! What a configuration consists of: sub-channels, services with their components, packet components.
 
-use mux_eep::Protection;
-
 use crate::few::Few;
 use crate::numbers::{ScId, ScTy, Sid, SubId};
+use mux_eep::Protection;
 
 /// A sub-channel: a part of the multiplex that is protected as one (EN 300 401 clauses 5.1 and 6.2.1).
 #[derive(Clone, Copy, Debug, PartialEq, Eq)]

@@ -1,0 +1,115 @@
+//! An edit of a configuration as a value: what a plan or a script asks to be changed.
+
+ghost use Rattle.std.specs.Prelude.{◌≡◌, ◌<◌, ◌↔◌, IsSome, IfSome};
+
+use crate::numbers::{ScId, Sid, SubId};
+use crate::parts::{Carrier, Component, Packet, Sub};
+use std::marker::Model;
+
+/// A start address as FIG 0/1 can carry it, in capacity units: 10 bits, 0 to 1023 (EN 300 401 clause
+/// 6.2.1).
+#[derive(Clone, Copy, Debug, PartialEq, Eq, PartialOrd, Ord)]
+pub struct Start {
+    address: u16,
+}
+
+impl Model for Start {
+    ghost use Rattle.std.specs.Prelude.{ℕ, ◌<◌};
+
+    ghost Value = { ℕ };
+
+    ghost view = { λ s. s.address };
+
+    ghost invariant = { λ s. s.address < 1024 };
+
+    ghost inverse = { λ n. record { address = n } };
+}
+
+impl Start {
+    /// The start address of this number; None where it is above 1023.
+    pub fn new(address: u16) -> Option<Start>
+        ensures in_range { IsSome result ↔ (address < 1024) }
+        ensures value { IfSome result (λ s. s ≡ address) }
+    {
+        if address < 1024 {
+            Some(Start { address })
+        } else {
+            None
+        }
+    }
+
+    /// Its number, 0 to 1023.
+    pub fn get(self) -> u16
+        ensures value { result ≡ self }
+        ensures in_range { result < 1024 }
+    {
+        self.address
+    }
+}
+
+/// A sub-channel that is to be added: a [`Sub`] whose start address is at most 1023. Whether it has a size
+/// and room is found by the edit.
+#[derive(Clone, Copy, Debug, PartialEq, Eq)]
+pub struct NewSub {
+    sub: Sub,
+}
+
+impl Model for NewSub {
+    ghost use Rattle.std.specs.Prelude.{◌<◌};
+    ghost use Rattle.mux_config.specs.declared.parts.Sub.{Sub};
+
+    ghost Value = { Sub };
+
+    ghost view = { λ n. n.sub };
+
+    ghost invariant = { λ n. n.sub.start < 1024 };
+
+    ghost inverse = { λ s. record { sub = s } };
+}
+
+impl NewSub {
+    /// This sub-channel, to be added; None where its start address is above 1023.
+    pub fn new(sub: Sub) -> Option<NewSub>
+        ensures in_range { IsSome result ↔ (sub.start < 1024) }
+        ensures value { IfSome result (λ n. n ≡ sub) }
+    {
+        if sub.start < 1024 {
+            Some(NewSub { sub })
+        } else {
+            None
+        }
+    }
+
+    /// The sub-channel; it starts at 0 to 1023.
+    pub fn get(self) -> Sub
+        ensures value { result ≡ self }
+        ensures in_range { result.start < 1024 }
+    {
+        self.sub
+    }
+}
+
+/// One of the ten edits of a configuration.
+#[derive(Clone, Copy, Debug, PartialEq, Eq)]
+pub enum Edit {
+    /// Adds a sub-channel.
+    AddSub(NewSub),
+    /// Takes a sub-channel away.
+    DropSub(SubId),
+    /// Gives a sub-channel another start address.
+    MoveSub { id: SubId, start: Start },
+    /// Gives a sub-channel another bit rate, in kbit/s; its protection profile stays.
+    RateSub { id: SubId, kbits: u16 },
+    /// Adds a service without components.
+    AddService(Sid),
+    /// Takes a service away, with its components.
+    DropService(Sid),
+    /// Adds a component at the end of a service.
+    AddComponent { sid: Sid, component: Component },
+    /// Takes the component of this carrier out of a service; the others close up.
+    DropComponent { sid: Sid, carrier: Carrier },
+    /// Adds a packet component; any address may stand here, and is judged by the edit.
+    AddPacket(Packet),
+    /// Takes a packet component away.
+    DropPacket(ScId),
+}
