@@ -1,5 +1,5 @@
 -- Values of entries whose fields depend on one another.
-use Rattle.std.specs.Prelude.{◌≡◌, ◌≢◌, ℕ, ◌<◌, ◌≤◌, Bool, Option, IsSome, IfSome, ◌↔◌}
+use Rattle.std.specs.Prelude.{ℕ, Bool, Option}
 
 -- ensemble information (EN 300 401 clause 6.4): EId, change flags 0 to 3, Al flag, CIF count, and the
 -- occurrence change where a flag is set

@@ -1,5 +1,5 @@
 -- What the entries of FIG 0/1 to 0/3 say of a configuration (EN 300 401 clauses 6.2.1, 6.3.1 and 6.3.2).
-use Rattle.std.specs.Prelude.{◌≡◌, ◌≢◌, ℕ, ◌+◌, ◌-◌, ◌<◌, ◌≤◌, ◌↔◌, Bool, true, false, IsTrue, List, [], ◌∷◌, ◌++◌, map, Option, Some, None, Contains}
+use Rattle.std.specs.Prelude.{◌≡◌, ℕ, ◌-◌, Bool, true, false, List, [], ◌∷◌, ◌++◌, map, None}
 use Rattle.mux_eep.specs.declared.sizes.EepSet.{EepSet}
 use Rattle.mux_eep.specs.declared.sizes.EepSet.TheVariants.{A, B}
 use Rattle.mux_config.specs.declared.parts.Sub.{Sub}
@@ -9,9 +9,6 @@ use Rattle.mux_config.specs.declared.parts.Component.TheVariants.{Sound, Stream,
 use Rattle.mux_config.specs.declared.parts.Packet.{Packet}
 use Rattle.mux_config.specs.declared.entry.Entry.{Entry}
 use Rattle.mux_config.specs.declared.entry.Entry.TheVariants.{Sub as SubOf, Service as ServiceOf, Packet as PacketOf}
-use Rattle.mux_config.specs.declared.entry.SubEntry.{SubEntry}
-use Rattle.mux_config.specs.declared.entry.ServiceEntry.{ServiceEntry}
-use Rattle.mux_config.specs.declared.entry.PacketEntry.{PacketEntry}
 use Rattle.mux_config.specs.declared.entry.ComponentEntry.{ComponentEntry}
 use Rattle.mux_config.specs.declared.entry.ComponentEntry.TheVariants.{Sound as SoundOf, Stream as StreamOf, Packet as PacketsOf}
 use Rattle.mux_config.specs.Configuration.{Configuration, IsConfiguration, size_of_sub}

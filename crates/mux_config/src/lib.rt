@@ -9,9 +9,11 @@ pub mod entry;
 pub mod few;
 pub mod numbers;
 pub mod parts;
+pub mod record;
 
 pub use edit::{Edit, NewSub, Start};
 pub use entry::{ComponentEntry, Ensemble, Entry, PacketEntry, ServiceEntry, ShortEntry, SubEntry};
 pub use few::Few;
 pub use numbers::{Bits, ScId, ScTy, Sid, SubId};
 pub use parts::{Carrier, Component, Packet, Service, Sub};
+pub use record::RecordFault;
