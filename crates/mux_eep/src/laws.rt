@@ -7,5 +7,4 @@ ghost use Rattle.mux_eep.specs.Sizes.{SizesGrow, OneRate};
 pub fn sizes()
     ensures grow { SizesGrow }
     ensures one_rate { OneRate }
-{
-}
+{}

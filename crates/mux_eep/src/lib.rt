@@ -10,7 +10,7 @@ pub mod laws;
 pub mod sizes;
 
 pub use fault::EepFault;
-pub use sizes::{rate_of, size_of, EepSet, Protection};
+pub use sizes::{EepSet, Protection, rate_of, size_of};
 
 #[cfg(test)]
 mod tests;

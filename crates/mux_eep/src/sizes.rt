@@ -3,9 +3,8 @@
 ghost use Rattle.std.specs.Prelude.{◌≡◌, ◌≢◌, ℕ, ◌<◌, ◌≤◌, ◌↔◌, IsSome, IfSome, IfNone, IfOk, Ok, Err};
 ghost use Rattle.mux_eep.specs.Sizes.{Profile, IsSize, size_or_fault, units_of_step, rate_step};
 
-use std::marker::Model;
-
 use crate::fault::EepFault;
+use std::marker::Model;
 
 /// The capacity units of a multiplex, numbered 0 to 863 (EN 300 401 clause 5.1).
 const CAPACITY_UNITS: u16 = 864;

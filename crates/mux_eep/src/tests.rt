@@ -1,6 +1,5 @@
+use crate::{EepFault, EepSet, Protection, rate_of, size_of};
 use std::test::Fail;
-
-use crate::{rate_of, size_of, EepFault, EepSet, Protection};
 
 fn profile(set: EepSet, level: u8) -> Result<Protection, &'static str> {
     Protection::new(set, level).ok_or("a level from 1 to 4")
@@ -21,10 +20,16 @@ fn sizes_of_the_standards_tables(rt: HostRuntime) -> Result<(), Fail> {
 
 #[test]
 fn rates_that_have_no_size(rt: HostRuntime) -> Result<(), Fail> {
-    assert_eq!(rt; size_of(profile(EepSet::B, 1)?, 33), Err(EepFault::NotMultiple));
+    assert_eq!(rt;
+        size_of(profile(EepSet::B, 1)?, 33),
+        Err(EepFault::NotMultiple)
+    );
     assert_eq!(rt; size_of(profile(EepSet::A, 3)?, 0), Err(EepFault::ZeroRate));
     assert_eq!(rt; size_of(profile(EepSet::A, 4)?, 1728), Ok(864));
-    assert_eq!(rt; size_of(profile(EepSet::A, 4)?, 1736), Err(EepFault::PastMultiplex));
+    assert_eq!(rt;
+        size_of(profile(EepSet::A, 4)?, 1736),
+        Err(EepFault::PastMultiplex)
+    );
     Ok(())
 }
 
