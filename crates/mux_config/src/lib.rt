@@ -10,6 +10,7 @@ pub mod few;
 pub mod numbers;
 pub mod parts;
 pub mod record;
+pub mod table;
 
 pub use edit::{Edit, NewSub, Start};
 pub use entry::{ComponentEntry, Ensemble, Entry, PacketEntry, ServiceEntry, ShortEntry, SubEntry};
@@ -17,3 +18,4 @@ pub use few::Few;
 pub use numbers::{Bits, ScId, ScTy, Sid, SubId};
 pub use parts::{Carrier, Component, Packet, Service, Sub};
 pub use record::RecordFault;
+pub use table::{Keyed, Table};
