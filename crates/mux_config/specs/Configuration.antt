@@ -49,6 +49,9 @@ abbrev pub size_of_sub : Sub → ℕ
 size_of_sub s = table_size s.protection s.kbits
 
 pub record IsPlaced (s : Sub) : Type 0 where
+  pub named : s.id < 64
+  pub from_one : 1 ≤ s.protection.level
+  pub to_four : s.protection.level ≤ 4
   pub sized : IsSize s.protection s.kbits (size_of_sub s)
   pub ends : s.start + size_of_sub s ≤ 864
 
@@ -63,17 +66,33 @@ abbrev pub AreDifferent : List Component → Type 0
 AreDifferent [] = Unit {0}
 AreDifferent (c ∷ cs) = Each (λ d. carrier_of c ≢ carrier_of d) cs × AreDifferent cs
 
+-- identifiers and types are within their bits
+abbrev pub IsSid : Sid → Type 0
+IsSid (Short n) = n < 65536
+IsSid (Long n) = n < 4294967296
+
+abbrev pub IsComponent : Component → Type 0
+IsComponent (Sound ty sub) = (ty < 64) × (sub < 64)
+IsComponent (Stream ty sub) = (ty < 64) × (sub < 64)
+IsComponent (InPackets scid) = scid < 4096
+
 -- how many components a service can have: its entry takes at most 29 bytes with the header of its FIG
 abbrev pub component_limit : Sid → ℕ
 component_limit (Short n) = 12
 component_limit (Long n) = 11
 
 pub record IsService (s : Service) : Type 0 where
+  pub named : IsSid s.sid
+  pub within : Each IsComponent s.components
   pub carriers : AreDifferent s.components
   pub few : length s.components ≤ component_limit s.sid
 
-abbrev pub IsAddressed : Packet → Type 0
-IsAddressed p = (1 ≤ p.address) × (p.address ≤ 1023)
+pub record IsAddressed (p : Packet) : Type 0 where
+  pub named : p.scid < 4096
+  pub typed : p.ty < 64
+  pub carried : p.sub < 64
+  pub from_one : 1 ≤ p.address
+  pub to_last : p.address ≤ 1023
 
 pub record IsConfiguration (c : Configuration) : Type 0 where
   pub subs_ascend : IsAscending sub_key c.subs

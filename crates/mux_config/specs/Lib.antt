@@ -1,7 +1,11 @@
+pub mod Change
 pub mod Configuration
+pub mod Edits
 pub mod Entries
 pub mod Facts
 pub mod Reading
+pub mod Sets
+pub mod Sound
 pub mod Spelling
 pub mod Tables
 pub use Rattle.mux_eep.specs.Sizes
