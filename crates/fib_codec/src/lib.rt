@@ -1,0 +1,15 @@
+//! Fast Information Blocks as they go on air (EN 300 401 clauses 5.2.1 and 5.2.2): entries of FIG 0/0 to
+//! 0/3 are put into FIGs, FIGs into a FIB of 32 bytes, and its check word closes it.
+//!
+//! The definitions that contracts cite stand in `specs/`: `Spelling` says how entries and FIGs are
+//! written, `Grammar` which FIGs 32 bytes hold, `Crc` what the check word is, apart from any table, and
+//! `Heard` which entries a receiver hears in a FIB.
+#![tactic(auto)]
+
+pub mod head;
+
+pub use head::Head;
+pub use mux_config::{
+    Bits, ComponentEntry, Ensemble, Entry, Few, PacketEntry, ScId, ScTy, ServiceEntry, ShortEntry,
+    Sid, SubEntry, SubId,
+};
