@@ -1,0 +1,21 @@
+//! Plan codes: the small code that a reconfiguration script compiles to, as a value whose every field is
+//! within its limits, and as one file.
+//!
+//! `Code` is a plan, a table of configurations, a table of labels and the instructions; `decode` and
+//! `encode` are its file. What an instruction does, and what it needs so as not to trap, is defined in
+//! `specs/Machine.antt`; the file in `specs/Spelling.antt` and `specs/Reading.antt`.
+#![tactic(auto)]
+
+pub mod fault;
+pub mod flags;
+pub mod instr;
+pub mod label;
+pub mod numbers;
+pub mod plan;
+
+pub use fault::CodeFault;
+pub use flags::{Contacts, Counters};
+pub use instr::{Instr, Line};
+pub use label::Label;
+pub use numbers::{ContactId, CounterId, DayFrame, Delay, Frames, Times};
+pub use plan::Plan;

@@ -1,0 +1,244 @@
+//! Numbers of instructions that never leave their range.
+
+ghost use Rattle.std.specs.Prelude.{◌≡◌, ◌<◌, ◌≤◌, ◌↔◌, IsSome, IfSome};
+
+use std::marker::Model;
+
+/// The number of a contact, 0 to 15.
+#[derive(Clone, Copy, Debug, PartialEq, Eq, PartialOrd, Ord)]
+pub struct ContactId {
+    id: u8,
+}
+
+impl Model for ContactId {
+    ghost use Rattle.std.specs.Prelude.{ℕ, ◌<◌};
+
+    ghost Value = { ℕ };
+
+    ghost view = { λ c. c.id };
+
+    ghost invariant = { λ c. c.id < 16 };
+
+    ghost inverse = { λ n. record { id = n } };
+}
+
+impl ContactId {
+    /// The contact of this number; None where it is above 15.
+    pub fn new(id: u8) -> Option<ContactId>
+        ensures in_range { IsSome result ↔ (id < 16) }
+        ensures value { IfSome result (λ c. c ≡ id) }
+    {
+        if id < 16 {
+            Some(ContactId { id })
+        } else {
+            None
+        }
+    }
+
+    /// Its number, 0 to 15.
+    pub fn get(self) -> u8
+        ensures value { result ≡ self }
+        ensures in_range { result < 16 }
+    {
+        self.id
+    }
+}
+
+/// The number of a counter, 0 to 7.
+#[derive(Clone, Copy, Debug, PartialEq, Eq, PartialOrd, Ord)]
+pub struct CounterId {
+    id: u8,
+}
+
+impl Model for CounterId {
+    ghost use Rattle.std.specs.Prelude.{ℕ, ◌<◌};
+
+    ghost Value = { ℕ };
+
+    ghost view = { λ c. c.id };
+
+    ghost invariant = { λ c. c.id < 8 };
+
+    ghost inverse = { λ n. record { id = n } };
+}
+
+impl CounterId {
+    /// The counter of this number; None where it is above 7.
+    pub fn new(id: u8) -> Option<CounterId>
+        ensures in_range { IsSome result ↔ (id < 8) }
+        ensures value { IfSome result (λ c. c ≡ id) }
+    {
+        if id < 8 { Some(CounterId { id }) } else { None }
+    }
+
+    /// Its number, 0 to 7.
+    pub fn get(self) -> u8
+        ensures value { result ≡ self }
+        ensures in_range { result < 8 }
+    {
+        self.id
+    }
+}
+
+/// A number of frames to wait, 1 to 65,535.
+#[derive(Clone, Copy, Debug, PartialEq, Eq, PartialOrd, Ord)]
+pub struct Frames {
+    frames: u16,
+}
+
+impl Model for Frames {
+    ghost use Rattle.std.specs.Prelude.{ℕ, ◌≤◌};
+
+    ghost Value = { ℕ };
+
+    ghost view = { λ f. f.frames };
+
+    ghost invariant = { λ f. 1 ≤ f.frames };
+
+    ghost inverse = { λ n. record { frames = n } };
+}
+
+impl Frames {
+    /// So many frames; None where there is none.
+    pub fn new(frames: u16) -> Option<Frames>
+        ensures in_range { IsSome result ↔ (1 ≤ frames) }
+        ensures value { IfSome result (λ f. f ≡ frames) }
+    {
+        if frames >= 1 {
+            Some(Frames { frames })
+        } else {
+            None
+        }
+    }
+
+    /// How many frames, 1 to 65,535.
+    pub fn get(self) -> u16
+        ensures value { result ≡ self }
+        ensures in_range { 1 ≤ result }
+    {
+        self.frames
+    }
+}
+
+/// How many times the body of a loop is to run, 1 to 65,535.
+#[derive(Clone, Copy, Debug, PartialEq, Eq, PartialOrd, Ord)]
+pub struct Times {
+    times: u16,
+}
+
+impl Model for Times {
+    ghost use Rattle.std.specs.Prelude.{ℕ, ◌≤◌};
+
+    ghost Value = { ℕ };
+
+    ghost view = { λ t. t.times };
+
+    ghost invariant = { λ t. 1 ≤ t.times };
+
+    ghost inverse = { λ n. record { times = n } };
+}
+
+impl Times {
+    /// So many times; None where it is never.
+    pub fn new(times: u16) -> Option<Times>
+        ensures in_range { IsSome result ↔ (1 ≤ times) }
+        ensures value { IfSome result (λ t. t ≡ times) }
+    {
+        if times >= 1 {
+            Some(Times { times })
+        } else {
+            None
+        }
+    }
+
+    /// How many times, 1 to 65,535.
+    pub fn get(self) -> u16
+        ensures value { result ≡ self }
+        ensures in_range { 1 ≤ result }
+    {
+        self.times
+    }
+}
+
+/// The number of frames from a commit to its swap at the least, 1 to 60,000.
+#[derive(Clone, Copy, Debug, PartialEq, Eq, PartialOrd, Ord)]
+pub struct Delay {
+    frames: u16,
+}
+
+impl Model for Delay {
+    ghost use Rattle.std.specs.Prelude.{ℕ, ◌≤◌};
+
+    ghost Value = { ℕ };
+
+    ghost view = { λ d. d.frames };
+
+    ghost invariant = { λ d. (1 ≤ d.frames) × (d.frames ≤ 60000) };
+
+    ghost inverse = { λ n. record { frames = n } };
+}
+
+impl Delay {
+    /// So many frames; None where they are not 1 to 60,000.
+    pub fn new(frames: u16) -> Option<Delay>
+        ensures in_range { IsSome result ↔ ((1 ≤ frames) × (frames ≤ 60000)) }
+        ensures value { IfSome result (λ d. d ≡ frames) }
+    {
+        if frames < 1 {
+            return None;
+        }
+        if frames > 60_000 {
+            return None;
+        }
+        Some(Delay { frames })
+    }
+
+    /// How many frames, 1 to 60,000.
+    pub fn get(self) -> u16
+        ensures value { result ≡ self }
+        ensures from_one { 1 ≤ result }
+        ensures in_range { result ≤ 60000 }
+    {
+        self.frames
+    }
+}
+
+/// A frame of the day, 0 to 3,599,999: a day has 3,600,000 frames of 24 ms.
+#[derive(Clone, Copy, Debug, PartialEq, Eq, PartialOrd, Ord)]
+pub struct DayFrame {
+    frame: u32,
+}
+
+impl Model for DayFrame {
+    ghost use Rattle.std.specs.Prelude.{ℕ, ◌<◌};
+
+    ghost Value = { ℕ };
+
+    ghost view = { λ d. d.frame };
+
+    ghost invariant = { λ d. d.frame < 3600000 };
+
+    ghost inverse = { λ n. record { frame = n } };
+}
+
+impl DayFrame {
+    /// The frame of this number; None where the day has ended by then.
+    pub fn new(frame: u32) -> Option<DayFrame>
+        ensures in_range { IsSome result ↔ (frame < 3600000) }
+        ensures value { IfSome result (λ d. d ≡ frame) }
+    {
+        if frame < 3_600_000 {
+            Some(DayFrame { frame })
+        } else {
+            None
+        }
+    }
+
+    /// Its number, 0 to 3,599,999.
+    pub fn get(self) -> u32
+        ensures value { result ≡ self }
+        ensures in_range { result < 3600000 }
+    {
+        self.frame
+    }
+}

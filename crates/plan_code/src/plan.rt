@@ -1,0 +1,15 @@
+//! What a code declares for the whole of its run.
+
+/// The plan of an ensemble: what its frames carry and what its notices promise.
+#[derive(Clone, Copy, Debug, PartialEq, Eq)]
+pub struct Plan {
+    /// The identifier of the ensemble, EId (EN 300 401 clause 6.4).
+    pub eid: u16,
+    /// The period, in frames, 1 to 60 in a code: the whole current configuration goes out in any so many
+    /// successive frames.
+    pub period: u8,
+    /// The notice, in frames, 12 to 248 in a code: for how long a swap is announced before it is made.
+    pub notice: u8,
+    /// The budget, 1 to 255 in a code: how many instructions run in one frame at most.
+    pub budget: u8,
+}
