@@ -1,5 +1,5 @@
 -- The ten edits of a configuration: what each changes, and why each is refused, in the order tested.
-use Rattle.std.specs.Prelude.{◌≡◌, ℕ, ◌+◌, ◌==◌, ◌||◌, Bool, false, not, if◌then◌else◌, nat_lt, nat_le, [], ◌∷◌, ◌++◌, length, filter, Option, Some, None, Result, Ok, Err, is_err}
+use Rattle.std.specs.Prelude.{◌≡◌, ℕ, ◌+◌, ◌==◌, ◌||◌, Bool, false, not, if◌then◌else◌, nat_lt, nat_le, List, [], ◌∷◌, ◌++◌, length, map, filter, Option, Some, None, Result, Ok, Err, is_err, is_some}
 use Rattle.std.specs.List.{list_any}
 use Rattle.mux_config.specs.declared.parts.Sub.{Sub}
 use Rattle.mux_config.specs.declared.parts.Service.{Service}
@@ -13,8 +13,16 @@ use Rattle.mux_config.specs.declared.numbers.Sid.{Sid}
 use Rattle.mux_config.specs.declared.fault.EditFault.{EditFault}
 use Rattle.mux_config.specs.declared.fault.EditFault.TheVariants.{IdUsed, IdAbsent, TooManyComponents, TableFull, PastEnd, BadRate, BadAddress}
 use Rattle.mux_config.specs.Configuration.{Configuration, sub_key, sid_key, service_key, packet_key, size_of_sub, carrier_of, component_limit}
-use Rattle.mux_config.specs.Sets.{entry_at, has_entry, with_entry, without_entry, changed_at}
+use Rattle.mux_config.specs.Tables.{entry_at, with_entry, without_entry}
 use Rattle.mux_eep.specs.Sizes.{size_or_fault}
+
+-- whether a set has a member of this key
+abbrev pub has_entry : {T : Type 0} → (T → ℕ) → ℕ → List T → Bool
+has_entry key k xs = is_some (entry_at key k xs)
+
+-- the set with the member of this key changed, and each other one as it was
+abbrev pub changed_at : {T : Type 0} → (T → ℕ) → ℕ → (T → T) → List T → List T
+changed_at key k change xs = map (λ x. if key x == k then change x else x) xs
 
 -- the members that an edit names
 abbrev pub sub_at : ℕ → Configuration → Option Sub

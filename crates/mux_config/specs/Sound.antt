@@ -10,7 +10,7 @@ use Rattle.mux_config.specs.declared.parts.Packet.{Packet}
 use Rattle.mux_config.specs.declared.fault.ConfigFault.{ConfigFault}
 use Rattle.mux_config.specs.declared.fault.ConfigFault.TheVariants.{Overlap, Orphan, AddressUsed, EmptyService}
 use Rattle.mux_config.specs.Configuration.{Configuration, sub_key, packet_key, size_of_sub, carrier_of}
-use Rattle.mux_config.specs.Sets.{has_entry}
+use Rattle.mux_config.specs.Edits.{has_entry}
 
 -- the capacity units of a sub-channel
 abbrev pub IsUnitOf : Sub → ℕ → Type 0

@@ -44,7 +44,9 @@ impl<T: Keyed + Default, const CAP: usize> Table<T, CAP> {
     pub fn new() -> Self
         ensures { result ≡ [] }
     {
-        Table { entries: ArrayVec::new() }
+        Table {
+            entries: ArrayVec::new(),
+        }
     }
 }
 
