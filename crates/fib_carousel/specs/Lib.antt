@@ -1,0 +1,9 @@
+pub mod Packing
+pub mod Pages
+pub use Rattle.fib_codec.specs.Crc
+pub use Rattle.fib_codec.specs.Spelling
+pub use Rattle.fib_codec.specs.Grammar
+pub use Rattle.fib_codec.specs.Heard
+pub use Rattle.mux_config.specs.Configuration
+pub use Rattle.mux_config.specs.Entries
+pub use Rattle.mux_config.specs.Facts

@@ -1,0 +1,22 @@
+//! What holds of every packing, whatever computes it. The functions do nothing; their contracts are the laws.
+
+ghost use Rattle.fib_carousel.specs.Packing.{GreedyIsPacking, PackingIsOne, DividedAreSmall, NoFewer};
+ghost use Rattle.fib_carousel.specs.Pages.{PagesAreAll, EachInAPage, NoneBeyond, PageIsFibs};
+
+/// The greedy rule gives the packing of every list of entries that has a division, so no division takes
+/// fewer FIBs or pages. A list has at most one packing.
+pub fn greedy()
+    ensures packing { GreedyIsPacking }
+    ensures one { PackingIsOne }
+    ensures small { DividedAreSmall }
+    ensures fewest { NoFewer }
+{}
+
+/// All pages together have each entry once, in order, and no other; so each entry is in a page, and a page
+/// past the last has none. The entries of a page are those of its three FIBs.
+pub fn pages()
+    ensures all { PagesAreAll }
+    ensures each { EachInAPage }
+    ensures beyond { NoneBeyond }
+    ensures fibs { PageIsFibs }
+{}
