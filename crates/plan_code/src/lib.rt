@@ -8,6 +8,7 @@
 
 pub mod fault;
 pub mod flags;
+pub mod hold;
 pub mod instr;
 pub mod label;
 pub mod numbers;
@@ -15,6 +16,7 @@ pub mod plan;
 
 pub use fault::CodeFault;
 pub use flags::{Contacts, Counters};
+pub use hold::Hold;
 pub use instr::{Instr, Line};
 pub use label::Label;
 pub use numbers::{ContactId, CounterId, DayFrame, Delay, Frames, Times};

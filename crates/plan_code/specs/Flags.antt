@@ -1,0 +1,26 @@
+-- Sets of counters and of contacts, a bit for each.
+use Rattle.std.specs.Prelude.{ℕ, ◌-◌, ◌^◌, ◌==◌, Bool, true, false}
+use Rattle.std.specs.Int.{bit_at}
+use Rattle.std.specs.Int.RustNames.{bit_and, bit_or}
+use Rattle.plan_code.specs.declared.flags.Counters.{Counters}
+use Rattle.plan_code.specs.declared.flags.Contacts.{Contacts}
+
+-- counter r is in the set
+abbrev pub is_set : Counters → ℕ → Bool
+is_set counters r = bit_at counters.0 r == 1
+
+-- contact c is closed
+abbrev pub is_closed : Contacts → ℕ → Bool
+is_closed contacts c = bit_at contacts.0 c == 1
+
+-- the set with counter r, and without it
+abbrev pub with_counter : ℕ → Counters → Counters
+with_counter r counters = record { 0 = bit_or counters.0 (2 ^ r) }
+
+abbrev pub without_counter : ℕ → Counters → Counters
+without_counter r counters = record { 0 = bit_and counters.0 (2 ^ 8 - 1 - 2 ^ r) }
+
+-- the contacts with contact c closed, or open
+abbrev pub with_contact : ℕ → Bool → Contacts → Contacts
+with_contact c true contacts = record { 0 = bit_or contacts.0 (2 ^ c) }
+with_contact c false contacts = record { 0 = bit_and contacts.0 (2 ^ 16 - 1 - 2 ^ c) }

@@ -1,0 +1,121 @@
+-- What a plan code is: a plan, a table of configurations, a table of labels and instructions, with every field
+-- within its limits.
+use Rattle.std.specs.Prelude.{ℕ, ◌<◌, ◌≤◌, ◌==◌, List, length, Option, Some, None, find, slice_get, option_map}
+use Rattle.mux_config.specs.Configuration.{Configuration, IsConfiguration, Each, IsAscending, IsSid, IsComponent}
+use Rattle.mux_config.specs.declared.parts.Sub.{Sub}
+use Rattle.mux_config.specs.declared.parts.Carrier.{Carrier}
+use Rattle.mux_config.specs.declared.parts.Carrier.TheVariants.{Sub as BySub, Packet as ByPacket}
+use Rattle.mux_config.specs.declared.parts.Packet.{Packet}
+use Rattle.mux_config.specs.declared.edit.Edit.{Edit}
+use Rattle.mux_config.specs.declared.edit.Edit.TheVariants.{AddSub, DropSub, MoveSub, RateSub, AddService, DropService, AddComponent, DropComponent, AddPacket, DropPacket}
+use Rattle.plan_code.specs.declared.plan.Plan.{Plan}
+use Rattle.plan_code.specs.declared.label.Label.{Label}
+use Rattle.plan_code.specs.declared.instr.Instr.{Instr}
+use Rattle.plan_code.specs.declared.instr.Instr.TheVariants.{Wait, Until, WaitContact, CommitIn, CommitAt, Join, End, Edit as Edits, Test, Jump, Set, Loop}
+use Rattle.plan_code.specs.declared.instr.Line.{Line}
+
+pub record Program : Type 0 where
+  pub plan : Plan
+  pub configurations : List Configuration
+  pub labels : List Label
+  pub lines : List Line
+
+-- the label that stands at a place of the code
+abbrev pub label_at : Program → ℕ → Option Label
+label_at p pc = find (λ l. l.pc == pc) p.labels
+
+-- the instruction there, and the number of its line
+abbrev pub instr_at : Program → ℕ → Option Instr
+instr_at p pc = option_map (λ l. l.instr) (slice_get p.lines pc)
+
+abbrev pub line_at : Program → ℕ → Option ℕ
+line_at p pc = option_map (λ l. l.number) (slice_get p.lines pc)
+
+-- ---- limits
+
+pub record IsPlan (p : Plan) : Type 0 where
+  pub ensemble : p.eid < 65536
+  pub period_from : 1 ≤ p.period
+  pub period_to : p.period ≤ 60
+  pub notice_from : 12 ≤ p.notice
+  pub notice_to : p.notice ≤ 248
+  pub budget_from : 1 ≤ p.budget
+  pub budget_to : p.budget ≤ 255
+
+-- the least and the greatest number of frames until a swap, where one is pending
+abbrev pub AreBounds : Option (ℕ × ℕ) → Type 0
+AreBounds None = Unit {0}
+AreBounds (Some b) = (1 ≤ b.0) × (b.0 ≤ b.1) × (b.1 < 65536)
+
+-- a label, where the table has so many configurations
+pub record IsLabel (count : ℕ) (l : Label) : Type 0 where
+  pub place : l.pc < 65536
+  pub current : l.cur < count
+  pub following : l.next < count
+  pub bounds : AreBounds l.pending
+  pub set : l.counters.0 < 256
+  pub cost_from : 1 ≤ l.cost
+  pub cost_to : l.cost ≤ 255
+
+abbrev pub label_key : Label → ℕ
+label_key l = l.pc
+
+pub record IsNewSub (s : Sub) : Type 0 where
+  pub named : s.id < 64
+  pub start : s.start < 1024
+  pub from_one : 1 ≤ s.protection.level
+  pub to_four : s.protection.level ≤ 4
+  pub rate : s.kbits < 65536
+
+abbrev pub IsCarrier : Carrier → Type 0
+IsCarrier (BySub id) = id < 64
+IsCarrier (ByPacket scid) = scid < 4096
+
+pub record IsNewPacket (p : Packet) : Type 0 where
+  pub named : p.scid < 4096
+  pub typed : p.ty < 64
+  pub carried : p.sub < 64
+  pub to_last : p.address < 65536
+
+abbrev pub IsEdit : Edit → Type 0
+IsEdit (AddSub s) = IsNewSub s
+IsEdit (DropSub id) = id < 64
+IsEdit (MoveSub id start) = (id < 64) × (start < 1024)
+IsEdit (RateSub id kbits) = (id < 64) × (kbits < 65536)
+IsEdit (AddService sid) = IsSid sid
+IsEdit (DropService sid) = IsSid sid
+IsEdit (AddComponent sid m) = IsSid sid × IsComponent m
+IsEdit (DropComponent sid carrier) = IsSid sid × IsCarrier carrier
+IsEdit (AddPacket p) = IsNewPacket p
+IsEdit (DropPacket scid) = scid < 4096
+
+abbrev pub IsInstr : Instr → Type 0
+IsInstr (Wait n) = (1 ≤ n) × (n < 65536)
+IsInstr (Until t) = t < 3600000
+IsInstr (WaitContact c closed) = c < 16
+IsInstr (CommitIn k) = (1 ≤ k) × (k ≤ 60000)
+IsInstr (CommitAt n) = n < 65536
+IsInstr Join = Unit {0}
+IsInstr End = Unit {0}
+IsInstr (Edits e) = IsEdit e
+IsInstr (Test c target) = (c < 16) × (target < 65536)
+IsInstr (Jump target) = target < 65536
+IsInstr (Set r n) = (r < 8) × (1 ≤ n) × (n < 65536)
+IsInstr (Loop r target) = (r < 8) × (target < 65536)
+
+pub record IsLine (l : Line) : Type 0 where
+  pub numbered : l.number < 65536
+  pub formed : IsInstr l.instr
+
+pub record IsProgram (p : Program) : Type 0 where
+  pub planned : IsPlan p.plan
+  pub configurations_from : 1 ≤ length p.configurations
+  pub configurations_to : length p.configurations ≤ 256
+  pub configurations_formed : Each IsConfiguration p.configurations
+  pub labels_from : 1 ≤ length p.labels
+  pub labels_to : length p.labels ≤ 1024
+  pub labels_formed : Each (IsLabel (length p.configurations)) p.labels
+  pub labels_ascend : IsAscending label_key p.labels
+  pub lines_from : 1 ≤ length p.lines
+  pub lines_to : length p.lines ≤ 4096
+  pub lines_formed : Each IsLine p.lines

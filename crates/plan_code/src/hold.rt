@@ -1,0 +1,18 @@
+//! What a machine that carries out instructions waits for.
+
+use crate::numbers::{ContactId, DayFrame};
+
+/// What has to come before the next instruction is carried out.
+#[derive(Clone, Copy, Debug, PartialEq, Eq)]
+pub enum Hold {
+    /// So many frames more; with 0 it waits for nothing, and goes on.
+    Waits(u16),
+    /// A later frame that is this frame of the day.
+    WaitsDay(DayFrame),
+    /// A later frame in which the contact is closed, or open.
+    WaitsContact { contact: ContactId, closed: bool },
+    /// The swap that is pending.
+    WaitsSwap,
+    /// Nothing that ever comes: the code has ended.
+    Ended,
+}
