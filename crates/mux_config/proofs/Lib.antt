@@ -1,2 +1,4 @@
+pub mod Telling
+pub mod Same
 pub mod Powers
 mod Vectors

@@ -9,6 +9,7 @@ pub mod edit;
 pub mod entry;
 pub mod fault;
 pub mod few;
+pub mod laws;
 pub mod numbers;
 pub mod parts;
 pub mod record;

@@ -1,0 +1,173 @@
+use Rattle.std.proofs.Common.{◌≡◌, ◌≢◌, ℕ, ◌↔◌, Bool, true, false, not, ◌&&◌, eqb, List, [], ◌∷◌, map, refl, sym, ap, subst}
+use Rattle.std.proofs.lemmas.Bool.{false≢true, eqb-true, eq-eqb}
+use Rattle.mux_eep.specs.declared.sizes.EepSet.{EepSet}
+use Rattle.mux_eep.specs.declared.sizes.EepSet.TheVariants.{A, B}
+use Rattle.mux_eep.specs.Sizes.{OneRate}
+use Rattle.mux_config.specs.declared.parts.Sub.{Sub}
+use Rattle.mux_config.specs.declared.parts.Service.{Service}
+use Rattle.mux_config.specs.declared.parts.Component.{Component}
+use Rattle.mux_config.specs.declared.parts.Component.TheVariants.{Sound, Stream, Packet as InPackets}
+use Rattle.mux_config.specs.declared.parts.Packet.{Packet}
+use Rattle.mux_config.specs.declared.numbers.Sid.{Sid}
+use Rattle.mux_config.specs.declared.numbers.Sid.TheVariants.{Short, Long}
+use Rattle.mux_config.specs.declared.change.Change.{Change}
+use Rattle.mux_config.specs.Configuration.{Configuration}
+use Rattle.mux_config.specs.Facts.{sub_entries, service_entries, sub_entry}
+use Rattle.mux_config.specs.Change.{ChangeTells, is_same_flag, is_same_list, is_same_set, is_same_sub, is_same_sid, is_same_component, is_same_service, is_same_packet, has_same_subs, has_same_services}
+use Rattle.mux_config.proofs.Telling.{subs_told, services_told}
+
+-- ---- tests
+
+both_parts : (a b : Bool) → (a && b) ≡ true → (a ≡ true) × (b ≡ true)
+both_parts true b e = (refl, e)
+both_parts false b e = absurd (false≢true e)
+
+both_hold : (a b : Bool) → a ≡ true → b ≡ true → (a && b) ≡ true
+both_hold a b p q = subst (λ (x : Bool). (x && b) ≡ true) (sym p) q
+
+eqb_itself : (n : ℕ) → eqb n n ≡ true
+eqb_itself n = eq-eqb n n refl
+
+flag_same : (a b : Bool) → is_same_flag a b ≡ true → a ≡ b
+flag_same true b e = sym e
+flag_same false true e = absurd (false≢true e)
+flag_same false false e = refl
+
+flag_itself : (a : Bool) → is_same_flag a a ≡ true
+flag_itself true = refl
+flag_itself false = refl
+
+pub list_same : {T : Type 0} (same : T → T → Bool) → ((a b : T) → same a b ≡ true → a ≡ b) → (xs ys : List T) → is_same_list same xs ys ≡ true → xs ≡ ys
+list_same same told [] [] e = refl
+list_same same told [] (y ∷ ys) e = absurd (false≢true e)
+list_same same told (x ∷ xs) [] e = absurd (false≢true e)
+list_same same told (x ∷ xs) (y ∷ ys) e =
+    let parts = both_parts (same x y) (is_same_list same xs ys) e in
+    let head : x ≡ y = told x y parts.0 in
+    let tail : xs ≡ ys = list_same same told xs ys parts.1 in
+    cc
+
+pub list_itself : {T : Type 0} (same : T → T → Bool) → ((a : T) → same a a ≡ true) → (xs : List T) → is_same_list same xs xs ≡ true
+list_itself same told [] = refl
+list_itself same told (x ∷ xs) = both_hold _ _ (told x) (list_itself same told xs)
+
+-- ---- the parts of a configuration
+
+set_same : (a b : EepSet) → is_same_set a b ≡ true → a ≡ b
+set_same A A e = refl
+set_same A B e = absurd (false≢true e)
+set_same B A e = absurd (false≢true e)
+set_same B B e = refl
+
+set_itself : (a : EepSet) → is_same_set a a ≡ true
+set_itself A = refl
+set_itself B = refl
+
+pub sub_same : (a b : Sub) → is_same_sub a b ≡ true → a ≡ b
+sub_same a b e =
+    let one = both_parts _ _ e in
+    let two = both_parts _ _ one.0 in
+    let three = both_parts _ _ two.0 in
+    let four = both_parts _ _ three.0 in
+    let id : a.id ≡ b.id = eqb-true _ _ four.0 in
+    let start : a.start ≡ b.start = eqb-true _ _ four.1 in
+    let set : a.protection.set ≡ b.protection.set = set_same _ _ three.1 in
+    let level : a.protection.level ≡ b.protection.level = eqb-true _ _ two.1 in
+    let kbits : a.kbits ≡ b.kbits = eqb-true _ _ one.1 in
+    λ i. record { id = id i; start = start i; protection = record { set = set i; level = level i }; kbits = kbits i }
+
+pub sub_itself : (a : Sub) → is_same_sub a a ≡ true
+sub_itself a =
+    both_hold _ _ (both_hold _ _ (both_hold _ _ (both_hold _ _ (eqb_itself a.id) (eqb_itself a.start)) (set_itself a.protection.set)) (eqb_itself a.protection.level)) (eqb_itself a.kbits)
+
+pub sid_same : (a b : Sid) → is_same_sid a b ≡ true → a ≡ b
+sid_same (Short a) (Short b) e = ap Short (eqb-true a b e)
+sid_same (Short a) (Long b) e = absurd (false≢true e)
+sid_same (Long a) (Short b) e = absurd (false≢true e)
+sid_same (Long a) (Long b) e = ap Long (eqb-true a b e)
+
+pub sid_itself : (a : Sid) → is_same_sid a a ≡ true
+sid_itself (Short a) = eqb_itself a
+sid_itself (Long a) = eqb_itself a
+
+pub component_same : (m n : Component) → is_same_component m n ≡ true → m ≡ n
+component_same (Sound ty sub) (Sound uy tub) e = let parts = both_parts _ _ e in let one : ty ≡ uy = eqb-true _ _ parts.0 in let two : sub ≡ tub = eqb-true _ _ parts.1 in cc
+component_same (Sound ty sub) (Stream uy tub) e = absurd (false≢true e)
+component_same (Sound ty sub) (InPackets scid) e = absurd (false≢true e)
+component_same (Stream ty sub) (Sound uy tub) e = absurd (false≢true e)
+component_same (Stream ty sub) (Stream uy tub) e = let parts = both_parts _ _ e in let one : ty ≡ uy = eqb-true _ _ parts.0 in let two : sub ≡ tub = eqb-true _ _ parts.1 in cc
+component_same (Stream ty sub) (InPackets scid) e = absurd (false≢true e)
+component_same (InPackets scid) (Sound uy tub) e = absurd (false≢true e)
+component_same (InPackets scid) (Stream uy tub) e = absurd (false≢true e)
+component_same (InPackets scid) (InPackets tcid) e = ap InPackets (eqb-true _ _ e)
+
+pub component_itself : (m : Component) → is_same_component m m ≡ true
+component_itself (Sound ty sub) = both_hold _ _ (eqb_itself ty) (eqb_itself sub)
+component_itself (Stream ty sub) = both_hold _ _ (eqb_itself ty) (eqb_itself sub)
+component_itself (InPackets scid) = eqb_itself scid
+
+pub service_same : (a b : Service) → is_same_service a b ≡ true → a ≡ b
+service_same a b e =
+    let parts = both_parts _ _ e in
+    let sid : a.sid ≡ b.sid = sid_same _ _ parts.0 in
+    let components : a.components ≡ b.components = list_same is_same_component component_same _ _ parts.1 in
+    λ i. record { sid = sid i; components = components i }
+
+pub service_itself : (a : Service) → is_same_service a a ≡ true
+service_itself a = both_hold _ _ (sid_itself a.sid) (list_itself is_same_component component_itself a.components)
+
+pub packet_same : (p q : Packet) → is_same_packet p q ≡ true → p ≡ q
+packet_same p q e =
+    let one = both_parts _ _ e in
+    let two = both_parts _ _ one.0 in
+    let three = both_parts _ _ two.0 in
+    let four = both_parts _ _ three.0 in
+    let scid : p.scid ≡ q.scid = eqb-true _ _ four.0 in
+    let dg : p.dg ≡ q.dg = flag_same _ _ four.1 in
+    let ty : p.ty ≡ q.ty = eqb-true _ _ three.1 in
+    let sub : p.sub ≡ q.sub = eqb-true _ _ two.1 in
+    let address : p.address ≡ q.address = eqb-true _ _ one.1 in
+    λ i. record { scid = scid i; dg = dg i; ty = ty i; sub = sub i; address = address i }
+
+pub packet_itself : (p : Packet) → is_same_packet p p ≡ true
+packet_itself p =
+    both_hold _ _ (both_hold _ _ (both_hold _ _ (both_hold _ _ (eqb_itself p.scid) (flag_itself p.dg)) (eqb_itself p.ty)) (eqb_itself p.sub)) (eqb_itself p.address)
+
+-- ---- configurations
+
+subs_same : (xs ys : List Sub) → is_same_list is_same_sub xs ys ≡ true → xs ≡ ys
+subs_same xs ys e = list_same is_same_sub sub_same xs ys e
+
+subs_itself : (xs ys : List Sub) → xs ≡ ys → is_same_list is_same_sub xs ys ≡ true
+subs_itself xs ys e = subst (λ (zs : List Sub). is_same_list is_same_sub xs zs ≡ true) e (list_itself is_same_sub sub_itself xs)
+
+services_same : (c d : Configuration) → has_same_services c d ≡ true → (c.services ≡ d.services) × (c.packets ≡ d.packets)
+services_same c d e =
+    let parts = both_parts _ _ e in
+    (list_same is_same_service service_same c.services d.services parts.0, list_same is_same_packet packet_same c.packets d.packets parts.1)
+
+services_itself : (c d : Configuration) → c.services ≡ d.services → c.packets ≡ d.packets → has_same_services c d ≡ true
+services_itself c d e f =
+    both_hold _ _
+    (subst (λ (zs : List Service). is_same_list is_same_service c.services zs ≡ true) e (list_itself is_same_service service_itself c.services))
+    (subst (λ (zs : List Packet). is_same_list is_same_packet c.packets zs ≡ true) f (list_itself is_same_packet packet_itself c.packets))
+
+-- a test that holds exactly where two lists are equal, turned round, is the only flag that says that they differ
+flag_told : {T : Type 0} (flag test : Bool) (xs ys : T) → (test ≡ true → xs ≡ ys) → (xs ≡ ys → test ≡ true) → ((flag ≡ true) ↔ (xs ≢ ys)) ↔ (flag ≡ not test)
+flag_told true true xs ys same itself = (λ h. absurd (h.0 refl (same refl)), λ e. absurd (false≢true (sym e)))
+flag_told true false xs ys same itself = (λ h. refl, λ e. (λ _ equal. false≢true (itself equal), λ _. refl))
+flag_told false true xs ys same itself = (λ h. refl, λ e. (λ wrong. absurd (false≢true wrong), λ differ. absurd (differ (same refl))))
+flag_told false false xs ys same itself = (λ h. absurd (false≢true (h.1 (λ equal. false≢true (itself equal)))), λ e. absurd (false≢true e))
+
+pub change_told : OneRate → ChangeTells
+change_told rates c d change h k =
+    let subs = flag_told change.subs (has_same_subs c d) (sub_entries c) (sub_entries d)
+    (λ e. ap (map sub_entry) (subs_same c.subs d.subs e)) (λ e. subs_itself c.subs d.subs (subs_told rates c d h k e)) in
+    let services = flag_told change.services (has_same_services c d) (service_entries c) (service_entries d)
+    (λ e. let parts = services_same c d e in cc)
+    (λ e. let parts = services_told c d e in services_itself c d parts.0 parts.1) in (
+      λ is. let one : change.subs ≡ not (has_same_subs c d) = subs.0 is.subs in
+          let two : change.services ≡ not (has_same_services c d) = services.0 is.services in
+          λ i. record { subs = one i; services = two i },
+      λ e. record { subs = subs.1 (ap (λ (x : Change). x.subs) e); services = services.1 (ap (λ (x : Change). x.services) e) },
+    )

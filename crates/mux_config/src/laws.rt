@@ -1,0 +1,22 @@
+//! What holds of all configurations, whatever holds them.
+
+ghost use Rattle.mux_config.specs.Change.{ChangeTells};
+ghost use Rattle.mux_config.specs.Facts.{FactsTell};
+
+/// The law of facts: the entries of FIG 0/1 to 0/3 tell configurations apart, so that what is heard of
+/// one names it (EN 300 401 clauses 6.2.1, 6.3.1 and 6.3.2). The function does nothing; its contract is
+/// the law.
+pub fn facts()
+    ensures { FactsTell }
+{
+    mux_eep::laws::sizes();
+}
+
+/// The law of change: of two configurations there is one change that names exactly the organizations whose
+/// entries differ, and `change_of` computes it (EN 300 401 clauses 6.4 and 6.5). The function does nothing;
+/// its contract is the law.
+pub fn changes()
+    ensures { ChangeTells }
+{
+    mux_eep::laws::sizes();
+}
