@@ -39,6 +39,11 @@ abbrev pub absent_or : {T : Type 0} → Option T → (T → Option EditFault) �
 absent_or None fault = Some IdAbsent
 absent_or (Some x) fault = fault x
 
+-- what comes of an edit: its fault, or else the changed configuration
+abbrev pub outcome : Option EditFault → Configuration → Result Configuration EditFault
+outcome None c = Ok c
+outcome (Some fault) c = Err fault
+
 -- ---- sub-channels
 
 abbrev pub at_start : ℕ → Sub → Sub
@@ -65,11 +70,17 @@ add_sub_fault s c =
 abbrev pub sub_added : Sub → Configuration → Configuration
 sub_added s c = record c { subs = with_entry sub_key s c.subs }
 
+abbrev pub add_sub : Sub → Configuration → Result Configuration EditFault
+add_sub s c = outcome (add_sub_fault s c) (sub_added s c)
+
 abbrev pub drop_sub_fault : ℕ → Configuration → Option EditFault
 drop_sub_fault id c = absent_or (sub_at id c) (λ s. None)
 
 abbrev pub sub_dropped : ℕ → Configuration → Configuration
 sub_dropped id c = record c { subs = without_entry sub_key id c.subs }
+
+abbrev pub drop_sub : ℕ → Configuration → Result Configuration EditFault
+drop_sub id c = outcome (drop_sub_fault id c) (sub_dropped id c)
 
 abbrev pub move_sub_fault : ℕ → ℕ → Configuration → Option EditFault
 move_sub_fault id start c =
@@ -77,6 +88,9 @@ move_sub_fault id start c =
 
 abbrev pub sub_moved : ℕ → ℕ → Configuration → Configuration
 sub_moved id start c = record c { subs = changed_at sub_key id (at_start start) c.subs }
+
+abbrev pub move_sub : ℕ → ℕ → Configuration → Result Configuration EditFault
+move_sub id start c = outcome (move_sub_fault id start c) (sub_moved id start c)
 
 abbrev pub rate_sub_fault : ℕ → ℕ → Configuration → Option EditFault
 rate_sub_fault id kbits c =
@@ -87,6 +101,9 @@ rate_sub_fault id kbits c =
 
 abbrev pub sub_rated : ℕ → ℕ → Configuration → Configuration
 sub_rated id kbits c = record c { subs = changed_at sub_key id (at_rate kbits) c.subs }
+
+abbrev pub rate_sub : ℕ → ℕ → Configuration → Result Configuration EditFault
+rate_sub id kbits c = outcome (rate_sub_fault id kbits c) (sub_rated id kbits c)
 
 -- ---- services
 
@@ -101,11 +118,17 @@ service_added sid c =
     let fresh : Service = record { sid = sid; components = [] } in
     record c { services = with_entry service_key fresh c.services }
 
+abbrev pub add_service : Sid → Configuration → Result Configuration EditFault
+add_service sid c = outcome (add_service_fault sid c) (service_added sid c)
+
 abbrev pub drop_service_fault : Sid → Configuration → Option EditFault
 drop_service_fault sid c = absent_or (service_at sid c) (λ s. None)
 
 abbrev pub service_dropped : Sid → Configuration → Configuration
 service_dropped sid c = record c { services = without_entry service_key (sid_key sid) c.services }
+
+abbrev pub drop_service : Sid → Configuration → Result Configuration EditFault
+drop_service sid c = outcome (drop_service_fault sid c) (service_dropped sid c)
 
 -- ---- components of a service
 
@@ -134,6 +157,9 @@ add_component_fault sid m c =
 abbrev pub component_added : Sid → Component → Configuration → Configuration
 component_added sid m c = record c { services = changed_at service_key (sid_key sid) (with_component m) c.services }
 
+abbrev pub add_component : Sid → Component → Configuration → Result Configuration EditFault
+add_component sid m c = outcome (add_component_fault sid m c) (component_added sid m c)
+
 abbrev pub drop_component_fault : Sid → Carrier → Configuration → Option EditFault
 drop_component_fault sid carrier c =
     absent_or (service_at sid c) (λ s. if list_any (names carrier) s.components then None else Some IdAbsent)
@@ -141,6 +167,9 @@ drop_component_fault sid carrier c =
 abbrev pub component_dropped : Sid → Carrier → Configuration → Configuration
 component_dropped sid carrier c =
     record c { services = changed_at service_key (sid_key sid) (without_carrier carrier) c.services }
+
+abbrev pub drop_component : Sid → Carrier → Configuration → Result Configuration EditFault
+drop_component sid carrier c = outcome (drop_component_fault sid carrier c) (component_dropped sid carrier c)
 
 -- ---- packet components
 
@@ -157,11 +186,17 @@ add_packet_fault p c =
 abbrev pub packet_added : Packet → Configuration → Configuration
 packet_added p c = record c { packets = with_entry packet_key p c.packets }
 
+abbrev pub add_packet : Packet → Configuration → Result Configuration EditFault
+add_packet p c = outcome (add_packet_fault p c) (packet_added p c)
+
 abbrev pub drop_packet_fault : ℕ → Configuration → Option EditFault
 drop_packet_fault scid c = absent_or (packet_at scid c) (λ p. None)
 
 abbrev pub packet_dropped : ℕ → Configuration → Configuration
 packet_dropped scid c = record c { packets = without_entry packet_key scid c.packets }
+
+abbrev pub drop_packet : ℕ → Configuration → Result Configuration EditFault
+drop_packet scid c = outcome (drop_packet_fault scid c) (packet_dropped scid c)
 
 -- ---- an edit as a value, and the outcome of each
 
@@ -190,10 +225,6 @@ changed (AddComponent sid m) c = component_added sid m c
 changed (DropComponent sid carrier) c = component_dropped sid carrier c
 changed (AddPacket p) c = packet_added p c
 changed (DropPacket scid) c = packet_dropped scid c
-
-abbrev pub outcome : Option EditFault → Configuration → Result Configuration EditFault
-outcome None c = Ok c
-outcome (Some fault) c = Err fault
 
 abbrev pub edited : Edit → Configuration → Result Configuration EditFault
 edited e c = outcome (edit_fault e c) (changed e c)

@@ -13,6 +13,7 @@ pub mod laws;
 pub mod numbers;
 pub mod parts;
 pub mod record;
+pub mod store;
 pub mod table;
 
 pub use change::Change;
@@ -23,4 +24,5 @@ pub use few::Few;
 pub use numbers::{Bits, ScId, ScTy, Sid, SubId};
 pub use parts::{Carrier, Component, Packet, Service, Sub};
 pub use record::RecordFault;
+pub use store::Store;
 pub use table::{Keyed, Table};

@@ -1,0 +1,165 @@
+//! What holds a configuration, however it holds it.
+
+ghost use Rattle.std.specs.Prelude.{◌≡◌, ◌<◌, ◌↔◌, IsTrue, length, slice_get, Some, None};
+ghost use Rattle.mux_config.specs.Configuration.{Configuration, IsConfiguration, nothing};
+ghost use Rattle.mux_config.specs.Edits.{Edits, add_sub, add_sub_fault, sub_added, drop_sub, drop_sub_fault, sub_dropped, move_sub, move_sub_fault, sub_moved, rate_sub, rate_sub_fault, sub_rated, add_service, add_service_fault, service_added, drop_service, drop_service_fault, service_dropped, add_component, add_component_fault, component_added, drop_component, drop_component_fault, component_dropped, add_packet, add_packet_fault, packet_added, drop_packet, drop_packet_fault, packet_dropped};
+
+use crate::fault::EditFault;
+use crate::numbers::{ScId, Sid, SubId};
+use crate::parts::{Carrier, Component, Packet, Service, Sub};
+
+/// A holder of one configuration: its three sets, in ascending order, and the ten edits (EN 300 401 clauses
+/// 6.1 to 6.3). All contracts speak of the configuration that it stands for. No call takes memory.
+///
+/// Each edit answers the first of its faults, in the order in which its documentation names them, and changes
+/// nothing then. Its twin whose name ends in `known` is for a caller who knows that no fault holds.
+pub trait Store: Drop {
+    ghost use Rattle.mux_config.specs.Configuration.{Configuration};
+
+    /// The configuration that it stands for.
+    ghost content: { Self → Configuration };
+
+    /// The configuration of nothing.
+    fn empty() -> Self
+        ensures { content result ≡ nothing };
+
+    /// Takes over what another holds.
+    fn copy_from(&mut self, other: &Self)
+        ensures { content self.new ≡ content other.now };
+
+    /// Whether both stand for one configuration.
+    fn same(&self, other: &Self) -> bool
+        ensures { IsTrue result ↔ (content self.now ≡ content other.now) };
+
+    /// How many sub-channels there are, at most 64.
+    fn sub_count(&self) -> usize
+        ensures value { let c = content self.now in result ≡ length c.subs }
+        ensures configuration { IsConfiguration (content self.now) };
+
+    /// The sub-channel at a place, counted from 0 in ascending order of SubChId. The place must be one.
+    fn sub_at(&self, place: usize) -> Sub
+        requires { let c = content self.now in place < length c.subs }
+        ensures value { let c = content self.now in slice_get c.subs place ≡ Some result }
+        ensures configuration { IsConfiguration (content self.now) };
+
+    /// How many services there are, at most 64.
+    fn service_count(&self) -> usize
+        ensures value { let c = content self.now in result ≡ length c.services }
+        ensures configuration { IsConfiguration (content self.now) };
+
+    /// The service at a place, counted from 0 in ascending order of SId, the 16-bit ones first. The place
+    /// must be one.
+    fn service_at(&self, place: usize) -> &Service
+        requires { let c = content self.now in place < length c.services }
+        ensures value { let c = content self.now in slice_get c.services place ≡ Some result.now }
+        ensures configuration { IsConfiguration (content self.now) };
+
+    /// How many packet components there are, at most 64.
+    fn packet_count(&self) -> usize
+        ensures value { let c = content self.now in result ≡ length c.packets }
+        ensures configuration { IsConfiguration (content self.now) };
+
+    /// The packet component at a place, counted from 0 in ascending order of SCId. The place must be one.
+    fn packet_at(&self, place: usize) -> Packet
+        requires { let c = content self.now in place < length c.packets }
+        ensures value { let c = content self.now in slice_get c.packets place ≡ Some result }
+        ensures configuration { IsConfiguration (content self.now) };
+
+    /// Adds a sub-channel. Faults: `IdUsed` (its identifier is there), `BadRate` (its profile has no size at
+    /// its rate), `PastEnd` (it would end past capacity unit 863).
+    fn add_sub(&mut self, sub: Sub) -> Result<(), EditFault>
+        ensures { Edits (content self.old) (content self.new) (add_sub sub (content self.old)) result };
+
+    /// [`Store::add_sub`] where no fault holds.
+    fn add_sub_known(&mut self, sub: Sub)
+        requires { add_sub_fault sub (content self.old) ≡ None }
+        ensures { content self.new ≡ sub_added sub (content self.old) };
+
+    /// Takes a sub-channel away. Fault: `IdAbsent` (it is not there).
+    fn drop_sub(&mut self, id: SubId) -> Result<(), EditFault>
+        ensures { Edits (content self.old) (content self.new) (drop_sub id (content self.old)) result };
+
+    /// [`Store::drop_sub`] where no fault holds.
+    fn drop_sub_known(&mut self, id: SubId)
+        requires { drop_sub_fault id (content self.old) ≡ None }
+        ensures { content self.new ≡ sub_dropped id (content self.old) };
+
+    /// Gives a sub-channel another start address. Faults: `IdAbsent` (it is not there), `PastEnd` (it would
+    /// end past capacity unit 863).
+    fn move_sub(&mut self, id: SubId, start: u16) -> Result<(), EditFault>
+        ensures { Edits (content self.old) (content self.new) (move_sub id start (content self.old)) result };
+
+    /// [`Store::move_sub`] where no fault holds.
+    fn move_sub_known(&mut self, id: SubId, start: u16)
+        requires { move_sub_fault id start (content self.old) ≡ None }
+        ensures { content self.new ≡ sub_moved id start (content self.old) };
+
+    /// Gives a sub-channel another bit rate, in kbit/s; its protection profile stays. Faults: `IdAbsent` (it
+    /// is not there), `BadRate` (its profile has no size at that rate), `PastEnd` (it would end past capacity
+    /// unit 863).
+    fn rate_sub(&mut self, id: SubId, kbits: u16) -> Result<(), EditFault>
+        ensures { Edits (content self.old) (content self.new) (rate_sub id kbits (content self.old)) result };
+
+    /// [`Store::rate_sub`] where no fault holds.
+    fn rate_sub_known(&mut self, id: SubId, kbits: u16)
+        requires { rate_sub_fault id kbits (content self.old) ≡ None }
+        ensures { content self.new ≡ sub_rated id kbits (content self.old) };
+
+    /// Adds a service without components. Faults: `IdUsed` (its identifier is there), `TableFull` (there are
+    /// 64 services).
+    fn add_service(&mut self, sid: Sid) -> Result<(), EditFault>
+        ensures { Edits (content self.old) (content self.new) (add_service sid (content self.old)) result };
+
+    /// [`Store::add_service`] where no fault holds.
+    fn add_service_known(&mut self, sid: Sid)
+        requires { add_service_fault sid (content self.old) ≡ None }
+        ensures { content self.new ≡ service_added sid (content self.old) };
+
+    /// Takes a service away, with its components. Fault: `IdAbsent` (it is not there).
+    fn drop_service(&mut self, sid: Sid) -> Result<(), EditFault>
+        ensures { Edits (content self.old) (content self.new) (drop_service sid (content self.old)) result };
+
+    /// [`Store::drop_service`] where no fault holds.
+    fn drop_service_known(&mut self, sid: Sid)
+        requires { drop_service_fault sid (content self.old) ≡ None }
+        ensures { content self.new ≡ service_dropped sid (content self.old) };
+
+    /// Adds a component at the end of a service. Faults: `IdAbsent` (the service is not there), `IdUsed` (it
+    /// has a component of that carrier), `TooManyComponents` (it has 12, or 11 with a 32-bit SId).
+    fn add_component(&mut self, sid: Sid, component: Component) -> Result<(), EditFault>
+        ensures { Edits (content self.old) (content self.new) (add_component sid component (content self.old)) result };
+
+    /// [`Store::add_component`] where no fault holds.
+    fn add_component_known(&mut self, sid: Sid, component: Component)
+        requires { add_component_fault sid component (content self.old) ≡ None }
+        ensures { content self.new ≡ component_added sid component (content self.old) };
+
+    /// Takes the component of a carrier out of a service; the others close up. Fault: `IdAbsent` (the service
+    /// is not there, or has no component of that carrier).
+    fn drop_component(&mut self, sid: Sid, carrier: Carrier) -> Result<(), EditFault>
+        ensures { Edits (content self.old) (content self.new) (drop_component sid carrier (content self.old)) result };
+
+    /// [`Store::drop_component`] where no fault holds.
+    fn drop_component_known(&mut self, sid: Sid, carrier: Carrier)
+        requires { drop_component_fault sid carrier (content self.old) ≡ None }
+        ensures { content self.new ≡ component_dropped sid carrier (content self.old) };
+
+    /// Adds a packet component. Faults: `IdUsed` (its SCId is there), `BadAddress` (its address is 0 or above
+    /// 1023), `TableFull` (there are 64 packet components).
+    fn add_packet(&mut self, packet: Packet) -> Result<(), EditFault>
+        ensures { Edits (content self.old) (content self.new) (add_packet packet (content self.old)) result };
+
+    /// [`Store::add_packet`] where no fault holds.
+    fn add_packet_known(&mut self, packet: Packet)
+        requires { add_packet_fault packet (content self.old) ≡ None }
+        ensures { content self.new ≡ packet_added packet (content self.old) };
+
+    /// Takes a packet component away. Fault: `IdAbsent` (it is not there).
+    fn drop_packet(&mut self, scid: ScId) -> Result<(), EditFault>
+        ensures { Edits (content self.old) (content self.new) (drop_packet scid (content self.old)) result };
+
+    /// [`Store::drop_packet`] where no fault holds.
+    fn drop_packet_known(&mut self, scid: ScId)
+        requires { drop_packet_fault scid (content self.old) ≡ None }
+        ensures { content self.new ≡ packet_dropped scid (content self.old) };
+}
