@@ -1,3 +1,6 @@
 pub mod Flags
 pub mod Machine
+pub mod Parts
 pub mod Program
+pub mod Reading
+pub mod Spelling

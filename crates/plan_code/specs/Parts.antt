@@ -1,0 +1,263 @@
+-- Reading a label, and a line with its instruction, from left to right, with the first fault that is met: a
+-- field whose bytes are missing, or one that is out of its range.
+use Rattle.std.specs.Prelude.{ℕ, zero, suc, ◌+◌, ◌-◌, ◌==◌, nat_lt, if◌then◌else◌, Bool, true, false, List, [], ◌∷◌, ◌++◌, Option, Some, None, Ok, Err}
+use Rattle.std.specs.Int.{w16, w32}
+use Rattle.mux_config.specs.Reading.{Reads, ◌>>=◌, place, byte_at, number_at, judged, byte_within, word_within, flag_at, protection_at, sid_at, component_at}
+use Rattle.mux_config.specs.declared.record.RecordFault.TheVariants.{Field}
+use Rattle.mux_config.specs.declared.parts.Sub.{Sub}
+use Rattle.mux_config.specs.declared.parts.Carrier.{Carrier}
+use Rattle.mux_config.specs.declared.parts.Carrier.TheVariants.{Sub as BySub, Packet as ByPacket}
+use Rattle.mux_config.specs.declared.parts.Packet.{Packet}
+use Rattle.mux_config.specs.declared.edit.Edit.{Edit}
+use Rattle.mux_config.specs.declared.edit.Edit.TheVariants.{AddSub, DropSub, MoveSub, RateSub, AddService, DropService, AddComponent, DropComponent, AddPacket, DropPacket}
+use Rattle.plan_code.specs.declared.flags.Counters.{Counters}
+use Rattle.plan_code.specs.declared.label.Label.{Label}
+use Rattle.plan_code.specs.declared.instr.Instr.{Instr}
+use Rattle.plan_code.specs.declared.instr.Instr.TheVariants.{Wait, Until, WaitContact, CommitIn, CommitAt, Join, End, Edit as Edits, Test, Jump, Set, Loop}
+use Rattle.plan_code.specs.declared.instr.Line.{Line}
+
+-- ---- labels
+
+abbrev pub bounds_of : (total : ℕ) → Bool → List ℕ → Reads (Option (ℕ × ℕ))
+bounds_of total false bytes = do
+  low ← word_within total 0 0 bytes
+  high ← word_within total 0 0 low.1
+  Ok (None, high.1)
+bounds_of total true bytes = do
+  low ← word_within total 1 65535 bytes
+  high ← word_within total low.0 65535 low.1
+  Ok (Some (low.0, high.0), high.1)
+
+unfoldable pub pending_at : (total : ℕ) → List ℕ → Reads (Option (ℕ × ℕ))
+pending_at total bytes = do
+  pending ← flag_at total bytes
+  bounds_of total pending.0 pending.1
+
+-- a label at `low` or later, where the table has so many configurations
+unfoldable pub label_at : (total count low : ℕ) → List ℕ → Reads Label
+label_at total count low bytes = do
+  pc ← word_within total low 65535 bytes
+  cur ← word_within total 0 (count - 1) pc.1
+  next ← word_within total 0 (count - 1) cur.1
+  pending ← pending_at total next.1
+  counters ← byte_at pending.1
+  cost ← byte_within total 1 255 counters.1
+  let set : Counters = record { 0 = counters.0 } in
+    Ok (record { pc = pc.0; cur = cur.0; next = next.0; pending = pending.0; counters = set; cost = cost.0 }, cost.1)
+
+-- ---- operands
+
+abbrev pub contact_at : (total : ℕ) → List ℕ → Reads ℕ
+contact_at total bytes = byte_within total 0 15 bytes
+
+abbrev pub counter_at : (total : ℕ) → List ℕ → Reads ℕ
+counter_at total bytes = byte_within total 0 7 bytes
+
+abbrev pub sub_id_at : (total : ℕ) → List ℕ → Reads ℕ
+sub_id_at total bytes = byte_within total 0 63 bytes
+
+abbrev pub type_at : (total : ℕ) → List ℕ → Reads ℕ
+type_at total bytes = byte_within total 0 63 bytes
+
+abbrev pub scid_at : (total : ℕ) → List ℕ → Reads ℕ
+scid_at total bytes = word_within total 0 4095 bytes
+
+abbrev pub start_at : (total : ℕ) → List ℕ → Reads ℕ
+start_at total bytes = word_within total 0 1023 bytes
+
+-- any number of two bytes
+abbrev pub word_at : List ℕ → Reads ℕ
+word_at bytes = number_at w16 bytes
+
+-- 1 or more
+abbrev pub times_at : (total : ℕ) → List ℕ → Reads ℕ
+times_at total bytes = word_within total 1 65535 bytes
+
+abbrev pub day_frame_at : (total : ℕ) → List ℕ → Reads ℕ
+day_frame_at total bytes = number_at w32 bytes >>= judged (place total bytes) 0 3599999
+
+unfoldable pub new_sub_at : (total : ℕ) → List ℕ → Reads Sub
+new_sub_at total bytes = do
+  id ← sub_id_at total bytes
+  start ← start_at total id.1
+  protection ← protection_at total start.1
+  kbits ← word_at protection.1
+  Ok (record { id = id.0; start = start.0; protection = protection.0; kbits = kbits.0 }, kbits.1)
+
+unfoldable pub new_packet_at : (total : ℕ) → List ℕ → Reads Packet
+new_packet_at total bytes = do
+  scid ← scid_at total bytes
+  dg ← flag_at total scid.1
+  ty ← type_at total dg.1
+  sub ← sub_id_at total ty.1
+  address ← word_at sub.1
+  Ok (record { scid = scid.0; dg = dg.0; ty = ty.0; sub = sub.0; address = address.0 }, address.1)
+
+abbrev pub carrier_of_kind : (total kind : ℕ) → List ℕ → Reads Carrier
+carrier_of_kind total zero bytes = word_within total 0 63 bytes >>= λ id. Ok (BySub id.0, id.1)
+carrier_of_kind total (suc k) bytes = scid_at total bytes >>= λ scid. Ok (ByPacket scid.0, scid.1)
+
+unfoldable pub carrier_at : (total : ℕ) → List ℕ → Reads Carrier
+carrier_at total bytes = do
+  kind ← byte_within total 0 1 bytes
+  carrier_of_kind total kind.0 kind.1
+
+-- ---- edits, by their opcodes; the opcode itself stands at `at`
+
+unfoldable pub add_sub_at : (total : ℕ) → List ℕ → Reads Edit
+add_sub_at total bytes = do
+  sub ← new_sub_at total bytes
+  Ok (AddSub sub.0, sub.1)
+
+unfoldable pub drop_sub_at : (total : ℕ) → List ℕ → Reads Edit
+drop_sub_at total bytes = do
+  id ← sub_id_at total bytes
+  Ok (DropSub id.0, id.1)
+
+unfoldable pub move_sub_at : (total : ℕ) → List ℕ → Reads Edit
+move_sub_at total bytes = do
+  id ← sub_id_at total bytes
+  start ← start_at total id.1
+  Ok (MoveSub id.0 start.0, start.1)
+
+unfoldable pub rate_sub_at : (total : ℕ) → List ℕ → Reads Edit
+rate_sub_at total bytes = do
+  id ← sub_id_at total bytes
+  kbits ← word_at id.1
+  Ok (RateSub id.0 kbits.0, kbits.1)
+
+unfoldable pub add_service_at : (total : ℕ) → List ℕ → Reads Edit
+add_service_at total bytes = do
+  sid ← sid_at total bytes
+  Ok (AddService sid.0, sid.1)
+
+unfoldable pub drop_service_at : (total : ℕ) → List ℕ → Reads Edit
+drop_service_at total bytes = do
+  sid ← sid_at total bytes
+  Ok (DropService sid.0, sid.1)
+
+unfoldable pub add_component_at : (total : ℕ) → List ℕ → Reads Edit
+add_component_at total bytes = do
+  sid ← sid_at total bytes
+  component ← component_at total sid.1
+  Ok (AddComponent sid.0 component.0, component.1)
+
+unfoldable pub drop_component_at : (total : ℕ) → List ℕ → Reads Edit
+drop_component_at total bytes = do
+  sid ← sid_at total bytes
+  carrier ← carrier_at total sid.1
+  Ok (DropComponent sid.0 carrier.0, carrier.1)
+
+unfoldable pub add_packet_at : (total : ℕ) → List ℕ → Reads Edit
+add_packet_at total bytes = do
+  packet ← new_packet_at total bytes
+  Ok (AddPacket packet.0, packet.1)
+
+unfoldable pub drop_packet_at : (total : ℕ) → List ℕ → Reads Edit
+drop_packet_at total bytes = do
+  scid ← scid_at total bytes
+  Ok (DropPacket scid.0, scid.1)
+
+unfoldable pub edit_of : (total at opcode : ℕ) → List ℕ → Reads Edit
+edit_of total at opcode bytes =
+    if opcode == 0x10 then add_sub_at total bytes
+    else if opcode == 0x11 then drop_sub_at total bytes
+    else if opcode == 0x12 then move_sub_at total bytes
+    else if opcode == 0x13 then rate_sub_at total bytes
+    else if opcode == 0x14 then add_service_at total bytes
+    else if opcode == 0x15 then drop_service_at total bytes
+    else if opcode == 0x16 then add_component_at total bytes
+    else if opcode == 0x17 then drop_component_at total bytes
+    else if opcode == 0x18 then add_packet_at total bytes
+    else if opcode == 0x19 then drop_packet_at total bytes
+    else Err (Field at)
+
+-- ---- the other instructions
+
+unfoldable pub wait_at : (total : ℕ) → List ℕ → Reads Instr
+wait_at total bytes = do
+  frames ← times_at total bytes
+  Ok (Wait frames.0, frames.1)
+
+unfoldable pub until_at : (total : ℕ) → List ℕ → Reads Instr
+until_at total bytes = do
+  frame ← day_frame_at total bytes
+  Ok (Until frame.0, frame.1)
+
+unfoldable pub wait_contact_at : (total : ℕ) → List ℕ → Reads Instr
+wait_contact_at total bytes = do
+  contact ← contact_at total bytes
+  closed ← flag_at total contact.1
+  Ok (WaitContact contact.0 closed.0, closed.1)
+
+unfoldable pub commit_in_at : (total : ℕ) → List ℕ → Reads Instr
+commit_in_at total bytes = do
+  delay ← word_within total 1 60000 bytes
+  Ok (CommitIn delay.0, delay.1)
+
+unfoldable pub commit_at_at : List ℕ → Reads Instr
+commit_at_at bytes = do
+  count ← word_at bytes
+  Ok (CommitAt count.0, count.1)
+
+unfoldable pub test_at : (total : ℕ) → List ℕ → Reads Instr
+test_at total bytes = do
+  contact ← contact_at total bytes
+  target ← word_at contact.1
+  Ok (Test contact.0 target.0, target.1)
+
+unfoldable pub jump_at : List ℕ → Reads Instr
+jump_at bytes = do
+  target ← word_at bytes
+  Ok (Jump target.0, target.1)
+
+unfoldable pub set_at : (total : ℕ) → List ℕ → Reads Instr
+set_at total bytes = do
+  counter ← counter_at total bytes
+  times ← times_at total counter.1
+  Ok (Set counter.0 times.0, times.1)
+
+unfoldable pub loop_at : (total : ℕ) → List ℕ → Reads Instr
+loop_at total bytes = do
+  counter ← counter_at total bytes
+  target ← word_at counter.1
+  Ok (Loop counter.0 target.0, target.1)
+
+unfoldable pub jump_of : (total at opcode : ℕ) → List ℕ → Reads Instr
+jump_of total at opcode bytes =
+    if opcode == 0x20 then test_at total bytes
+    else if opcode == 0x21 then jump_at bytes
+    else if opcode == 0x22 then set_at total bytes
+    else if opcode == 0x23 then loop_at total bytes
+    else Err (Field at)
+
+unfoldable pub timing_of : (total at opcode : ℕ) → List ℕ → Reads Instr
+timing_of total at opcode bytes =
+    if opcode == 0x01 then wait_at total bytes
+    else if opcode == 0x02 then until_at total bytes
+    else if opcode == 0x03 then wait_contact_at total bytes
+    else if opcode == 0x04 then commit_in_at total bytes
+    else if opcode == 0x05 then commit_at_at bytes
+    else if opcode == 0x06 then Ok (Join, bytes)
+    else if opcode == 0x07 then Ok (End, bytes)
+    else Err (Field at)
+
+unfoldable pub instr_of : (total at opcode : ℕ) → List ℕ → Reads Instr
+instr_of total at opcode bytes =
+    if nat_lt opcode 0x10 then timing_of total at opcode bytes
+    else if nat_lt opcode 0x20 then (edit_of total at opcode bytes >>= λ e. Ok (Edits e.0, e.1))
+    else jump_of total at opcode bytes
+
+unfoldable pub line_at : (total : ℕ) → List ℕ → Reads Line
+line_at total bytes = do
+  number ← word_at bytes
+  opcode ← byte_at number.1
+  instr ← instr_of total (place total number.1) opcode.0 opcode.1
+  Ok (record { number = number.0; instr = instr.0 }, instr.1)
+
+-- so many lines after those that were read before
+unfoldable pub lines_at : (total : ℕ) → (before : List Line) → (count : ℕ) → List ℕ → Reads (List Line)
+lines_at total before zero bytes = Ok (before, bytes)
+lines_at total before (suc count) bytes = do
+  line ← line_at total bytes
+  lines_at total (before ++ line.0 ∷ []) count line.1

@@ -1,0 +1,80 @@
+-- The one file of a plan code. A number of two or four bytes is big-endian.
+use Rattle.std.specs.Prelude.{ℕ, List, [], ◌∷◌, ◌++◌, length, Option, Some, None}
+use Rattle.std.specs.Int.{w32, to_be_bytes}
+use Rattle.std.specs.List.{flat_map}
+use Rattle.mux_config.specs.Spelling.{word_bytes, flag_byte, sub_bytes, sid_bytes, component_bytes, packet_bytes, config_bytes}
+use Rattle.mux_config.specs.declared.parts.Carrier.{Carrier}
+use Rattle.mux_config.specs.declared.parts.Carrier.TheVariants.{Sub as BySub, Packet as ByPacket}
+use Rattle.mux_config.specs.declared.edit.Edit.{Edit}
+use Rattle.mux_config.specs.declared.edit.Edit.TheVariants.{AddSub, DropSub, MoveSub, RateSub, AddService, DropService, AddComponent, DropComponent, AddPacket, DropPacket}
+use Rattle.plan_code.specs.declared.plan.Plan.{Plan}
+use Rattle.plan_code.specs.declared.label.Label.{Label}
+use Rattle.plan_code.specs.declared.instr.Instr.{Instr}
+use Rattle.plan_code.specs.declared.instr.Instr.TheVariants.{Wait, Until, WaitContact, CommitIn, CommitAt, Join, End, Edit as Edits, Test, Jump, Set, Loop}
+use Rattle.plan_code.specs.declared.instr.Line.{Line}
+use Rattle.plan_code.specs.Program.{Program}
+
+-- the letters DABP, and the version of the format
+abbrev pub magic : List ℕ
+magic = 0x44 ∷ 0x41 ∷ 0x42 ∷ 0x50 ∷ []
+
+abbrev pub version : ℕ
+version = 1
+
+abbrev pub plan_bytes : Plan → List ℕ
+plan_bytes p = word_bytes p.eid ++ p.period ∷ p.notice ∷ p.budget ∷ []
+
+-- the three numbers of configurations, labels and instructions
+abbrev pub counts_bytes : Program → List ℕ
+counts_bytes p = word_bytes (length p.configurations) ++ word_bytes (length p.labels) ++ word_bytes (length p.lines)
+
+-- a flag and the bounds of the swap that is pending; zeros where none is
+abbrev pub pending_bytes : Option (ℕ × ℕ) → List ℕ
+pending_bytes None = 0 ∷ word_bytes 0 ++ word_bytes 0
+pending_bytes (Some b) = 1 ∷ word_bytes b.0 ++ word_bytes b.1
+
+abbrev pub label_bytes : Label → List ℕ
+label_bytes l =
+    word_bytes l.pc ++ word_bytes l.cur ++ word_bytes l.next ++ pending_bytes l.pending
+    ++ l.counters.0 ∷ l.cost ∷ []
+
+abbrev pub carrier_bytes : Carrier → List ℕ
+carrier_bytes (BySub id) = 0 ∷ word_bytes id
+carrier_bytes (ByPacket scid) = 1 ∷ word_bytes scid
+
+-- an instruction: its opcode, and its operands
+abbrev pub edit_bytes : Edit → List ℕ
+edit_bytes (AddSub s) = 0x10 ∷ sub_bytes s
+edit_bytes (DropSub id) = 0x11 ∷ id ∷ []
+edit_bytes (MoveSub id start) = 0x12 ∷ id ∷ word_bytes start
+edit_bytes (RateSub id kbits) = 0x13 ∷ id ∷ word_bytes kbits
+edit_bytes (AddService sid) = 0x14 ∷ sid_bytes sid
+edit_bytes (DropService sid) = 0x15 ∷ sid_bytes sid
+edit_bytes (AddComponent sid m) = 0x16 ∷ sid_bytes sid ++ component_bytes m
+edit_bytes (DropComponent sid carrier) = 0x17 ∷ sid_bytes sid ++ carrier_bytes carrier
+edit_bytes (AddPacket p) = 0x18 ∷ packet_bytes p
+edit_bytes (DropPacket scid) = 0x19 ∷ word_bytes scid
+
+abbrev pub instr_bytes : Instr → List ℕ
+instr_bytes (Wait n) = 0x01 ∷ word_bytes n
+instr_bytes (Until t) = 0x02 ∷ to_be_bytes w32 t
+instr_bytes (WaitContact c closed) = 0x03 ∷ c ∷ flag_byte closed ∷ []
+instr_bytes (CommitIn k) = 0x04 ∷ word_bytes k
+instr_bytes (CommitAt n) = 0x05 ∷ word_bytes n
+instr_bytes Join = 0x06 ∷ []
+instr_bytes End = 0x07 ∷ []
+instr_bytes (Edits e) = edit_bytes e
+instr_bytes (Test c target) = 0x20 ∷ c ∷ word_bytes target
+instr_bytes (Jump target) = 0x21 ∷ word_bytes target
+instr_bytes (Set r n) = 0x22 ∷ r ∷ word_bytes n
+instr_bytes (Loop r target) = 0x23 ∷ r ∷ word_bytes target
+
+abbrev pub line_bytes : Line → List ℕ
+line_bytes l = word_bytes l.number ++ instr_bytes l.instr
+
+abbrev pub code_bytes : Program → List ℕ
+code_bytes p =
+    magic ++ version ∷ plan_bytes p.plan ++ counts_bytes p
+    ++ flat_map config_bytes p.configurations
+    ++ flat_map label_bytes p.labels
+    ++ flat_map line_bytes p.lines
