@@ -1,5 +1,6 @@
 pub mod Packing
 pub mod Pages
+pub mod Bytes
 pub use Rattle.fib_codec.specs.Crc
 pub use Rattle.fib_codec.specs.Spelling
 pub use Rattle.fib_codec.specs.Grammar

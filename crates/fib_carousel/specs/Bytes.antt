@@ -1,0 +1,54 @@
+-- The bytes of the FIBs of a page (EN 300 401 clauses 5.2.1, 5.2.2 and 6.4).
+use Rattle.std.specs.Prelude.{ℕ, ◌+◌, ◌*◌, ◌/◌, ◌%◌, ◌^◌, false, if◌then◌else◌, Option, Some, None, List, [], ◌∷◌, ◌++◌, length}
+use Rattle.mux_config.specs.Entries.{EnsembleInformation}
+use Rattle.mux_config.specs.Facts.{Marked, marked}
+use Rattle.mux_config.specs.declared.entry.Entry.TheVariants.{Ensemble as EnsembleOf}
+use Rattle.fib_codec.specs.Spelling.{Written, head_of, figs_bytes, filled}
+use Rattle.fib_codec.specs.Crc.{check_bits}
+use Rattle.fib_carousel.specs.Packing.{same_head}
+use Rattle.fib_carousel.specs.Pages.{fib_entries}
+
+-- successive entries of one head share a FIG
+abbrev pub joined : Marked → List Written → List Written
+joined m [] = record { head = head_of m; entries = m.entry ∷ [] } ∷ []
+joined m (f ∷ fs) =
+    if same_head (head_of m) f.head then record { head = f.head; entries = m.entry ∷ f.entries } ∷ fs
+    else record { head = head_of m; entries = m.entry ∷ [] } ∷ f ∷ fs
+
+abbrev pub figs_of : List Marked → List Written
+figs_of [] = []
+figs_of (m ∷ ms) = joined m (figs_of ms)
+
+-- FIG 0/0, where it is given: of this ensemble, with C/N 0 and P/D 0
+abbrev pub ensemble_figs : Option EnsembleInformation → List Written
+ensemble_figs None = []
+ensemble_figs (Some e) = record { head = head_of (marked false (EnsembleOf e)); entries = EnsembleOf e ∷ [] } ∷ []
+
+-- the number that bits spell, the most significant one first
+abbrev pub number_of_bits : List ℕ → ℕ
+number_of_bits [] = 0
+number_of_bits (b ∷ bs) = b * 2 ^ length bs + number_of_bits bs
+
+-- the check word of these bytes
+abbrev pub check_word : List ℕ → ℕ
+check_word bytes = number_of_bits (check_bits bytes)
+
+-- a FIB: 30 data bytes, and their check word with its high byte first
+abbrev pub checked : List ℕ → List ℕ
+checked bytes = bytes ++ check_word bytes / 256 ∷ check_word bytes % 256 ∷ []
+
+abbrev pub fib_bytes : List Written → List ℕ
+fib_bytes figs = checked (filled (figs_bytes figs))
+
+-- the FIBs with these entries, one after another: FIG 0/0 stands first in the first one
+abbrev pub fibs_bytes : Option EnsembleInformation → List (List Marked) → List ℕ
+fibs_bytes ensemble [] = []
+fibs_bytes ensemble (ms ∷ rest) = fib_bytes (ensemble_figs ensemble ++ figs_of ms) ++ fibs_bytes None rest
+
+-- the entries of the three FIBs of a page
+abbrev pub page_fibs : ℕ → List Marked → List (List Marked)
+page_fibs k ms = fib_entries (3 * k) ms ∷ fib_entries (3 * k + 1) ms ∷ fib_entries (3 * k + 2) ms ∷ []
+
+-- the bytes of page k of these entries, with this FIG 0/0: what goes out in one frame
+abbrev pub page_bytes : Option EnsembleInformation → ℕ → List Marked → List ℕ
+page_bytes ensemble k ms = fibs_bytes ensemble (page_fibs k ms)
