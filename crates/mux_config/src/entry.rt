@@ -22,6 +22,18 @@ pub enum Entry {
     Packet(PacketEntry),
 }
 
+impl Default for Entry {
+    /// A sub-channel in the short form, with each field 0: what stands in the unused places of a list.
+    fn default() -> Self {
+        Entry::Short(ShortEntry {
+            id: SubId::default(),
+            start: Bits::default(),
+            switch: false,
+            table: Bits::default(),
+        })
+    }
+}
+
 /// Ensemble information, FIG 0/0 (EN 300 401 clause 6.4): the EId, the change flags 0 to 3 (1 for the
 /// sub-channel organization, 2 for the service organization), the Al flag, the CIF count 0 to 4999, and
 /// the occurrence change, which is there exactly where a flag is set.
@@ -185,6 +197,15 @@ pub enum ComponentEntry {
         primary: bool,
         ca: bool,
     },
+}
+
+impl Default for ComponentEntry {
+    /// TMId 10 and bits 0: what stands in the unused places of a list.
+    fn default() -> Self {
+        ComponentEntry::Other {
+            bits: Bits::default(),
+        }
+    }
 }
 
 /// The basic service and service component definition, FIG 0/2 (EN 300 401 clause 6.3.1). Its SId is

@@ -22,6 +22,15 @@ impl Model for SubId {
     ghost inverse = { λ n. record { id = n } };
 }
 
+impl Default for SubId {
+    ghost is_default = { λ n. n ≡ 0 };
+
+    /// The number 0.
+    fn default() -> Self {
+        SubId { id: 0 }
+    }
+}
+
 impl SubId {
     /// The identifier of this number; None where it is above 63.
     pub fn new(id: u8) -> Option<SubId>
@@ -56,6 +65,15 @@ impl Model for ScId {
     ghost invariant = { λ s. s.id < 4096 };
 
     ghost inverse = { λ n. record { id = n } };
+}
+
+impl Default for ScId {
+    ghost is_default = { λ n. n ≡ 0 };
+
+    /// The number 0.
+    fn default() -> Self {
+        ScId { id: 0 }
+    }
 }
 
 impl ScId {
@@ -93,6 +111,15 @@ impl Model for ScTy {
     ghost invariant = { λ t. t.ty < 64 };
 
     ghost inverse = { λ n. record { ty = n } };
+}
+
+impl Default for ScTy {
+    ghost is_default = { λ n. n ≡ 0 };
+
+    /// The number 0.
+    fn default() -> Self {
+        ScTy { ty: 0 }
+    }
 }
 
 impl ScTy {
@@ -139,6 +166,15 @@ impl<const WIDTH: u32> Model for Bits<WIDTH> {
     ghost invariant = { λ b. b.value < 2 ^ WIDTH };
 
     ghost inverse = { λ n. record { value = n } };
+}
+
+impl<const WIDTH: u32> Default for Bits<WIDTH> {
+    ghost is_default = { λ b. b ≡ 0 };
+
+    /// The number 0.
+    fn default() -> Self {
+        Bits { value: 0 }
+    }
 }
 
 impl<const WIDTH: u32> Bits<WIDTH> {
