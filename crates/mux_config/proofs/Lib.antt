@@ -1,4 +1,5 @@
 pub mod Telling
 pub mod Same
 pub mod Powers
+pub mod Tables
 mod Vectors

@@ -1,5 +1,5 @@
 -- Finite sets whose members have keys, as lists in ascending order of the keys.
-use Rattle.std.specs.Prelude.{ℕ, suc, ◌==◌, not, nat_lt, if◌then◌else◌, List, [], ◌∷◌, map, Option}
+use Rattle.std.specs.Prelude.{ℕ, ◌==◌, not, nat_lt, if◌then◌else◌, List, [], ◌∷◌, map, Option}
 use Rattle.std.specs.List.{find, filter}
 
 -- the member of a key
@@ -18,8 +18,3 @@ without_entry key k xs = filter (λ x. not (key x == k)) xs
 -- a set with a member in place of the one that has its key
 abbrev pub with_entry_changed : {T : Type 0} → (T → ℕ) → T → List T → List T
 with_entry_changed key y xs = map (λ x. if key x == key y then y else x) xs
-
--- how many members of a set in ascending order stand before a key
-abbrev pub place_of : {T : Type 0} → (T → ℕ) → ℕ → List T → ℕ
-place_of key k [] = 0
-place_of key k (x ∷ xs) = if nat_lt (key x) k then suc (place_of key k xs) else 0
