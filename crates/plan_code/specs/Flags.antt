@@ -1,5 +1,5 @@
 -- Sets of counters and of contacts, a bit for each.
-use Rattle.std.specs.Prelude.{ℕ, ◌-◌, ◌^◌, ◌==◌, Bool, true, false}
+use Rattle.std.specs.Prelude.{◌≡◌, ◌≢◌, ℕ, ◌-◌, ◌<◌, ◌^◌, ◌==◌, Bool, true, false}
 use Rattle.std.specs.Int.{bit_at}
 use Rattle.std.specs.Int.RustNames.{bit_and, bit_or}
 use Rattle.plan_code.specs.declared.flags.Counters.{Counters}
@@ -20,7 +20,27 @@ with_counter r counters = record { 0 = bit_or counters.0 (2 ^ r) }
 abbrev pub without_counter : ℕ → Counters → Counters
 without_counter r counters = record { 0 = bit_and counters.0 (2 ^ 8 - 1 - 2 ^ r) }
 
+-- each counter of the other set is in this one
+abbrev pub Includes : Counters → Counters → Type 0
+Includes counters other = (r : ℕ) → is_set other r ≡ true → is_set counters r ≡ true
+
 -- the contacts with contact c closed, or open
 abbrev pub with_contact : ℕ → Bool → Contacts → Contacts
 with_contact c true contacts = record { 0 = bit_or contacts.0 (2 ^ c) }
 with_contact c false contacts = record { 0 = bit_and contacts.0 (2 ^ 16 - 1 - 2 ^ c) }
+
+-- ---- what these change, and what they leave
+
+abbrev pub CountersChangeAlone : Type 0
+CountersChangeAlone =
+    (counters : Counters) (r : ℕ) → r < 8
+    → (is_set (with_counter r counters) r ≡ true) × (is_set (without_counter r counters) r ≡ false)
+    × ((q : ℕ) → q < 8 → q ≢ r
+    → (is_set (with_counter r counters) q ≡ is_set counters q)
+    × (is_set (without_counter r counters) q ≡ is_set counters q))
+
+abbrev pub ContactsChangeAlone : Type 0
+ContactsChangeAlone =
+    (contacts : Contacts) (c : ℕ) (closed : Bool) → c < 16
+    → (is_closed (with_contact c closed contacts) c ≡ closed)
+    × ((d : ℕ) → d < 16 → d ≢ c → is_closed (with_contact c closed contacts) d ≡ is_closed contacts d)

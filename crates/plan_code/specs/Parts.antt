@@ -43,7 +43,7 @@ label_at total count low bytes = do
   counters ← byte_at pending.1
   cost ← byte_within total 1 255 counters.1
   let set : Counters = record { 0 = counters.0 } in
-    Ok (record { pc = pc.0; cur = cur.0; next = next.0; pending = pending.0; counters = set; cost = cost.0 }, cost.1)
+      Ok (record { pc = pc.0; cur = cur.0; next = next.0; pending = pending.0; counters = set; cost = cost.0 }, cost.1)
 
 -- ---- operands
 

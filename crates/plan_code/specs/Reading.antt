@@ -89,14 +89,14 @@ configurations_at total before (suc count) bytes = do
 unfoldable pub code_of : List ℕ → Result Program CodeFault
 code_of bytes =
     let total = length bytes in do
-  letters ← magic_at bytes
-  number ← version_at letters.1
-  plan ← plan_at total number.1
-  configuration_count ← count_at total 256 plan.1
-  label_count ← count_at total 1024 configuration_count.1
-  line_count ← count_at total 4096 label_count.1
-  configurations ← configurations_at total [] configuration_count.0 line_count.1
-  labels ← read_from 0 (members_at label_key (label_at total configuration_count.0) 0 [] label_count.0 configurations.1)
-  lines ← read_from 0 (lines_at total [] line_count.0 labels.1)
-  ended ← refuse (not (length lines.1 == 0)) Trailing
-  Ok (record { plan = plan.0; configurations = configurations.0; labels = labels.0; lines = lines.0 })
+      letters ← magic_at bytes
+      number ← version_at letters.1
+      plan ← plan_at total number.1
+      configuration_count ← count_at total 256 plan.1
+      label_count ← count_at total 1024 configuration_count.1
+      line_count ← count_at total 4096 label_count.1
+      configurations ← configurations_at total [] configuration_count.0 line_count.1
+      labels ← read_from 0 (members_at label_key (label_at total configuration_count.0) 0 [] label_count.0 configurations.1)
+      lines ← read_from 0 (lines_at total [] line_count.0 labels.1)
+      ended ← refuse (not (length lines.1 == 0)) Trailing
+      Ok (record { plan = plan.0; configurations = configurations.0; labels = labels.0; lines = lines.0 })

@@ -1,7 +1,9 @@
 //! Sets of counters and of contacts, a bit for each.
 
-ghost use Rattle.std.specs.Prelude.{⊤, ◌≡◌, ◌↔◌, IsTrue, [], ◌∷◌, codes};
+ghost use Rattle.std.specs.Prelude.{⊤, ◌≡◌, ◌≢◌, ◌<◌, ◌↔◌, ℕ, IsTrue, true, [], ◌∷◌, codes};
+ghost use Rattle.plan_code.specs.Flags.{is_set, is_closed, with_counter, without_counter, with_contact, Includes};
 
+use crate::numbers::{ContactId, CounterId};
 use bitflags::{Flag, Flags, bitflag_items};
 
 /// A set of counters: bit `r` is set where counter `r` is in it.
@@ -40,6 +42,36 @@ impl Flags for Counters {
 
     fn from_bits_retain(bits: u8) -> Counters {
         Counters(bits)
+    }
+}
+
+impl Counters {
+    /// Whether the counter is in the set.
+    pub fn has(self, counter: CounterId) -> bool
+        ensures { result ≡ is_set self counter }
+    {
+        (self.0 >> counter.get()) & 1 == 1
+    }
+
+    /// The set with the counter.
+    pub fn with(self, counter: CounterId) -> Counters
+        ensures value { result ≡ with_counter counter self }
+    {
+        Counters(self.0 | (1 << counter.get()))
+    }
+
+    /// The set without the counter.
+    pub fn without(self, counter: CounterId) -> Counters
+        ensures value { result ≡ without_counter counter self }
+    {
+        Counters(self.0 & !(1 << counter.get()))
+    }
+
+    /// Whether each counter of the other set is in this one.
+    pub fn includes(self, other: Counters) -> bool
+        ensures { IsTrue result ↔ Includes self other }
+    {
+        self.contains(other)
     }
 }
 
@@ -87,5 +119,25 @@ impl Flags for Contacts {
 
     fn from_bits_retain(bits: u16) -> Contacts {
         Contacts(bits)
+    }
+}
+
+impl Contacts {
+    /// Whether the contact is closed.
+    pub fn is_closed(self, contact: ContactId) -> bool
+        ensures { result ≡ is_closed self contact }
+    {
+        (self.0 >> contact.get()) & 1 == 1
+    }
+
+    /// The contacts with this one closed, or open; the others stay.
+    pub fn with(self, contact: ContactId, closed: bool) -> Contacts
+        ensures value { result ≡ with_contact contact closed self }
+    {
+        if closed {
+            Contacts(self.0 | (1 << contact.get()))
+        } else {
+            Contacts(self.0 & !(1 << contact.get()))
+        }
     }
 }

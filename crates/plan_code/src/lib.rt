@@ -11,6 +11,7 @@ pub mod flags;
 pub mod hold;
 pub mod instr;
 pub mod label;
+pub mod laws;
 pub mod numbers;
 pub mod plan;
 

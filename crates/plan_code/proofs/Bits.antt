@@ -1,0 +1,75 @@
+-- Sets as bits: what a bit says after it was set or cleared, and one set within another.
+use Rattle.std.proofs.Common.{◌≡◌, ◌≢◌, ℕ, ◌-◌, ◌<◌, ◌≤◌, ◌^◌, Bool, true, false, cond, eqb, min, refl, sym, ap, ◌∙◌, arith, inl, inr}
+use Rattle.std.specs.Int.{Width, w8, w16, bit_at, bit_not}
+use Rattle.std.specs.Int.RustNames.{bit_and, bit_or}
+use Rattle.std.proofs.lemmas.Nat.{pow_below}
+use Rattle.std.proofs.lemmas.Nat.Bits.{bit_at-lt, bit_at_and, bit_at_or, bit_at_not, bit_at-pow_same, bit_at-pow_other, same_from_bits}
+use Rattle.std.proofs.lemmas.Bool.{eqb-true, cases_lt}
+use mir.Val.{bits}
+use Rattle.plan_code.specs.declared.flags.Counters.{Counters}
+use Rattle.plan_code.specs.declared.flags.Contacts.{Contacts}
+use Rattle.plan_code.specs.Flags.{is_set, Includes, CountersChangeAlone, ContactsChangeAlone}
+
+bit_set_same : (n k : ℕ) → bit_at (bit_or n (2 ^ k)) k ≡ 1
+bit_set_same n k = omega (arith, bit_at_or n (2 ^ k) k, bit_at-pow_same k, bit_at-lt n k)
+
+bit_set_other : (n k i : ℕ) → i ≢ k → bit_at (bit_or n (2 ^ k)) i ≡ bit_at n i
+bit_set_other n k i apart = omega (arith, bit_at_or n (2 ^ k) i, bit_at-pow_other k i apart)
+
+bit_cleared : (w : Width) (n k i : ℕ) → k < bits w → i < bits w → bit_at (bit_and n (bit_not w (2 ^ k))) i ≡ min (bit_at n i) (1 - bit_at (2 ^ k) i)
+bit_cleared w n k i within low = bit_at_and n (bit_not w (2 ^ k)) i ∙ ap (λ (b : ℕ). min (bit_at n i) b) (bit_at_not w (2 ^ k) i (pow_below k (bits w) within) low)
+
+bit_clear_same : (w : Width) (n k : ℕ) → k < bits w → bit_at (bit_and n (bit_not w (2 ^ k))) k ≡ 0
+bit_clear_same w n k within = omega (arith, bit_cleared w n k k within within, bit_at-pow_same k)
+
+bit_clear_other : (w : Width) (n k i : ℕ) → k < bits w → i < bits w → i ≢ k → bit_at (bit_and n (bit_not w (2 ^ k))) i ≡ bit_at n i
+bit_clear_other w n k i within low apart = omega (arith, bit_cleared w n k i within low, bit_at-pow_other k i apart, bit_at-lt n i)
+
+-- ---- tests of a bit
+
+one_is : (n : ℕ) → n ≡ 1 → eqb n 1 ≡ true
+one_is n e = rw e refl
+
+zero_is : (n : ℕ) → n ≡ 0 → eqb n 1 ≡ false
+zero_is n e = rw e refl
+
+same_is : (n m : ℕ) → n ≡ m → eqb n 1 ≡ eqb m 1
+same_is n m e = ap (λ (k : ℕ). eqb k 1) e
+
+pub counters_change_alone : CountersChangeAlone
+counters_change_alone counters r lt = (
+  one_is _ (bit_set_same counters.0 r),
+  zero_is _ (bit_clear_same w8 counters.0 r lt),
+  λ q within apart.
+      (same_is _ _ (bit_set_other counters.0 r q apart), same_is _ _ (bit_clear_other w8 counters.0 r q lt within apart)),
+)
+
+pub contacts_change_alone : ContactsChangeAlone
+contacts_change_alone contacts c true lt =
+    (one_is _ (bit_set_same contacts.0 c), λ d within apart. same_is _ _ (bit_set_other contacts.0 c d apart))
+contacts_change_alone contacts c false lt =
+    (zero_is _ (bit_clear_same w16 contacts.0 c lt), λ d within apart. same_is _ _ (bit_clear_other w16 contacts.0 c d lt within apart))
+
+-- ---- one set within another
+
+pub all_included : (a b : Counters) → eqb (bit_and a.0 b.0) b.0 ≡ true → Includes a b
+all_included a b e = λ r has.
+    let same : bit_and a.0 b.0 ≡ b.0 = eqb-true _ _ e in
+    let both : min (bit_at a.0 r) (bit_at b.0 r) ≡ bit_at b.0 r = sym (bit_at_and a.0 b.0 r) ∙ ap (λ (n : ℕ). bit_at n r) same in
+    let here : bit_at b.0 r ≡ 1 = eqb-true _ _ has in
+    one_is (bit_at a.0 r) (omega (arith, both, here, bit_at-lt a.0 r))
+
+eqb_same : (a b : ℕ) → a ≡ b → eqb a b ≡ true
+eqb_same a b e = grind (arith, e)
+
+within_both : (a b : ℕ) → a < 2 → b < 2 → (eqb b 1 ≡ true → eqb a 1 ≡ true) → min a b ≡ b
+within_both a b below_a below_b h =
+    elim (cases_lt 0 b) [
+      | inl set ↦ let one : a ≡ 1 = eqb-true a 1 (h (one_is b (omega arith))) in omega arith
+      | inr none ↦ omega arith
+    ]
+
+pub included_all : (a b : Counters) → Includes a b → eqb (bit_and a.0 b.0) b.0 ≡ true
+included_all a b h =
+    eqb_same _ _ (same_from_bits (bit_and a.0 b.0) b.0 (λ r.
+    bit_at_and a.0 b.0 r ∙ within_both (bit_at a.0 r) (bit_at b.0 r) (bit_at-lt a.0 r) (bit_at-lt b.0 r) (h r)))
