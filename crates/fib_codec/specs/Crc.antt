@@ -16,9 +16,9 @@ abbrev pub AreBits : List ℕ → Type 0
 AreBits [] = Unit {0}
 AreBits (b ∷ bs) = (b < 2) × AreBits bs
 
--- the sum of two polynomials, bit by bit modulo 2 from the front on; the rest of the longer one stays
+-- the second list added at the front of the first one, bit by bit modulo 2
 abbrev pub plus : List ℕ → List ℕ → List ℕ
-plus [] ys = ys
+plus [] ys = []
 plus (x ∷ xs) [] = x ∷ xs
 plus (x ∷ xs) (y ∷ ys) = (x + y) % 2 ∷ plus xs ys
 

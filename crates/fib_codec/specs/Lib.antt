@@ -1,5 +1,6 @@
 pub mod Crc
 pub mod Ranges
+pub mod Register
 pub mod Spelling
 pub mod Grammar
 pub mod Heard

@@ -6,8 +6,12 @@
 //! `Heard` which entries a receiver hears in a FIB.
 #![tactic(auto)]
 
+pub mod crc;
+pub mod crc_tables;
 pub mod head;
 
+pub use crc::crc16_by_bits;
+pub use crc_tables::{crc16, is_checked};
 pub use head::Head;
 pub use mux_config::{
     Bits, ComponentEntry, Ensemble, Entry, Few, PacketEntry, ScId, ScTy, ServiceEntry, ShortEntry,

@@ -1,0 +1,271 @@
+-- The register does the long division: what is still to be divided, with the register added at its front, divides
+-- as the whole does.
+use Rattle.std.proofs.Common.{◌≡◌, ℕ, zero, suc, ◌+◌, ◌-◌, ◌*◌, ◌/◌, ◌%◌, ◌^◌, ◌<◌, ◌≤◌, eqb, List, [], ◌∷◌, ◌++◌, map, length, replicate, refl, sym, ◌∙◌, ap, arith, inl, inr, append_assoc, get_or, drop}
+use Rattle.std.proofs.lemmas.List.{drop_more, drop_all}
+use Rattle.std.proofs.lemmas.Bool.{cases_Bool, cond-true, cond-false, eqb-true, eqb-false}
+use Rattle.std.proofs.lemmas.Nat.Bits.{bit_at-suc, bit_at_xor, bit_at_cat_low, bit_at-lt, bit_at_ones, shr_and_one}
+use Rattle.std.specs.Prelude.{bit_xor, bit_and}
+use Rattle.std.specs.Int.{bit_at}
+use Rattle.fib_codec.specs.Crc.{bits_of, bits_of_bytes, AreBits, plus, generator, without_leading, divided, dividend, check_bits}
+use Rattle.fib_codec.specs.Register.{next, after}
+
+-- ---- bits of numbers
+pub bits_of-suc : (w n : ℕ) → bits_of (suc w) n ≡ bit_at n w ∷ bits_of w n
+unfolding bits_of
+bits_of-suc w n = refl
+
+pub bits_of-zero : (n : ℕ) → bits_of 0 n ≡ []
+unfolding bits_of
+bits_of-zero n = refl
+
+pub length-bits_of : (w n : ℕ) → length (bits_of w n) ≡ w
+unfolding bits_of
+length-bits_of zero n = refl
+length-bits_of (suc w) n = ap suc (length-bits_of w n)
+
+pub bits_of_are : (w n : ℕ) → AreBits (bits_of w n)
+unfolding bits_of
+bits_of_are zero n = tt
+bits_of_are (suc w) n = (bit_at-lt n w, bits_of_are w n)
+
+pub bits_of-xor : (w a b : ℕ) → bits_of w (bit_xor a b) ≡ plus (bits_of w a) (bits_of w b)
+unfolding bits_of
+bits_of-xor zero a b = refl
+bits_of-xor (suc w) a b = rw (bit_at_xor a b w, bits_of-xor w a b) refl
+
+-- one more place below
+pub bits_of-moved : (w n : ℕ) → bits_of (suc w) (n * 2) ≡ bits_of w n ++ 0 ∷ []
+unfolding bits_of
+bits_of-moved zero n = let low : n * 2 / 2 ^ 0 % 2 ≡ 0 = omega arith in rw low refl
+bits_of-moved (suc w) n =
+    let half : n * 2 / 2 ≡ n = omega arith in
+    let top : bit_at (n * 2) (suc w) ≡ bit_at n w = bit_at-suc (n * 2) w ∙ ap (λ k. bit_at k w) half in
+    let e : bit_at (n * 2) (suc w) ∷ bits_of (suc w) (n * 2) ≡ bit_at n w ∷ (bits_of w n ++ 0 ∷ []) = rw (top, bits_of-moved w n) refl in
+    e
+
+-- bits below a power of two are those of what it leaves
+pub bits_of-below : (w a k b : ℕ) → w ≤ k → bits_of w (a * 2 ^ k + b) ≡ bits_of w b
+unfolding bits_of
+bits_of-below zero a k b h = refl
+bits_of-below (suc w) a k b h =
+    let lt : w < k = omega arith in
+    rw (bit_at_cat_low a k b w lt, bits_of-below w a k b (omega arith)) refl
+
+pub bits_of-word : (w n : ℕ) → w ≤ 16 → bits_of w (n % 65536) ≡ bits_of w n
+bits_of-word w n h =
+    let split : n / 65536 * 2 ^ 16 + n % 65536 ≡ n = omega arith in
+    sym (bits_of-below w (n / 65536) 16 (n % 65536) h) ∙ ap (λ k. bits_of w k) split
+
+-- ---- sums of lists
+pub plus-nil : (xs : List ℕ) → plus xs [] ≡ xs
+plus-nil [] = refl
+plus-nil (x ∷ xs) = refl
+
+pub plus-push_zero : (m xs : List ℕ) → AreBits m → plus m (xs ++ 0 ∷ []) ≡ plus m xs
+plus-push_zero [] xs h = refl
+plus-push_zero (b ∷ m) [] h =
+    let bit : b < 2 = h.0 in
+    let same : (b + 0) % 2 ≡ b = omega arith in
+    rw (same, plus-nil m) refl
+plus-push_zero (b ∷ m) (x ∷ xs) h = ap (λ t. (b + x) % 2 ∷ t) (plus-push_zero m xs h.1)
+
+pub plus-plus : (m xs ys : List ℕ) → length xs ≡ length ys → plus (plus m xs) ys ≡ plus m (plus xs ys)
+plus-plus [] xs ys h = refl
+plus-plus (b ∷ m) [] [] h = refl
+plus-plus (b ∷ m) [] (y ∷ ys) h = cc
+plus-plus (b ∷ m) (x ∷ xs) [] h = cc
+plus-plus (b ∷ m) (x ∷ xs) (y ∷ ys) h =
+    let head : ((b + x) % 2 + y) % 2 ≡ (b + (x + y) % 2) % 2 = omega arith in
+    let same : length xs ≡ length ys = omega arith in
+    rw (head, plus-plus m xs ys same) refl
+
+pub plus-append : (xs ys m l : List ℕ) → length xs ≡ length ys → plus (xs ++ m) (ys ++ l) ≡ plus xs ys ++ plus m l
+plus-append [] [] m l h = refl
+plus-append [] (y ∷ ys) m l h = cc
+plus-append (x ∷ xs) [] m l h = cc
+plus-append (x ∷ xs) (y ∷ ys) m l h = ap (λ t. (x + y) % 2 ∷ t) (plus-append xs ys m l (omega arith))
+
+pub AreBits-append : (xs ys : List ℕ) → AreBits xs → AreBits ys → AreBits (xs ++ ys)
+AreBits-append [] ys h k = k
+AreBits-append (x ∷ xs) ys h k = (h.0, AreBits-append xs ys h.1 k)
+
+pub AreBits-replicate : (n : ℕ) → AreBits (replicate n 0)
+AreBits-replicate zero = tt
+AreBits-replicate (suc n) = (omega arith, AreBits-replicate n)
+
+pub AreBits-bytes : (bytes : List ℕ) → AreBits (bits_of_bytes bytes)
+AreBits-bytes [] = tt
+AreBits-bytes (b ∷ bs) = AreBits-append (bits_of 8 b) (bits_of_bytes bs) (bits_of_are 8 b) (AreBits-bytes bs)
+
+-- ---- the division
+pub divided-suc : (n b : ℕ) (bits : List ℕ) → divided (suc n) (b ∷ bits) ≡ divided n (without_leading b bits)
+unfolding divided
+divided-suc n b bits = refl
+
+pub divided-zero : (bits : List ℕ) → divided 0 bits ≡ bits
+unfolding divided
+divided-zero bits = refl
+
+generator_is : bits_of 16 4129 ≡ generator
+unfolding bits_of
+generator_is = refl
+
+-- the leading bit of what is divided is 0
+no_place : (r b : ℕ) (m : List ℕ) (n : ℕ) → AreBits m → b < 2 → bit_at r 15 ≡ b
+    → divided (suc n) (plus (b ∷ m) (bits_of 16 r)) ≡ divided n (plus m (bits_of 16 (r * 2 % 65536)))
+no_place r b m n are bit same =
+    let zero_on_top : (b + bit_at r 15) % 2 ≡ 0 = omega arith in
+    let moved : bits_of 16 (r * 2 % 65536) ≡ bits_of 15 r ++ 0 ∷ [] = bits_of-word 16 (r * 2) (omega arith) ∙ bits_of-moved 15 r in
+    let left : plus (b ∷ m) (bits_of 16 r) ≡ 0 ∷ plus m (bits_of 15 r) =
+    ap (λ t. plus (b ∷ m) t) (bits_of-suc 15 r) ∙ ap (λ t. t ∷ plus m (bits_of 15 r)) zero_on_top in
+    let right : plus m (bits_of 16 (r * 2 % 65536)) ≡ plus m (bits_of 15 r) = ap (plus m) moved ∙ plus-push_zero m (bits_of 15 r) are in
+    ap (divided (suc n)) left ∙ divided-suc n 0 (plus m (bits_of 15 r)) ∙ ap (divided n) (sym right)
+
+-- it is 1
+a_place : (r b : ℕ) (m : List ℕ) (n : ℕ) → AreBits m → b < 2 → (bit_at r 15 ≡ b → ⊥)
+    → divided (suc n) (plus (b ∷ m) (bits_of 16 r)) ≡ divided n (plus m (bits_of 16 (bit_xor (r * 2 % 65536) 4129)))
+a_place r b m n are bit differ =
+    let one_on_top : (b + bit_at r 15) % 2 ≡ 1 = omega (arith, bit_at-lt r 15) in
+    let moved : bits_of 16 (r * 2 % 65536) ≡ bits_of 15 r ++ 0 ∷ [] = bits_of-word 16 (r * 2) (omega arith) ∙ bits_of-moved 15 r in
+    let left : plus (b ∷ m) (bits_of 16 r) ≡ 1 ∷ plus m (bits_of 15 r) =
+    ap (λ t. plus (b ∷ m) t) (bits_of-suc 15 r) ∙ ap (λ t. t ∷ plus m (bits_of 15 r)) one_on_top in
+    let long : length (bits_of 16 (r * 2 % 65536)) ≡ length generator = length-bits_of 16 (r * 2 % 65536) in
+    let right : plus m (bits_of 16 (bit_xor (r * 2 % 65536) 4129)) ≡ plus (plus m (bits_of 15 r)) generator =
+    ap (plus m) (bits_of-xor 16 (r * 2 % 65536) 4129 ∙ ap (plus (bits_of 16 (r * 2 % 65536))) generator_is)
+    ∙ sym (plus-plus m (bits_of 16 (r * 2 % 65536)) generator long)
+    ∙ ap (λ t. plus t generator) (ap (plus m) moved ∙ plus-push_zero m (bits_of 15 r) are) in
+    ap (divided (suc n)) left ∙ divided-suc n 1 (plus m (bits_of 15 r)) ∙ ap (divided n) (sym right)
+
+pub place_divides : (r b : ℕ) (m : List ℕ) (n : ℕ) → AreBits m → b < 2
+    → divided (suc n) (plus (b ∷ m) (bits_of 16 r)) ≡ divided n (plus m (bits_of 16 (next r b)))
+place_divides r b m n are bit =
+    elim (cases_Bool (eqb (bit_at r 15) b)) [
+      | inl same ↦ no_place r b m n are bit (eqb-true _ _ same)
+          ∙ ap (λ k. divided n (plus m (bits_of 16 k))) (sym (cond-true (eqb (bit_at r 15) b) _ _ same))
+      | inr differ ↦ a_place r b m n are bit (eqb-false _ _ differ)
+          ∙ ap (λ k. divided n (plus m (bits_of 16 k))) (sym (cond-false (eqb (bit_at r 15) b) _ _ differ))
+    ]
+
+pub after-suc : (w k r : ℕ) → after (suc w) k r ≡ after w k (next r (bit_at k w))
+unfolding after
+after-suc w k r = refl
+
+pub after-zero : (k r : ℕ) → after 0 k r ≡ r
+unfolding after
+after-zero k r = refl
+
+-- a step of a loop over the places of a byte
+pub after_more : (place k r : ℕ) → place < 8
+    → after (8 - place) k r ≡ after (8 - (place + 1)) k (next r (bit_and (k / 2 ^ (7 - place)) 1))
+after_more place k r h =
+    let count : 8 - place ≡ suc (7 - place) = omega arith in
+    let below : 8 - (place + 1) ≡ 7 - place = omega arith in
+    rw (count, below, shr_and_one k (7 - place)) (after-suc (7 - place) k r)
+
+-- as many bits as the width says
+pub steps : (w k r : ℕ) (m : List ℕ) (n : ℕ) → AreBits m
+    → divided (w + n) (plus (bits_of w k ++ m) (bits_of 16 r)) ≡ divided n (plus m (bits_of 16 (after w k r)))
+steps zero k r m n are =
+    let none : bits_of 0 k ≡ [] = bits_of-zero k in
+    let count : 0 + n ≡ n = omega arith in
+    rw (none, count, after-zero k r) refl
+steps (suc w) k r m n are =
+    let count : suc w + n ≡ suc (w + n) = omega arith in
+    let cut : bits_of (suc w) k ++ m ≡ bit_at k w ∷ (bits_of w k ++ m) = ap (λ t. t ++ m) (bits_of-suc w k) in
+    ap (λ c. divided c (plus (bits_of (suc w) k ++ m) (bits_of 16 r))) count
+    ∙ ap (λ t. divided (suc (w + n)) (plus t (bits_of 16 r))) cut
+    ∙ place_divides r (bit_at k w) (bits_of w k ++ m) (w + n) (AreBits-append (bits_of w k) m (bits_of_are w k) are) (bit_at-lt k w)
+    ∙ steps w k (next r (bit_at k w)) m n are
+    ∙ ap (λ s. divided n (plus m (bits_of 16 s))) (sym (after-suc w k r))
+
+-- ---- the whole message
+-- what bytes still give, with this register before them
+abbrev pub left_of : List ℕ → ℕ → List ℕ
+left_of bytes r = divided (8 * length bytes) (plus (bits_of_bytes bytes ++ replicate 16 0) (bits_of 16 r))
+
+pub left_of-start : (bytes : List ℕ) → left_of bytes 65535 ≡ divided (8 * length bytes) (dividend bytes)
+unfolding bits_of
+left_of-start bytes = refl
+
+pub left_of-step : (b : ℕ) (bs : List ℕ) (r s : ℕ)
+    → ((m : List ℕ) (n : ℕ) → AreBits m → divided (8 + n) (plus (bits_of 8 b ++ m) (bits_of 16 r)) ≡ divided n (plus m (bits_of 16 s)))
+    → left_of bs s ≡ left_of (b ∷ bs) r
+left_of-step b bs r s step =
+    let rest = bits_of_bytes bs ++ replicate 16 0 in
+    let are : AreBits rest = AreBits-append (bits_of_bytes bs) (replicate 16 0) (AreBits-bytes bs) (AreBits-replicate 16) in
+    let count : 8 + 8 * length bs ≡ 8 * suc (length bs) = omega arith in
+    sym (step rest (8 * length bs) are)
+    ∙ ap (λ c. divided c (plus (bits_of 8 b ++ rest) (bits_of 16 r))) count
+    ∙ ap (λ t. divided (8 * suc (length bs)) (plus t (bits_of 16 r))) (sym (append_assoc (bits_of 8 b) (bits_of_bytes bs) (replicate 16 0)))
+
+all_ones : (w : ℕ) → w < 16 → bit_at 65535 w ≡ 1
+all_ones w h = bit_at_ones 16 w h
+
+-- the same for two bytes
+pub left_of-pair : (a b : ℕ) (bs : List ℕ) (r s : ℕ)
+    → ((m : List ℕ) (n : ℕ) → AreBits m
+    → divided (8 + (8 + n)) (plus (bits_of 8 a ++ (bits_of 8 b ++ m)) (bits_of 16 r)) ≡ divided n (plus m (bits_of 16 s)))
+    → left_of bs s ≡ left_of (a ∷ b ∷ bs) r
+left_of-pair a b bs r s step =
+    let rest = bits_of_bytes bs ++ replicate 16 0 in
+    let are : AreBits rest = AreBits-append (bits_of_bytes bs) (replicate 16 0) (AreBits-bytes bs) (AreBits-replicate 16) in
+    let count : 8 + (8 + 8 * length bs) ≡ 8 * suc (suc (length bs)) = omega arith in
+    let cut : bits_of 8 a ++ (bits_of 8 b ++ rest) ≡ (bits_of 8 a ++ (bits_of 8 b ++ bits_of_bytes bs)) ++ replicate 16 0 =
+    ap (λ t. bits_of 8 a ++ t) (sym (append_assoc (bits_of 8 b) (bits_of_bytes bs) (replicate 16 0)))
+    ∙ sym (append_assoc (bits_of 8 a) (bits_of 8 b ++ bits_of_bytes bs) (replicate 16 0)) in
+    sym (step rest (8 * length bs) are)
+    ∙ ap (λ c. divided c (plus (bits_of 8 a ++ (bits_of 8 b ++ rest)) (bits_of 16 r))) count
+    ∙ ap (λ t. divided (8 * suc (suc (length bs))) (plus t (bits_of 16 r))) cut
+
+-- steps at the front of a list that has so many bytes
+pub left_of-front : (bytes : List ℕ) (r s : ℕ) → length bytes ≡ 1
+    → ((m : List ℕ) (n : ℕ) → AreBits m → divided (8 + n) (plus (bits_of 8 (get_or bytes 0 0) ++ m) (bits_of 16 r)) ≡ divided n (plus m (bits_of 16 s)))
+    → left_of [] s ≡ left_of bytes r
+left_of-front [] r s h step = cc
+left_of-front (b ∷ []) r s h step = left_of-step b [] r s step
+left_of-front (b ∷ d ∷ bs) r s h step = absurd (omega arith)
+
+pub left_of-front_pair : (bytes : List ℕ) (r s : ℕ) → 2 ≤ length bytes
+    → ((m : List ℕ) (n : ℕ) → AreBits m
+    → divided (8 + (8 + n)) (plus (bits_of 8 (get_or bytes 0 0) ++ (bits_of 8 (get_or bytes 1 0) ++ m)) (bits_of 16 r)) ≡ divided n (plus m (bits_of 16 s)))
+    → left_of (drop 2 bytes) s ≡ left_of bytes r
+left_of-front_pair [] r s h step = absurd (omega arith)
+left_of-front_pair (a ∷ []) r s h step = absurd (omega arith)
+left_of-front_pair (a ∷ b ∷ bs) r s h step = left_of-pair a b bs r s step
+
+-- a step of a loop over the bytes
+pub left_of-more : (bytes : List ℕ) (i r : ℕ) → i < length bytes
+    → left_of (drop i bytes) r ≡ left_of (drop (i + 1) bytes) (after 8 (get_or bytes i 0) r)
+left_of-more bytes i r h =
+    let b = get_or bytes i 0 in
+    ap (λ t. left_of t r) (drop_more bytes i 0 h)
+    ∙ sym (left_of-step b (drop (i + 1) bytes) r (after 8 b r) (λ m n are. steps 8 b r m n are))
+
+-- the register turned is the check word
+turned : (w r : ℕ) → w ≤ 16 → map (λ b. 1 - b) (bits_of w r) ≡ bits_of w (bit_xor r 65535)
+unfolding bits_of
+turned zero r h = refl
+turned (suc w) r h =
+    let one : bit_at 65535 w ≡ 1 = all_ones w (omega arith) in
+    let same : 1 - bit_at r w ≡ (bit_at r w + bit_at 65535 w) % 2 = omega (arith, bit_at-lt r w) in
+    rw (bit_at_xor r 65535 w, turned w r (omega arith)) (ap (λ t. t ∷ bits_of w (bit_xor r 65535)) same)
+
+pub zeros_first : (m : List ℕ) → AreBits m → plus (replicate (length m) 0) m ≡ m
+zeros_first [] h = refl
+zeros_first (b ∷ m) h =
+    let bit : b < 2 = h.0 in
+    let same : (0 + b) % 2 ≡ b = omega arith in
+    rw (same, zeros_first m h.1) refl
+
+pub word_checks : (bytes : List ℕ) (r : ℕ) → left_of [] r ≡ left_of bytes 65535 → bits_of 16 (bit_xor r 65535) ≡ check_bits bytes
+word_checks bytes r all =
+    let last : left_of [] r ≡ bits_of 16 r =
+    divided-zero (plus (replicate 16 0) (bits_of 16 r))
+    ∙ (let long : length (bits_of 16 r) ≡ 16 = length-bits_of 16 r in
+    let z : plus (replicate (length (bits_of 16 r)) 0) (bits_of 16 r) ≡ bits_of 16 r = zeros_first (bits_of 16 r) (bits_of_are 16 r) in
+    ap (λ n. plus (replicate n 0) (bits_of 16 r)) (sym long) ∙ z) in
+    sym (turned 16 r (omega arith)) ∙ ap (map (λ b. 1 - b)) (sym last ∙ all ∙ left_of-start bytes)
+
+pub word_checks_at : (bytes : List ℕ) (i r : ℕ) → length bytes ≤ i → left_of (drop i bytes) r ≡ left_of bytes 65535
+    → bits_of 16 (bit_xor r 65535) ≡ check_bits bytes
+word_checks_at bytes i r h all = word_checks bytes r (ap (λ t. left_of t r) (sym (drop_all i bytes h)) ∙ all)

@@ -1,0 +1,6 @@
+use Rattle.std.proofs.Common.{◌≡◌, ◌-◌}
+use Rattle.fib_codec.specs.Register.{after}
+use Rattle.fib_codec.proofs.crc.byte_step_by_bits.Given as goal
+
+abbrev pub invariant-loop-place : goal.invariant-loop-place
+invariant-loop-place l = after (8 - l.place) l.byte l.register ≡ after 8 l.byte l.fn.register
