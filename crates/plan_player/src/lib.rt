@@ -1,13 +1,10 @@
-// A library with one function.
+//! The player: a plan code played frame by frame, three FIBs to a frame.
+//!
+//! So far this crate has its definitions, which say what the player has to do, and first laws about them:
+//! `specs/Frames.antt` for one frame, `Runs.antt` for whole lists of events, `Announced.antt` and
+//! `RightBytes.antt` for what the bytes say, `Laws.antt` for the promises. The player itself comes next.
 #![tactic(auto)]
 
-ghost use Rattle.std.specs.Prelude.{◌≡◌};
-ghost use Rattle.plan_player.specs.Echo.{echo_of};
+pub mod event;
 
-// The `ensures` clause is the contract: what `echo` returns is `echo_of` of its argument, a definition
-// in `specs/Echo.antt`, which a caller's clause can cite too.
-pub fn echo(x: usize) -> usize
-    ensures { result ≡ echo_of x }
-{
-    x
-}
+pub use event::{Event, Start};
