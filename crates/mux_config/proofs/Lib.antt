@@ -1,3 +1,5 @@
+pub mod Walking
+pub mod Rates
 pub mod Telling
 pub mod Same
 pub mod Powers

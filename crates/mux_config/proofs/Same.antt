@@ -10,7 +10,7 @@ use Rattle.mux_config.specs.declared.parts.Component.TheVariants.{Sound, Stream,
 use Rattle.mux_config.specs.declared.parts.Packet.{Packet}
 use Rattle.mux_config.specs.declared.numbers.Sid.{Sid}
 use Rattle.mux_config.specs.declared.numbers.Sid.TheVariants.{Short, Long}
-use Rattle.mux_config.specs.declared.change.Change.{Change}
+use Rattle.mux_config.specs.declared.flags.Change.{Change}
 use Rattle.mux_config.specs.Configuration.{Configuration}
 use Rattle.mux_config.specs.Facts.{sub_entries, service_entries, sub_entry}
 use Rattle.mux_config.specs.Change.{ChangeTells, is_same_flag, is_same_list, is_same_set, is_same_sub, is_same_sid, is_same_component, is_same_service, is_same_packet, has_same_subs, has_same_services}

@@ -10,7 +10,7 @@ use Rattle.mux_config.specs.declared.parts.Component.TheVariants.{Sound, Stream,
 use Rattle.mux_config.specs.declared.parts.Packet.{Packet}
 use Rattle.mux_config.specs.declared.numbers.Sid.{Sid}
 use Rattle.mux_config.specs.declared.numbers.Sid.TheVariants.{Short, Long}
-use Rattle.mux_config.specs.declared.change.Change.{Change}
+use Rattle.mux_config.specs.declared.flags.Change.{Change}
 use Rattle.mux_config.specs.Configuration.{Configuration, IsConfiguration}
 use Rattle.mux_config.specs.Facts.{sub_entries, service_entries}
 

@@ -4,25 +4,27 @@
 //! The definitions that contracts cite stand in `specs/`: begin with `Configuration.antt` and `Facts.antt`.
 #![tactic(auto)]
 
-pub mod change;
 pub mod edit;
 pub mod entry;
 pub mod fault;
 pub mod few;
+pub mod flags;
 pub mod laws;
 pub mod numbers;
 pub mod parts;
+pub mod reconfiguration;
 pub mod record;
 pub mod store;
 pub mod table;
 
-pub use change::Change;
 pub use edit::{Edit, NewSub, Start};
 pub use entry::{ComponentEntry, Ensemble, Entry, PacketEntry, ServiceEntry, ShortEntry, SubEntry};
 pub use fault::{ConfigFault, EditFault};
 pub use few::Few;
+pub use flags::Change;
 pub use numbers::{Bits, ScId, ScTy, Sid, SubId};
 pub use parts::{Carrier, Component, Packet, Service, Sub};
+pub use reconfiguration::change;
 pub use record::RecordFault;
 pub use store::Store;
 pub use table::{Keyed, Table};

@@ -1,0 +1,122 @@
+//! Which of the two organizations the step from one configuration to the next changes.
+
+ghost use Rattle.std.specs.Prelude.{◌≡◌};
+ghost use Rattle.mux_config.specs.Configuration.{IsConfiguration};
+ghost use Rattle.mux_config.specs.Change.{IsChange, change_of, is_same_sub, is_same_sid, is_same_component, is_same_service, is_same_packet, is_same_list, has_same_subs, has_same_services};
+
+use crate::flags::Change;
+use crate::numbers::Sid;
+use crate::parts::{Component, Packet, Service, Sub};
+use crate::store::Store;
+
+/// What the step from one configuration to the next changes: the sub-channel organization where their entries
+/// of FIG 0/1 differ, the service organization where those of FIG 0/2 or 0/3 differ (EN 300 401 clauses 6.4
+/// and 6.5).
+pub fn change<S: Store>(current: &S, next: &S) -> Change
+    ensures value { result ≡ change_of (S.content current.now) (S.content next.now) }
+    ensures entries_differ { IsChange (S.content current.now) (S.content next.now) result }
+{
+    Change {
+        subs: !has_same_subs(current, next),
+        services: !has_same_services(current, next),
+    }
+}
+
+/// Whether two configurations have the same sub-channels.
+fn has_same_subs<S: Store>(current: &S, next: &S) -> bool
+    ensures value { result ≡ has_same_subs (S.content current.now) (S.content next.now) }
+    ensures current { IsConfiguration (S.content current.now) }
+    ensures next { IsConfiguration (S.content next.now) }
+{
+    if current.sub_count() != next.sub_count() {
+        return false;
+    }
+    for place in 0..current.sub_count() {
+        if !is_same_sub(current.sub_at(place), next.sub_at(place)) {
+            return false;
+        }
+    }
+    true
+}
+
+/// Whether two configurations have the same services and packet components.
+fn has_same_services<S: Store>(current: &S, next: &S) -> bool
+    ensures { result ≡ has_same_services (S.content current.now) (S.content next.now) }
+{
+    has_same_service_set(current, next) && has_same_packet_set(current, next)
+}
+
+/// Whether two configurations have the same services, with the same components.
+fn has_same_service_set<S: Store>(current: &S, next: &S) -> bool
+    ensures { let c = S.content current.now in let d = S.content next.now in result ≡ is_same_list is_same_service c.services d.services }
+{
+    if current.service_count() != next.service_count() {
+        return false;
+    }
+    for place in 0..current.service_count() {
+        if !is_same_service(current.service_at(place), next.service_at(place)) {
+            return false;
+        }
+    }
+    true
+}
+
+/// Whether two configurations have the same packet components.
+fn has_same_packet_set<S: Store>(current: &S, next: &S) -> bool
+    ensures { let c = S.content current.now in let d = S.content next.now in result ≡ is_same_list is_same_packet c.packets d.packets }
+{
+    if current.packet_count() != next.packet_count() {
+        return false;
+    }
+    for place in 0..current.packet_count() {
+        if !is_same_packet(current.packet_at(place), next.packet_at(place)) {
+            return false;
+        }
+    }
+    true
+}
+
+fn is_same_sub(a: Sub, b: Sub) -> bool
+    ensures { result ≡ is_same_sub a b }
+{
+    a == b
+}
+
+fn is_same_packet(p: Packet, q: Packet) -> bool
+    ensures { result ≡ is_same_packet p q }
+{
+    p == q
+}
+
+fn is_same_component(m: Component, n: Component) -> bool
+    ensures { result ≡ is_same_component m n }
+{
+    m == n
+}
+
+fn is_same_sid(a: Sid, b: Sid) -> bool
+    ensures { result ≡ is_same_sid a b }
+{
+    a == b
+}
+
+fn is_same_service(a: &Service, b: &Service) -> bool
+    ensures { result ≡ is_same_service a.now b.now }
+{
+    is_same_sid(a.sid, b.sid)
+        && has_same_components(a.components.as_slice(), b.components.as_slice())
+}
+
+fn has_same_components(ms: &[Component], ns: &[Component]) -> bool
+    ensures { result ≡ is_same_list is_same_component ms.now ns.now }
+{
+    if ms.len() != ns.len() {
+        return false;
+    }
+    for place in 0..ms.len() {
+        if !is_same_component(ms[place], ns[place]) {
+            return false;
+        }
+    }
+    true
+}
