@@ -1,3 +1,4 @@
 pub mod Division
 pub mod TableRule
 pub mod Words
+pub mod Uniqueness

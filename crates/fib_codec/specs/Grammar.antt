@@ -98,3 +98,7 @@ pub record IsValid (bytes : List ℕ) (figs : List Fig) : Type 0 where
   pub fib : IsFib bytes figs
   pub looked_into : Each IsOpen figs
   pub rest_filled : take 30 bytes ≡ filled (flat_map fig_spelled figs)
+
+-- 32 bytes hold at most one list of FIGs
+abbrev pub OneList : Type 0
+OneList = (bytes : List ℕ) (figs others : List Fig) → IsFib bytes figs → IsFib bytes others → figs ≡ others

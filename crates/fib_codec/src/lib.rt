@@ -9,6 +9,7 @@
 pub mod crc;
 pub mod crc_tables;
 pub mod head;
+pub mod laws;
 
 pub use crc::crc16_by_bits;
 pub use crc_tables::{crc16, is_checked};
