@@ -2,6 +2,7 @@
 
 ghost use Rattle.std.specs.Prelude.{◌≡◌, ◌≢◌, ℕ, ◌<◌, ◌≤◌, ◌↔◌, IsSome, IfSome, IfNone, IfOk, Ok, Err};
 ghost use Rattle.mux_eep.specs.Sizes.{Profile, IsSize, size_or_fault, units_of_step, rate_step};
+ghost use Rattle.mux_eep.specs.declared.sizes.EepSet.TheVariants.{A};
 
 use crate::fault::EepFault;
 use std::marker::Model;
@@ -37,6 +38,18 @@ impl Model for Protection {
     ghost invariant = { λ p. (1 ≤ p.level) × (p.level ≤ 4) };
 
     ghost inverse = { λ p. record { set = p.set; level = p.level } };
+}
+
+impl Default for Protection {
+    ghost is_default = { λ p. p ≡ record { set = A; level = 1 } };
+
+    /// The profile 1-A.
+    fn default() -> Self {
+        Protection {
+            set: EepSet::A,
+            level: 1,
+        }
+    }
 }
 
 impl Protection {
