@@ -4,11 +4,13 @@
 //! The definitions that contracts cite stand in `specs/`: begin with `Configuration.antt` and `Facts.antt`.
 #![tactic(auto)]
 
+pub mod config;
 pub mod edit;
 pub mod entry;
 pub mod fault;
 pub mod few;
 pub mod flags;
+pub mod keys;
 pub mod laws;
 pub mod numbers;
 pub mod parts;
@@ -17,6 +19,7 @@ pub mod record;
 pub mod store;
 pub mod table;
 
+pub use config::Config;
 pub use edit::{Edit, NewSub, Start};
 pub use entry::{ComponentEntry, Ensemble, Entry, PacketEntry, ServiceEntry, ShortEntry, SubEntry};
 pub use fault::{ConfigFault, EditFault};

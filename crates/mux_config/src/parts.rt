@@ -1,5 +1,9 @@
 //! What a configuration consists of: sub-channels, services with their components, packet components.
 
+ghost use Rattle.std.specs.Prelude.{◌≡◌, [], ◌↔◌, IsTrue};
+ghost use Rattle.mux_config.specs.Configuration.{component_limit, carrier_of};
+ghost use Rattle.mux_config.specs.declared.numbers.Sid.TheVariants.{Short};
+
 use crate::few::Few;
 use crate::numbers::{ScId, ScTy, Sid, SubId};
 use mux_eep::Protection;
@@ -17,6 +21,18 @@ pub struct Sub {
     pub kbits: u16,
 }
 
+impl Default for Sub {
+    /// A sub-channel of no rate: what stands in the unused places of a list.
+    fn default() -> Self {
+        Sub {
+            id: SubId::default(),
+            start: 0,
+            protection: Protection::default(),
+            kbits: 0,
+        }
+    }
+}
+
 /// A component of a service, by the kind of its transport (EN 300 401 clause 6.3.1).
 #[derive(Clone, Copy, Debug, PartialEq, Eq)]
 pub enum Component {
@@ -26,6 +42,15 @@ pub enum Component {
     Stream { ty: ScTy, sub: SubId },
     /// Data in packet mode, TMId 11.
     Packet { scid: ScId },
+}
+
+impl Default for Component {
+    /// The packet component 0: what stands in the unused places of a list.
+    fn default() -> Self {
+        Component::Packet {
+            scid: ScId::default(),
+        }
+    }
 }
 
 /// What a component names as the carrier of its content. No two components of one service name the same.
@@ -46,6 +71,50 @@ pub struct Service {
     pub components: Few<Component, 12>,
 }
 
+impl Default for Service {
+    ghost is_default = { λ s. s ≡ record { sid = Short 0; components = [] } };
+
+    /// A service without components: what stands in the unused places of a list.
+    fn default() -> Self {
+        Service {
+            sid: Sid::Short(0),
+            components: Few::new(),
+        }
+    }
+}
+
+impl Service {
+    /// The service of an SId, without components.
+    pub fn new(sid: Sid) -> Service
+        ensures { result ≡ record { sid = sid; components = [] } }
+    {
+        Service {
+            sid,
+            components: Few::new(),
+        }
+    }
+
+    /// A copy of it.
+    pub fn copied(&self) -> Service
+        ensures { result ≡ self.now }
+    {
+        Service {
+            sid: self.sid,
+            components: self.components.copied(),
+        }
+    }
+
+    /// How many components a service can have with its kind of SId: 12 with 16 bits, 11 with 32.
+    pub fn limit(&self) -> usize
+        ensures { result ≡ component_limit self.now.sid }
+    {
+        match self.sid {
+            Sid::Short(_) => 12,
+            Sid::Long(_) => 11,
+        }
+    }
+}
+
 /// A service component in packet mode (EN 300 401 clause 6.3.2).
 #[derive(Clone, Copy, Debug, PartialEq, Eq)]
 pub struct Packet {
@@ -59,4 +128,17 @@ pub struct Packet {
     pub sub: SubId,
     /// The address of its packets, 1 to 1023 in a configuration.
     pub address: u16,
+}
+
+impl Default for Packet {
+    /// The packet component 0 without an address: what stands in the unused places of a list.
+    fn default() -> Self {
+        Packet {
+            scid: ScId::default(),
+            dg: false,
+            ty: ScTy::default(),
+            sub: SubId::default(),
+            address: 0,
+        }
+    }
 }

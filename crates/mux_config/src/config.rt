@@ -1,0 +1,74 @@
+//! A configuration held in three tables.
+
+ghost use Rattle.std.specs.Prelude.{◌≡◌};
+ghost use Rattle.mux_config.specs.Configuration.{Configuration, IsConfiguration, nothing};
+
+use crate::parts::{Packet, Service, Sub};
+use crate::table::Table;
+use std::marker::Model;
+
+/// A configuration of the multiplex: at most 64 sub-channels, services and packet components
+/// (EN 300 401 clauses 6.1 to 6.3). Contracts see it as the three lists in ascending order.
+#[derive(Drop)]
+pub struct Config {
+    pub(crate) subs: Table<Sub, 64>,
+    pub(crate) services: Table<Service, 64>,
+    pub(crate) packets: Table<Packet, 64>,
+}
+
+impl Model for Config {
+    ghost use Rattle.mux_config.specs.Configuration.{Configuration, IsConfiguration};
+
+    ghost Value = { Configuration };
+
+    ghost view = { λ c. record { subs = c.subs; services = c.services; packets = c.packets } };
+
+    ghost invariant = { λ c. IsConfiguration (record { subs = c.subs; services = c.services; packets = c.packets }) };
+}
+
+impl Config {
+    /// The configuration of nothing.
+    pub fn new() -> Config
+        ensures value { result ≡ nothing }
+        ensures configuration { IsConfiguration result }
+    {
+        Config {
+            subs: Table::new(),
+            services: Table::new(),
+            packets: Table::new(),
+        }
+    }
+
+    /// The sub-channels in ascending order of SubChId.
+    pub fn subs(&self) -> &[Sub]
+        ensures value { result.now ≡ self.now.subs }
+        ensures configuration { IsConfiguration self.now }
+    {
+        self.subs.as_slice()
+    }
+
+    /// The services in ascending order of SId, the 16-bit ones first.
+    pub fn services(&self) -> &[Service]
+        ensures value { result.now ≡ self.now.services }
+        ensures configuration { IsConfiguration self.now }
+    {
+        self.services.as_slice()
+    }
+
+    /// The packet components in ascending order of SCId.
+    pub fn packets(&self) -> &[Packet]
+        ensures value { result.now ≡ self.now.packets }
+        ensures configuration { IsConfiguration self.now }
+    {
+        self.packets.as_slice()
+    }
+
+    /// Becomes a copy of another configuration.
+    pub fn copy_from(&mut self, other: &Config)
+        ensures { self.new ≡ other.now }
+    {
+        self.subs.copy_from(&other.subs);
+        self.services.copy_from(&other.services);
+        self.packets.copy_from(&other.packets);
+    }
+}
