@@ -4,6 +4,7 @@ ghost use Rattle.std.specs.Prelude.{◌≡◌, ◌<◌, ◌↔◌, IsSome, IfSom
 
 use crate::numbers::{ScId, Sid, SubId};
 use crate::parts::{Carrier, Component, Packet, Sub};
+use mux_eep::Protection;
 use std::marker::Model;
 
 /// A start address as FIG 0/1 can carry it, in capacity units: 10 bits, 0 to 1023 (EN 300 401 clause
@@ -77,6 +78,20 @@ impl NewSub {
             Some(NewSub { sub })
         } else {
             None
+        }
+    }
+
+    /// The sub-channel of these fields, to be added.
+    pub fn from_parts(id: SubId, start: Start, protection: Protection, kbits: u16) -> NewSub
+        ensures { result ≡ record { id = id; start = start; protection = protection; kbits = kbits } }
+    {
+        NewSub {
+            sub: Sub {
+                id,
+                start: start.get(),
+                protection,
+                kbits,
+            },
         }
     }
 

@@ -1,8 +1,9 @@
 -- Reading a label, and a line with its instruction, from left to right, with the first fault that is met: a
 -- field whose bytes are missing, or one that is out of its range.
-use Rattle.std.specs.Prelude.{ℕ, zero, suc, ◌+◌, ◌-◌, ◌==◌, nat_lt, if◌then◌else◌, Bool, true, false, List, [], ◌∷◌, ◌++◌, Option, Some, None, Ok, Err}
+use Rattle.std.specs.Prelude.{◌≡◌, ℕ, zero, suc, ◌+◌, ◌-◌, ◌==◌, nat_lt, if◌then◌else◌, Bool, true, false, List, [], ◌∷◌, ◌++◌, Option, Some, None, Result, Ok, Err}
 use Rattle.std.specs.Int.{w16, w32}
 use Rattle.mux_config.specs.Reading.{Reads, ◌>>=◌, place, byte_at, number_at, judged, byte_within, word_within, flag_at, protection_at, sid_at, component_at}
+use Rattle.mux_config.specs.declared.record.RecordFault.{RecordFault}
 use Rattle.mux_config.specs.declared.record.RecordFault.TheVariants.{Field}
 use Rattle.mux_config.specs.declared.parts.Sub.{Sub}
 use Rattle.mux_config.specs.declared.parts.Carrier.{Carrier}
@@ -15,6 +16,12 @@ use Rattle.plan_code.specs.declared.label.Label.{Label}
 use Rattle.plan_code.specs.declared.instr.Instr.{Instr}
 use Rattle.plan_code.specs.declared.instr.Instr.TheVariants.{Wait, Until, WaitContact, CommitIn, CommitAt, Join, End, Edit as Edits, Test, Jump, Set, Loop}
 use Rattle.plan_code.specs.declared.instr.Line.{Line}
+
+-- what a reader answered is what reading gives: the value, as it is seen by view, and the bytes after it; or the
+-- first fault
+abbrev pub Takes : {X Y : Type 0} → (X → Y) → (rest : List ℕ) → Result X RecordFault → Reads Y → Type 0
+Takes view rest (Ok x) read = read ≡ Ok (view x, rest)
+Takes view rest (Err e) read = read ≡ Err e
 
 -- ---- labels
 
@@ -73,6 +80,9 @@ word_at bytes = number_at w16 bytes
 abbrev pub times_at : (total : ℕ) → List ℕ → Reads ℕ
 times_at total bytes = word_within total 1 65535 bytes
 
+abbrev pub delay_at : (total : ℕ) → List ℕ → Reads ℕ
+delay_at total bytes = word_within total 1 60000 bytes
+
 abbrev pub day_frame_at : (total : ℕ) → List ℕ → Reads ℕ
 day_frame_at total bytes = number_at w32 bytes >>= judged (place total bytes) 0 3599999
 
@@ -93,8 +103,12 @@ new_packet_at total bytes = do
   address ← word_at sub.1
   Ok (record { scid = scid.0; dg = dg.0; ty = ty.0; sub = sub.0; address = address.0 }, address.1)
 
+-- a sub-channel as a carrier: its identifier in two bytes
+abbrev pub wide_sub_id_at : (total : ℕ) → List ℕ → Reads ℕ
+wide_sub_id_at total bytes = word_within total 0 63 bytes
+
 abbrev pub carrier_of_kind : (total kind : ℕ) → List ℕ → Reads Carrier
-carrier_of_kind total zero bytes = word_within total 0 63 bytes >>= λ id. Ok (BySub id.0, id.1)
+carrier_of_kind total zero bytes = wide_sub_id_at total bytes >>= λ id. Ok (BySub id.0, id.1)
 carrier_of_kind total (suc k) bytes = scid_at total bytes >>= λ scid. Ok (ByPacket scid.0, scid.1)
 
 unfoldable pub carrier_at : (total : ℕ) → List ℕ → Reads Carrier
@@ -192,7 +206,7 @@ wait_contact_at total bytes = do
 
 unfoldable pub commit_in_at : (total : ℕ) → List ℕ → Reads Instr
 commit_in_at total bytes = do
-  delay ← word_within total 1 60000 bytes
+  delay ← delay_at total bytes
   Ok (CommitIn delay.0, delay.1)
 
 unfoldable pub commit_at_at : List ℕ → Reads Instr

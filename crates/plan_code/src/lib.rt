@@ -14,6 +14,9 @@ pub mod label;
 pub mod laws;
 pub mod numbers;
 pub mod plan;
+mod read_label;
+mod read_line;
+mod reader;
 
 pub use fault::CodeFault;
 pub use flags::{Contacts, Counters};
