@@ -6,5 +6,6 @@
 #![tactic(auto)]
 
 pub mod event;
+pub mod laws;
 
 pub use event::{Event, Start};

@@ -9,7 +9,7 @@ use Rattle.plan_code.specs.declared.flags.Counters.{Counters}
 use Rattle.plan_code.specs.declared.label.Label.{Label}
 use Rattle.plan_code.specs.declared.instr.Instr.{Instr}
 use Rattle.plan_code.specs.declared.instr.Instr.TheVariants.{Wait, Until, WaitContact, CommitIn, CommitAt, Join, End, Edit as Edits, Test, Jump, Set, Loop}
-use Rattle.plan_code.specs.Flags.{is_set, with_counter, without_counter}
+use Rattle.plan_code.specs.Flags.{is_set, Includes, with_counter, without_counter}
 use Rattle.plan_code.specs.Program.{Program, instr_at, label_at}
 
 -- what is known whenever the machine comes to an instruction
@@ -128,7 +128,7 @@ pub record Fits (t declared : Known) : Type 0 where
   pub current : t.current ≡ declared.current
   pub next : t.next ≡ declared.next
   pub pending : AreInside t.pending declared.pending
-  pub counters : (r : ℕ) → is_set declared.counters r ≡ true → is_set t.counters r ≡ true
+  pub counters : Includes t.counters declared.counters
 
 -- a state comes to a label: it fits it, and has an allowance for all that may run from there
 pub record ComesTo (code : Program) (label : Label) (t : Known) : Type 0 where

@@ -1,0 +1,2 @@
+mod Unmoved
+mod LastLevels
