@@ -1,5 +1,6 @@
 -- Reading a configuration record from left to right, with the first fault that is met.
-use Rattle.std.specs.Prelude.{ℕ, zero, suc, ◌+◌, ◌-◌, ◌==◌, nat_lt, if◌then◌else◌, Bool, false, ◌||◌, List, [], ◌∷◌, ◌++◌, length, take, drop, Result, Ok, Err}
+use Rattle.std.specs.Prelude.{◌≡◌, ℕ, zero, suc, ◌+◌, ◌-◌, ◌==◌, nat_lt, if◌then◌else◌, Bool, List, [], ◌∷◌, ◌++◌, length, take, drop, Result, Ok, Err}
+use Rattle.std.specs.List.{list_any}
 use Rattle.std.specs.Int.{Width, w16, w32, byte_len, from_be_bytes}
 use Rattle.mux_eep.specs.Sizes.{Profile, size_or_fault}
 use Rattle.mux_eep.specs.declared.fault.EepFault.{EepFault}
@@ -9,14 +10,13 @@ use Rattle.mux_config.specs.declared.parts.Sub.{Sub}
 use Rattle.mux_config.specs.declared.parts.Service.{Service}
 use Rattle.mux_config.specs.declared.parts.Component.{Component}
 use Rattle.mux_config.specs.declared.parts.Component.TheVariants.{Sound, Stream, Packet as InPackets}
-use Rattle.mux_config.specs.declared.parts.Carrier.{Carrier}
-use Rattle.mux_config.specs.declared.parts.Carrier.TheVariants.{Sub as BySub, Packet as ByPacket}
 use Rattle.mux_config.specs.declared.parts.Packet.{Packet}
 use Rattle.mux_config.specs.declared.numbers.Sid.{Sid}
 use Rattle.mux_config.specs.declared.numbers.Sid.TheVariants.{Short as ShortSid, Long as LongSid}
 use Rattle.mux_config.specs.declared.record.RecordFault.{RecordFault}
 use Rattle.mux_config.specs.declared.record.RecordFault.TheVariants.{Short, Field, Order}
 use Rattle.mux_config.specs.Configuration.{Configuration, sub_key, sid_key, service_key, packet_key, carrier_of, component_limit}
+use Rattle.mux_config.specs.Edits.{names}
 
 -- what is read, and the bytes after it; or the first fault
 abbrev pub Reads : Type 0 → Type 0
@@ -122,23 +122,12 @@ component_at total bytes = do
   tmid ← byte_at bytes
   component_of total (place total bytes) tmid.0 tmid.1
 
-abbrev pub is_carrier : Carrier → Carrier → Bool
-is_carrier (BySub a) (BySub b) = a == b
-is_carrier (BySub a) (ByPacket b) = false
-is_carrier (ByPacket a) (BySub b) = false
-is_carrier (ByPacket a) (ByPacket b) = a == b
-
--- one of the components names this carrier
-abbrev pub is_named : Carrier → List Component → Bool
-is_named carrier [] = false
-is_named carrier (c ∷ cs) = is_carrier carrier (carrier_of c) || is_named carrier cs
-
 -- `count` components after those that were read before; a carrier that stands twice is at fault at its component
 unfoldable pub components_at : (total : ℕ) → (before : List Component) → (count : ℕ) → List ℕ → Reads (List Component)
 components_at total before zero bytes = Ok (before, bytes)
 components_at total before (suc count) bytes = do
   c ← component_at total bytes
-  fresh ← refuse (is_named (carrier_of c.0) before) (Field (place total bytes))
+  fresh ← refuse (list_any (names (carrier_of c.0)) before) (Field (place total bytes))
   components_at total (before ++ c.0 ∷ []) count c.1
 
 unfoldable pub service_at : (total low : ℕ) → List ℕ → Reads Service
@@ -184,3 +173,15 @@ record_at total bytes = do
 -- the record at the front of these bytes; places are counted from their first byte
 abbrev pub config_at : List ℕ → Reads Configuration
 config_at bytes = record_at (length bytes) bytes
+
+-- ---- a reader
+
+-- what a reader holds: how many bytes there were in all, and those that are left
+pub record Unread : Type 0 where
+  pub total : ℕ
+  pub rest : List ℕ
+
+-- a call that reads: it answers what the reading gives, and leaves what the reading leaves
+abbrev pub Takes : {T : Type 0} → Reads T → Result T RecordFault → Unread → Type 0
+Takes read (Ok x) left = read ≡ Ok (x, left.rest)
+Takes read (Err e) left = read ≡ Err e
