@@ -1,0 +1,4 @@
+pub mod FaultSteps
+pub mod Lengths
+pub mod EntryLists
+pub mod FigLists

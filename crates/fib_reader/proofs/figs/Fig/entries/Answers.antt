@@ -1,0 +1,10 @@
+use Rattle.std.proofs.Common.{subst}
+use Rattle.fib_codec.specs.Grammar.{IsFig}
+use Rattle.fib_reader.proofs.FigLists.{raw_fig}
+use Rattle.fib_reader.proofs.figs.Fig.entries.Goals as goal
+
+pub under-requires : goal.under-requires
+under-requires c =
+    rw c.split_at.ensures.back
+    (raw_fig c.self.inside.bytes.now c.in-Some.second _
+    (subst (IsFig c.self.inside.bytes.now) c.in-Some.ensures.looked_into c.self.invariant))

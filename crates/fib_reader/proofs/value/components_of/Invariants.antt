@@ -1,0 +1,15 @@
+use Rattle.std.proofs.Common.{◌≡◌, ◌+◌, ◌*◌, ◌++◌, length}
+use Rattle.mux_config.specs.Configuration.{Each}
+use Rattle.fib_codec.specs.Ranges.{IsComponentEntry}
+use Rattle.fib_codec.specs.Spelling.{components_bytes}
+use Rattle.fib_reader.proofs.value.components_of.Given as goal
+
+abbrev pub invariant-loop-rest : goal.invariant-loop-rest
+invariant-loop-rest l = record {
+  spelled : components_bytes l.components ++ l.rest ≡ l.bytes;
+  count : 2 * length l.components + length l.rest ≡ length l.bytes;
+  within : Each IsComponentEntry l.components;
+}
+
+abbrev pub decreases-loop-rest : goal.decreases-loop-rest
+decreases-loop-rest l = length l.rest

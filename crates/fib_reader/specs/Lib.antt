@@ -1,0 +1,9 @@
+pub mod Faults
+pub mod Walk
+pub mod Laws
+pub use Rattle.mux_config.specs.Configuration
+pub use Rattle.mux_config.specs.Facts
+pub use Rattle.fib_codec.specs.Crc
+pub use Rattle.fib_codec.specs.Ranges
+pub use Rattle.fib_codec.specs.Spelling
+pub use Rattle.fib_codec.specs.Grammar

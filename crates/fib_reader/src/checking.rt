@@ -1,0 +1,137 @@
+//! The test of a fast information block: its CRC, and then its FIGs and entries from the front.
+
+ghost use Rattle.std.specs.Prelude.{◌≡◌, ℕ, ◌+◌, ◌<◌, ◌≤◌, List, length, Ok, IfOk, IfErr};
+ghost use Rattle.fib_codec.specs.Grammar.{Fig, IsFib};
+ghost use Rattle.fib_reader.specs.Faults.{entries_fault, ensemble_fault, body_fault, fig_fault, figs_fault, IsFault};
+
+use crate::bytes::{byte_at, entry_len_of, is_long_of, is_open_of};
+use crate::fault::FibFault;
+use crate::figs::Figs;
+use fib_codec::is_checked;
+
+/// The place of the first entry that isn't whole.
+fn entries_fault_of(ext: u8, long: bool, place: usize, bytes: &[u8]) -> Option<usize>
+    requires { place + length bytes.now ≤ 32 }
+    ensures { result ≡ entries_fault (length bytes.now) ext long place bytes.now }
+{
+    let mut at = place;
+    let mut rest = bytes;
+    while !rest.is_empty() {
+        let len = entry_len_of(ext, long, rest);
+        if rest.len() < len {
+            return Some(at);
+        }
+        let (_, after) = rest.split_at(len);
+        at += len;
+        rest = after;
+    }
+    None
+}
+
+/// The place of the fault in the bytes after FIG 0/0's extension byte, which are to be one entry.
+fn ensemble_fault_of(place: usize, bytes: &[u8]) -> Option<usize>
+    requires { place + length bytes.now ≤ 32 }
+    ensures { result ≡ ensemble_fault place bytes.now }
+{
+    let len = entry_len_of(0, false, bytes);
+    if bytes.len() < len {
+        return Some(place);
+    }
+    if byte_at(bytes, 2) % 32 > 19 {
+        return Some(place);
+    }
+    if byte_at(bytes, 3) > 249 {
+        return Some(place);
+    }
+    if bytes.len() > len {
+        return Some(place + len);
+    }
+    None
+}
+
+/// The place of the first entry at fault.
+fn body_fault_of(ext: u8, long: bool, place: usize, bytes: &[u8]) -> Option<usize>
+    requires { place + length bytes.now ≤ 32 }
+    ensures { result ≡ body_fault ext long place bytes.now }
+{
+    if ext == 0 {
+        ensemble_fault_of(place, bytes)
+    } else {
+        entries_fault_of(ext, long, place, bytes)
+    }
+}
+
+/// The fault of one FIG, whose header stands at `place` and before `bytes`.
+fn fig_fault_of(place: usize, header: u8, bytes: &[u8]) -> Option<FibFault>
+    requires { place + 1 + length bytes.now ≤ 32 }
+    ensures { result ≡ fig_fault place header bytes.now }
+{
+    if bytes.len() < usize::from(header % 32) {
+        return Some(FibFault::Overrun(place));
+    }
+    if header > 31 {
+        return None;
+    }
+    if header == 0 {
+        return Some(FibFault::Entry(place));
+    }
+    let second = byte_at(bytes, 0);
+    if !is_open_of(second) {
+        return None;
+    }
+    let (fig, _) = bytes.split_at(usize::from(header));
+    let (_, body) = fig.split_at(1);
+    match body_fault_of(second % 32, is_long_of(second), place + 2, body) {
+        Some(at) => Some(FibFault::Entry(at)),
+        None => None,
+    }
+}
+
+/// The first fault of the FIGs in the data field.
+fn figs_fault_of(bytes: &[u8]) -> Option<FibFault>
+    requires { length bytes.now ≤ 30 }
+    ensures { result ≡ figs_fault (length bytes.now) 0 bytes.now }
+{
+    let mut at = 0;
+    let mut rest = bytes;
+    while !rest.is_empty() {
+        let header = byte_at(rest, 0);
+        if header == 255 {
+            return None;
+        }
+        let (_, body) = rest.split_at(1);
+        if let Some(fault) = fig_fault_of(at, header, body) {
+            return Some(fault);
+        }
+        let len = usize::from(header % 32);
+        let (_, after) = body.split_at(len);
+        at += 1 + len;
+        rest = after;
+    }
+    None
+}
+
+/// Checks a fast information block: its CRC, and then its FIGs from the front to the end of the data field
+/// or to an end marker in a header's place (EN 300 401 clauses 5.2.1 and 5.2.2). Where all is well, the
+/// FIGs are lent in order.
+///
+/// FIGs of types 1 to 7, of extensions above 3 and of other ensembles aren't looked into. Those of
+/// extensions 0 to 3 must be whole entries, and FIG 0/0 exactly one with a CIF count in range; besides
+/// that every value of a field is good. Of several faults the first is told:
+/// - `Crc`: the last two bytes aren't the CRC of the others;
+/// - `Overrun`, at the header of a FIG that is longer than what is left;
+/// - `Entry`, at the first byte of an entry at fault, or at the header of a FIG of type 0 without a second byte.
+pub fn check(bytes: &[u8; 32]) -> Result<Figs<'_>, FibFault>
+    ensures figs { IfOk result (λ figs. IsFib bytes.now figs) }
+    ensures every { (figs : List Fig) → IsFib bytes.now figs → result ≡ Ok figs }
+    ensures fault { IfErr result (λ fault. IsFault bytes.now fault) }
+{
+    if !is_checked(bytes) {
+        return Err(FibFault::Crc);
+    }
+    let data = &bytes[..30];
+    if let Some(fault) = figs_fault_of(data) {
+        return Err(fault);
+    }
+    Ok(Figs::of(data))
+}

@@ -1,0 +1,155 @@
+//! The entries of a FIG, lent from its bytes.
+
+ghost use Rattle.std.specs.Prelude.{◌≡◌, ◌<◌, ◌≤◌, [], ◌∷◌, List, length, take, drop, MatchOption};
+ghost use Rattle.fib_codec.specs.Grammar.{entry_len};
+ghost use Rattle.fib_reader.specs.Walk.{entries_of};
+
+use crate::bytes::{byte_at, entry_len_of, is_long_of};
+use crate::value::{ensemble_of, packet_of, service_of, short_of, sub_of};
+use mux_config::Entry;
+use std::marker::Model;
+
+/// An entry as it stands in a FIG of extension 0 to 3, with the extension and the P/D flag that it stands
+/// under. It lends its bytes.
+#[derive(Drop)]
+pub struct RawEntry<'a> {
+    ext: u8,
+    long: bool,
+    bytes: &'a [u8],
+}
+
+impl<'a> Model for RawEntry<'a> {
+    ghost use Rattle.fib_reader.specs.Walk.{Raw, IsRaw};
+
+    ghost Value = { Raw };
+
+    ghost view = { λ r. record { ext = r.ext; long = r.long; bytes = r.bytes.now } };
+
+    ghost invariant = { λ r. IsRaw (record { ext = r.ext; long = r.long; bytes = r.bytes.now }) };
+}
+
+impl<'a> RawEntry<'a> {
+    ghost use Rattle.std.specs.Prelude.{◌≡◌, ◌<◌};
+    ghost use Rattle.fib_reader.specs.Walk.{IsValue};
+
+    /// Its bytes, as they stand in the FIB.
+    pub fn bytes(&self) -> &'a [u8]
+        ensures { result.now ≡ self.now.bytes }
+    {
+        self.bytes
+    }
+
+    /// The extension of its FIG, 0 to 3.
+    pub fn ext(&self) -> u8
+        ensures value { result ≡ self.now.ext }
+        ensures in_range { result < 4 }
+    {
+        self.ext
+    }
+
+    /// The P/D flag of its FIG.
+    pub fn long(&self) -> bool
+        ensures { result ≡ self.now.long }
+    {
+        self.long
+    }
+
+    /// Its value: the one entry that is spelled by its bytes, and for a service the one with an SId of the
+    /// length that the P/D flag says (EN 300 401 clauses 6.2.1, 6.3.1, 6.3.2 and 6.4).
+    pub fn value(&self) -> Entry
+        ensures { IsValue self.now result }
+    {
+        match self.ext {
+            0 => Entry::Ensemble(ensemble_of(self.bytes)),
+            1 => {
+                if byte_at(self.bytes, 2) >= 128 {
+                    Entry::Sub(sub_of(self.bytes))
+                } else {
+                    Entry::Short(short_of(self.bytes))
+                }
+            }
+            2 => Entry::Service(service_of(self.long, self.bytes)),
+            _ => Entry::Packet(packet_of(self.bytes)),
+        }
+    }
+}
+
+/// The bytes of the entry that comes first, and what follows it; None where nothing is left.
+fn split_entry(ext: u8, long: bool, bytes: &[u8]) -> Option<(&[u8], &[u8])>
+    ensures { MatchOption result (entries_of ext long bytes.now ≡ [])
+        (λ x. entries_of ext long bytes.now ≡ x.0.now ∷ entries_of ext long x.1.now) }
+{
+    if bytes.is_empty() {
+        return None;
+    }
+    let len = entry_len_of(ext, long, bytes).min(bytes.len());
+    Some(bytes.split_at(len))
+}
+
+/// The entries of one FIG in order.
+#[derive(Drop)]
+pub struct Entries<'a> {
+    ext: u8,
+    long: bool,
+    rest: &'a [u8],
+}
+
+impl<'a> Model for Entries<'a> {
+    ghost use Rattle.std.specs.Prelude.{List};
+    ghost use Rattle.fib_reader.specs.Walk.{Raw, raws_of, AreRaw};
+
+    ghost Value = { List Raw };
+
+    ghost view = { λ s. raws_of s.ext s.long s.rest.now };
+
+    ghost invariant = { λ s. AreRaw (raws_of s.ext s.long s.rest.now) };
+}
+
+impl<'a> Iterator for Entries<'a> {
+    ghost use Rattle.std.specs.Iterator.{YieldsFirstBy, item_count};
+
+    type Item = RawEntry<'a>;
+
+    ghost next_gives = { YieldsFirstBy (λ e. e) (λ s. s) };
+
+    ghost remaining = { item_count (λ s. s) };
+
+    fn next(&mut self) -> Option<RawEntry<'a>> {
+        let (bytes, rest) = split_entry(self.ext, self.long, self.rest)?;
+        self.rest = rest;
+        Some(RawEntry {
+            ext: self.ext,
+            long: self.long,
+            bytes,
+        })
+    }
+}
+
+impl<'a> Entries<'a> {
+    ghost use Rattle.std.specs.Prelude.{◌≡◌, ◌%◌, []};
+    ghost use Rattle.fib_codec.specs.Grammar.{is_long};
+    ghost use Rattle.fib_reader.specs.Walk.{raws_of, AreRaw};
+
+    /// The entries that follow the second byte of a FIG.
+    pub(crate) fn under(second: u8, body: &'a [u8]) -> Self
+        requires { AreRaw (raws_of (second % 32) (is_long second) body.now) }
+        ensures { result ≡ raws_of (second % 32) (is_long second) body.now }
+    {
+        Entries {
+            ext: second % 32,
+            long: is_long_of(second),
+            rest: body,
+        }
+    }
+
+    /// No entries.
+    pub(crate) fn none() -> Self
+        ensures { result ≡ [] }
+    {
+        Entries {
+            ext: 0,
+            long: false,
+            rest: &[],
+        }
+    }
+}

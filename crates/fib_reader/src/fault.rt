@@ -1,0 +1,20 @@
+//! Why 32 bytes are no fast information block.
+
+use thiserror::Error;
+
+/// Why 32 bytes are no fast information block. Of several faults the first is told: the CRC before all
+/// others, then from the front. Places are byte numbers in the block, from 0.
+#[derive(Clone, Copy, Debug, PartialEq, Eq, Error)]
+pub enum FibFault {
+    /// The last two bytes aren't the CRC of the thirty before them (clause 5.2.1).
+    #[error("Crc")]
+    Crc,
+    /// The FIG whose header stands at this place is longer than the data field has bytes left.
+    #[error("Overrun {0}")]
+    Overrun(usize),
+    /// At this place begins an entry that isn't whole, that has a CIF count out of range, or that follows
+    /// the one entry of FIG 0/0; or here stands the header of a FIG of type 0 without the byte that tells
+    /// its extension.
+    #[error("Entry {0}")]
+    Entry(usize),
+}

@@ -1,0 +1,153 @@
+//! The FIGs of a FIB, lent from its bytes.
+
+ghost use Rattle.std.specs.Prelude.{◌≡◌, ◌≤◌, ◌%◌, [], ◌∷◌, length, drop, MatchOption, IfSome, IfNone, OnSome};
+ghost use Rattle.fib_codec.specs.Grammar.{Open, Other, is_long};
+ghost use Rattle.fib_reader.specs.Walk.{fig_of, entries_of, pieces_of};
+
+use crate::bytes::{byte_at, is_long_of, is_open_of};
+use crate::entries::Entries;
+use fib_codec::Head;
+use std::marker::Model;
+
+/// A FIG, which lends its bytes. Contracts see it as the grammar does: of extension 0 to 3 and of this
+/// ensemble, as its second byte and its entries, and any other one as its bytes.
+#[derive(Drop)]
+pub struct Fig<'a> {
+    bytes: &'a [u8],
+}
+
+impl<'a> Model for Fig<'a> {
+    ghost use Rattle.fib_codec.specs.Grammar as grammar;
+    ghost use Rattle.fib_reader.specs.Walk.{fig_of, IsPiece};
+
+    ghost Value = { grammar.Fig };
+
+    ghost view = { λ f. fig_of f.bytes.now };
+
+    ghost invariant = { λ f. IsPiece f.bytes.now };
+}
+
+impl<'a> Fig<'a> {
+    ghost use Rattle.std.specs.Prelude.{◌≡◌};
+    ghost use Rattle.fib_codec.specs.Grammar.{fig_spelled};
+    ghost use Rattle.fib_reader.specs.Walk.{head_in, entries_in};
+
+    /// Its bytes, as they stand in the FIB.
+    pub fn bytes(&self) -> &'a [u8]
+        ensures { result.now ≡ fig_spelled self.now }
+    {
+        self.bytes
+    }
+
+    /// Its head, where it is of extension 0 to 3 and of this ensemble; None for each other one, which isn't
+    /// looked into.
+    pub fn head(&self) -> Option<Head>
+        ensures { result ≡ head_in self.now }
+    {
+        let second = second_of(self.bytes)?;
+        Some(Head {
+            next: second >= 128,
+            oe: false,
+            long: is_long_of(second),
+            ext: second % 32,
+        })
+    }
+
+    /// Its entries in order; none where it isn't looked into.
+    pub fn entries(&self) -> Entries<'a>
+        ensures { result ≡ entries_in self.now }
+    {
+        match second_of(self.bytes) {
+            Some(second) => {
+                let (_, body) = self.bytes.split_at(2);
+                Entries::under(second, body)
+            }
+            None => Entries::none(),
+        }
+    }
+}
+
+/// The second byte of a FIG that is looked into; None for another one.
+fn second_of(bytes: &[u8]) -> Option<u8>
+    ensures looked_into { IfSome result (λ second.
+        fig_of bytes.now ≡ Open second (entries_of (second % 32) (is_long second) (drop 2 bytes.now))) }
+    ensures long_enough { OnSome result (2 ≤ length bytes.now) }
+    ensures other { IfNone result (fig_of bytes.now ≡ Other bytes.now) }
+{
+    if bytes.len() < 2 {
+        return None;
+    }
+    let second = byte_at(bytes, 1);
+    if byte_at(bytes, 0) >= 32 {
+        return None;
+    }
+    if !is_open_of(second) {
+        return None;
+    }
+    Some(second)
+}
+
+/// The bytes of the FIG that comes first, and what follows it; None at the end and at an end marker.
+fn split_fig(bytes: &[u8]) -> Option<(&[u8], &[u8])>
+    ensures { MatchOption result (pieces_of bytes.now ≡ [])
+        (λ x. pieces_of bytes.now ≡ x.0.now ∷ pieces_of x.1.now) }
+{
+    if bytes.is_empty() {
+        return None;
+    }
+    let header = byte_at(bytes, 0);
+    if header == 255 {
+        return None;
+    }
+    let len = (1 + usize::from(header % 32)).min(bytes.len());
+    Some(bytes.split_at(len))
+}
+
+/// The FIGs of a FIB in order.
+#[derive(Drop)]
+pub struct Figs<'a> {
+    rest: &'a [u8],
+}
+
+impl<'a> Model for Figs<'a> {
+    ghost use Rattle.std.specs.Prelude.{List};
+    ghost use Rattle.fib_codec.specs.Grammar as grammar;
+    ghost use Rattle.mux_config.specs.Configuration.{Each};
+    ghost use Rattle.fib_reader.specs.Walk.{pieces_of, figs_of, IsPiece};
+
+    ghost Value = { List grammar.Fig };
+
+    ghost view = { λ s. figs_of s.rest.now };
+
+    ghost invariant = { λ s. Each IsPiece (pieces_of s.rest.now) };
+}
+
+impl<'a> Iterator for Figs<'a> {
+    ghost use Rattle.std.specs.Iterator.{YieldsFirstBy, item_count};
+
+    type Item = Fig<'a>;
+
+    ghost next_gives = { YieldsFirstBy (λ f. f) (λ s. s) };
+
+    ghost remaining = { item_count (λ s. s) };
+
+    fn next(&mut self) -> Option<Fig<'a>> {
+        let (bytes, rest) = split_fig(self.rest)?;
+        self.rest = rest;
+        Some(Fig { bytes })
+    }
+}
+
+impl<'a> Figs<'a> {
+    ghost use Rattle.std.specs.Prelude.{◌≡◌};
+    ghost use Rattle.mux_config.specs.Configuration.{Each};
+    ghost use Rattle.fib_reader.specs.Walk.{pieces_of, figs_of, IsPiece};
+
+    /// The FIGs of a data field without a fault.
+    pub(crate) fn of(bytes: &'a [u8]) -> Self
+        requires { Each IsPiece (pieces_of bytes.now) }
+        ensures { result ≡ figs_of bytes.now }
+    {
+        Figs { rest: bytes }
+    }
+}

@@ -1,0 +1,15 @@
+//! Reads fast information blocks (EN 300 401 clauses 5.2.1 and 5.2.2) from bytes that anyone may have made.
+#![tactic(auto)]
+
+mod bytes;
+pub mod checking;
+pub mod entries;
+pub mod fault;
+pub mod figs;
+pub mod laws;
+mod value;
+
+pub use checking::check;
+pub use entries::{Entries, RawEntry};
+pub use fault::FibFault;
+pub use figs::{Fig, Figs};
