@@ -1,5 +1,7 @@
 pub mod Walking
 pub mod Rates
+pub mod Sounding
+pub mod Overlaps
 pub mod Telling
 pub mod Same
 pub mod Powers

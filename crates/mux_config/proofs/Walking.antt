@@ -1,6 +1,7 @@
-use Rattle.std.proofs.Common.{◌≡◌, ◌≢◌, ℕ, zero, suc, ◌+◌, ◌≤◌, Bool, true, false, ◌&&◌, ◌||◌, List, [], ◌∷◌, length, drop, Some, refl, sym, ap, ◌∙◌, slice_get, add-one, arith}
+use Rattle.std.proofs.Common.{◌≡◌, ◌≢◌, ℕ, zero, suc, ◌+◌, ◌≤◌, Bool, true, false, ◌&&◌, ◌||◌, List, [], ◌∷◌, length, drop, Some, refl, sym, ap, ◌∙◌, subst, slice_get, add-one, arith}
 use Rattle.std.proofs.Math.ListN.{drop_of_length-le}
 use Rattle.std.specs.List.{list_any}
+use Rattle.mux_config.specs.Configuration.{Each}
 use Rattle.mux_config.specs.Change.{is_same_list}
 
 -- ---- a walk along a list, place by place
@@ -42,3 +43,15 @@ any_step test xs i x e = rw (cut xs i x e) refl
 
 pub any_end : {T : Type 0} (test : T → Bool) (xs : List T) (i : ℕ) → length xs ≤ i → list_any test (drop i xs) ≡ false
 any_end test xs i h = rw (walked xs i h) refl
+
+pub any_more : {T : Type 0} (test : T → Bool) (xs : List T) (i : ℕ) (x : T) (b : Bool) → list_any test (drop i xs) ≡ b → slice_get xs i ≡ Some x → test x ≡ false → list_any test (drop (i + 1) xs) ≡ b
+any_more test xs i x b left e here = ap (λ (t : Bool). t || list_any test (drop (i + 1) xs)) (sym here) ∙ sym (any_step test xs i x e) ∙ left
+
+pub any_found : {T : Type 0} (test : T → Bool) (xs : List T) (i : ℕ) (x : T) (b : Bool) → list_any test (drop i xs) ≡ b → slice_get xs i ≡ Some x → test x ≡ true → true ≡ b
+any_found test xs i x b left e here = ap (λ (t : Bool). t || list_any test (drop (i + 1) xs)) (sym here) ∙ sym (any_step test xs i x e) ∙ left
+
+-- what holds of each member holds of the one at a place
+pub each_at : {T : Type 0} (P : T → Type 0) (xs : List T) (i : ℕ) (x : T) → Each P xs → slice_get xs i ≡ Some x → P x
+each_at P [] i x h e = absurd (cc)
+each_at P (y ∷ ys) zero x h e = let same : y ≡ x = cc in subst P same h.0
+each_at P (y ∷ ys) (suc i) x h e = each_at P ys i x h.1 e

@@ -1,5 +1,5 @@
 -- The ten edits of a configuration: what each changes, and why each is refused, in the order tested.
-use Rattle.std.specs.Prelude.{◌≡◌, ℕ, ◌+◌, ◌==◌, ◌||◌, Bool, false, not, if◌then◌else◌, nat_lt, nat_le, List, [], ◌∷◌, ◌++◌, length, map, filter, Option, Some, None, Result, Ok, Err, is_err, is_some}
+use Rattle.std.specs.Prelude.{◌≡◌, ℕ, ◌+◌, ◌==◌, ◌||◌, Bool, false, not, if◌then◌else◌, nat_lt, nat_le, List, [], ◌∷◌, ◌++◌, length, map, filter, Option, Some, None, Result, Ok, Err, is_err}
 use Rattle.std.specs.List.{list_any}
 use Rattle.mux_config.specs.declared.parts.Sub.{Sub}
 use Rattle.mux_config.specs.declared.parts.Service.{Service}
@@ -18,7 +18,7 @@ use Rattle.mux_eep.specs.Sizes.{size_or_fault}
 
 -- whether a set has a member of this key
 abbrev pub has_entry : {T : Type 0} → (T → ℕ) → ℕ → List T → Bool
-has_entry key k xs = is_some (entry_at key k xs)
+has_entry key k xs = list_any (λ x. key x == k) xs
 
 -- the set with the member of this key changed, and each other one as it was
 abbrev pub changed_at : {T : Type 0} → (T → ℕ) → ℕ → (T → T) → List T → List T

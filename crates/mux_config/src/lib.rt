@@ -17,6 +17,7 @@ pub mod parts;
 pub mod reader;
 pub mod reconfiguration;
 pub mod record;
+pub mod sound;
 pub mod store;
 pub mod table;
 
@@ -31,5 +32,6 @@ pub use parts::{Carrier, Component, Packet, Service, Sub};
 pub use reader::Reader;
 pub use reconfiguration::change;
 pub use record::RecordFault;
+pub use sound::soundness;
 pub use store::Store;
 pub use table::{Keyed, Table};

@@ -1,0 +1,252 @@
+use Rattle.std.proofs.Common.{◌≡◌, ◌≢◌, ℕ, zero, suc, ◌+◌, ◌/◌, ◌%◌, ◌<◌, ◌==◌, Bool, true, false, not, cond, ◌&&◌, ◌||◌, ltb, List, [], ◌∷◌, length, Contains, Option, Some, None, refl, sym, ap, ◌∙◌, subst, ◌⊎◌, inl, inr, arith}
+use Rattle.std.specs.List.{list_any}
+use Rattle.std.proofs.lemmas.Bool.{false≢true, eqb-true, eq-eqb, ne_eqb, ltb-true, lt-ltb, cases_lt}
+use Rattle.std.proofs.Math.Nat.{le-mul_of_pos_right}
+use Rattle.mux_eep.specs.Sizes.{rate_step, units_of_step}
+use Rattle.mux_eep.specs.declared.sizes.EepSet.{EepSet}
+use Rattle.mux_eep.specs.declared.sizes.EepSet.TheVariants.{A, B}
+use Rattle.mux_config.specs.declared.parts.Sub.{Sub}
+use Rattle.mux_config.specs.declared.parts.Service.{Service}
+use Rattle.mux_config.specs.declared.parts.Component.{Component}
+use Rattle.mux_config.specs.declared.parts.Carrier.{Carrier}
+use Rattle.mux_config.specs.declared.parts.Carrier.TheVariants.{Sub as BySub, Packet as ByPacket}
+use Rattle.mux_config.specs.declared.parts.Packet.{Packet}
+use Rattle.mux_config.specs.declared.fault.ConfigFault.{ConfigFault}
+use Rattle.mux_config.specs.declared.fault.ConfigFault.TheVariants.{Overlap, Orphan, AddressUsed, EmptyService}
+use Rattle.mux_config.specs.Configuration.{Configuration, IsConfiguration, Each, IsAscending, IsPlaced, size_of_sub, sub_key, packet_key, carrier_of}
+use Rattle.mux_config.specs.Edits.{has_entry}
+use Rattle.mux_config.specs.Sound.{IsUnitOf, IsThere, IsSound, overlaps, overlap_with, first_of_two, first_overlap, is_missing, has_orphan, has_same_address, has_address_twice, is_empty_service, other_fault, first_fault}
+use Rattle.mux_config.proofs.Rates.{units_positive}
+
+-- ---- members of a list
+
+pub contains_cases : {T : Type 0} (y : T) (ys : List T) (x : T) → Contains (y ∷ ys) x → (y ≡ x) ⊎ Contains ys x
+contains_cases y ys x (zero, within, at) = inl at
+contains_cases y ys x (suc k, within, at) = inr (k, omega arith, at)
+
+pub contains_first : {T : Type 0} (y : T) (ys : List T) → Contains (y ∷ ys) y
+contains_first y ys = (0, omega arith, refl)
+
+pub contains_later : {T : Type 0} (y : T) (ys : List T) (x : T) → Contains ys x → Contains (y ∷ ys) x
+contains_later y ys x (k, within, at) = (suc k, omega arith, at)
+
+pub contains_none : {T : Type 0} (x : T) → Contains [] x → ⊥
+contains_none x (k, within, at) = omega arith
+
+pub each_contains : {T : Type 0} (P : T → Type 0) (xs : List T) (x : T) → Each P xs → Contains xs x → P x
+each_contains P [] x h there = absurd (contains_none x there)
+each_contains P (y ∷ ys) x h there =
+    elim (contains_cases y ys x there) [ inl e ↦ subst P e h.0 | inr later ↦ each_contains P ys x h.1 later ]
+
+either : (a b : Bool) → (a || b) ≡ false → (a ≡ false) × (b ≡ false)
+either true b e = absurd (false≢true (sym e))
+either false b e = (refl, e)
+
+neither : (a b : Bool) → a ≡ false → b ≡ false → (a || b) ≡ false
+neither a b p q = subst (λ (t : Bool). (t || b) ≡ false) (sym p) q
+
+pub none_told : {T : Type 0} (test : T → Bool) (xs : List T) (x : T) → list_any test xs ≡ false → Contains xs x → test x ≡ false
+none_told test [] x e there = absurd (contains_none x there)
+none_told test (y ∷ ys) x e there =
+    let parts = either (test y) (list_any test ys) e in
+    elim (contains_cases y ys x there) [ inl same ↦ ap test (sym same) ∙ parts.0 | inr later ↦ none_told test ys x parts.1 later ]
+
+pub none_holds : {T : Type 0} (test : T → Bool) (xs : List T) → ((x : T) → Contains xs x → test x ≡ false) → list_any test xs ≡ false
+none_holds test [] h = refl
+none_holds test (y ∷ ys) h =
+    neither (test y) (list_any test ys) (h y (contains_first y ys)) (none_holds test ys (λ x there. h x (contains_later y ys x there)))
+
+any_told_by : {T : Type 0} (test : T → Bool) (y : T) (ys : List T) (t : Bool) → test y ≡ t → (t || list_any test ys) ≡ true → (list_any test ys ≡ true → (x : T) × Contains ys x × (test x ≡ true)) → (x : T) × Contains (y ∷ ys) x × (test x ≡ true)
+any_told_by test y ys true is e rest = (y, contains_first y ys, is)
+any_told_by test y ys false is e rest = let found = rest e in (found.0, contains_later y ys found.0 found.1, found.2)
+
+or_true : (a b : Bool) → b ≡ true → (a || b) ≡ true
+or_true true b e = refl
+or_true false b e = e
+
+pub any_told : {T : Type 0} (test : T → Bool) (xs : List T) → list_any test xs ≡ true → (x : T) × Contains xs x × (test x ≡ true)
+any_told test [] e = absurd (false≢true e)
+any_told test (y ∷ ys) e = any_told_by test y ys (test y) refl e (any_told test ys)
+
+pub any_holds : {T : Type 0} (test : T → Bool) (xs : List T) (x : T) → Contains xs x → test x ≡ true → list_any test xs ≡ true
+any_holds test [] x there e = absurd (contains_none x there)
+any_holds test (y ∷ ys) x there e =
+    elim (contains_cases y ys x there) [
+      | inl same ↦ subst (λ (t : Bool). (t || list_any test ys) ≡ true) (sym (ap test same ∙ e)) refl
+      | inr later ↦ or_true (test y) (list_any test ys) (any_holds test ys x later e)
+    ]
+
+-- ---- tests
+
+both_parts : (a b : Bool) → (a && b) ≡ true → (a ≡ true) × (b ≡ true)
+both_parts true b e = (refl, e)
+both_parts false b e = absurd (false≢true e)
+
+both_hold : (a b : Bool) → a ≡ true → b ≡ true → (a && b) ≡ true
+both_hold a b p q = subst (λ (x : Bool). (x && b) ≡ true) (sym p) q
+
+not_false : (t : Bool) → not t ≡ false → t ≡ true
+not_false true e = refl
+not_false false e = absurd (false≢true (sym e))
+
+no_pair : (t : Bool) (fault : ConfigFault) (rest : Option ConfigFault) → cond t (Some fault) rest ≡ None → (t ≡ false) × (rest ≡ None)
+no_pair true fault rest e = absurd (cc)
+no_pair false fault rest e = (refl, e)
+
+no_fault : (one other : Option ConfigFault) → first_of_two one other ≡ None → (one ≡ None) × (other ≡ None)
+no_fault None other e = (refl, e)
+no_fault (Some fault) other e = absurd (cc)
+
+no_tests : (a b c : Bool) → cond a (Some Orphan) (cond b (Some AddressUsed) (cond c (Some EmptyService) None)) ≡ None → (a ≡ false) × (b ≡ false) × (c ≡ false)
+no_tests true b c e = absurd (cc)
+no_tests false true c e = absurd (cc)
+no_tests false false true e = absurd (cc)
+no_tests false false false e = (refl, refl, refl)
+
+all_none : (one : Option ConfigFault) (a b c : Bool) → one ≡ None → a ≡ false → b ≡ false → c ≡ false → first_of_two one (cond a (Some Orphan) (cond b (Some AddressUsed) (cond c (Some EmptyService) None))) ≡ None
+all_none one a b c p q r s = rw (p, q, r, s) refl
+
+some_steps : (set : EepSet) (kbits : ℕ) → 0 < kbits → kbits % rate_step set ≡ 0 → 0 < kbits / rate_step set
+some_steps A kbits h e = omega arith
+some_steps B kbits h e = omega arith
+
+-- ---- spans
+
+sized : (s : Sub) → IsPlaced s → 0 < size_of_sub s
+sized s h =
+    let steps : 0 < s.kbits / rate_step s.protection.set = some_steps s.protection.set s.kbits h.sized.positive h.sized.multiple in
+    let units : 0 < units_of_step s.protection.set s.protection.level = units_positive s.protection.set s.protection.level in
+    let more = le-mul_of_pos_right (units_of_step s.protection.set s.protection.level) steps in
+    omega (arith, units, more)
+
+overlaps_told : (a b : Sub) → IsPlaced a → IsPlaced b → overlaps a b ≡ true → (unit : ℕ) × IsUnitOf a unit × IsUnitOf b unit
+overlaps_told a b h k e =
+    let parts = both_parts (ltb a.start (b.start + size_of_sub b)) (ltb b.start (a.start + size_of_sub a)) e in
+    let one : a.start < b.start + size_of_sub b = ltb-true _ _ parts.0 in
+    let two : b.start < a.start + size_of_sub a = ltb-true _ _ parts.1 in
+    let m = sized a h in
+    let n = sized b k in
+    elim (cases_lt a.start b.start) [ inl lt ↦ (b.start, (omega arith, two), (omega arith, omega (arith, n))) | inr ge ↦ (a.start, (omega arith, omega (arith, m)), (ge, one)) ]
+
+overlaps_found : (a b : Sub) (unit : ℕ) → IsUnitOf a unit → IsUnitOf b unit → overlaps a b ≡ true
+overlaps_found a b unit h k =
+    both_hold _ _ (lt-ltb a.start (b.start + size_of_sub b) (omega (arith, h.0, k.1))) (lt-ltb b.start (a.start + size_of_sub a) (omega (arith, k.0, h.1)))
+
+with_none : (a : Sub) (bs : List Sub) → ((b : Sub) → Contains bs b → overlaps a b ≡ false) → overlap_with a bs ≡ None
+with_none a [] h = refl
+with_none a (b ∷ bs) h =
+    ap (λ (t : Bool). cond t (Some (Overlap a.id b.id)) (overlap_with a bs)) (h b (contains_first b bs)) ∙ with_none a bs (λ x there. h x (contains_later b bs x there))
+
+with_told : (a : Sub) (bs : List Sub) (b : Sub) → overlap_with a bs ≡ None → Contains bs b → overlaps a b ≡ false
+with_told a [] b e there = absurd (contains_none b there)
+with_told a (y ∷ ys) b e there =
+    let parts = no_pair (overlaps a y) (Overlap a.id y.id) (overlap_with a ys) e in
+    elim (contains_cases y ys b there) [ inl same ↦ ap (overlaps a) (sym same) ∙ parts.0 | inr later ↦ with_told a ys b parts.1 later ]
+
+decided : (t : Bool) → (t ≡ true → ⊥) → t ≡ false
+decided true h = absurd (h refl)
+decided false h = refl
+
+apart_found : (xs : List Sub) → IsAscending sub_key xs → Each IsPlaced xs → ((a b : Sub) (unit : ℕ) → Contains xs a → Contains xs b → IsUnitOf a unit → IsUnitOf b unit → a.id ≡ b.id) → first_overlap xs ≡ None
+apart_found [] order placed apart = refl
+apart_found (a ∷ bs) order placed apart =
+    let none : overlap_with a bs ≡ None = with_none a bs (λ b there. decided (overlaps a b) (λ e.
+    let shared = overlaps_told a b placed.0 (each_contains IsPlaced bs b placed.1 there) e in
+    let same : a.id ≡ b.id = apart a b shared.0 (contains_first a bs) (contains_later a bs b there) shared.1 shared.2 in
+    let less : a.id < b.id = each_contains (λ (y : Sub). a.id < y.id) bs b order.0 there in
+    omega arith)) in
+    ap (λ (o : Option ConfigFault). first_of_two o (first_overlap bs)) none
+    ∙ apart_found bs order.1 placed.1 (λ x y unit h k. apart x y unit (contains_later a bs x h) (contains_later a bs y k))
+
+apart_told : (xs : List Sub) → first_overlap xs ≡ None → (a b : Sub) (unit : ℕ) → Contains xs a → Contains xs b → IsUnitOf a unit → IsUnitOf b unit → a.id ≡ b.id
+apart_told [] e a b unit h k i j = absurd (contains_none a h)
+apart_told (x ∷ xs) e a b unit h k i j =
+    let parts = no_fault (overlap_with x xs) (first_overlap xs) e in
+    elim (contains_cases x xs a h) [
+      | inl p ↦ elim (contains_cases x xs b k) [
+        | inl q ↦ ap (λ (s : Sub). s.id) (sym p ∙ q)
+        | inr q ↦ absurd (false≢true (sym (with_told x xs b parts.0 q) ∙ overlaps_found x b unit (subst (λ (s : Sub). IsUnitOf s unit) (sym p) i) j))
+      ]
+      | inr p ↦ elim (contains_cases x xs b k) [
+        | inl q ↦ absurd (false≢true (sym (with_told x xs a parts.0 p) ∙ overlaps_found x a unit (subst (λ (s : Sub). IsUnitOf s unit) (sym q) j) i))
+        | inr q ↦ apart_told xs parts.1 a b unit p q i j
+      ]
+    ]
+
+-- ---- carriers
+
+missing_told : (c : Configuration) (carrier : Carrier) → is_missing c carrier ≡ false → IsThere c carrier
+missing_told c (BySub id) e =
+    let found = any_told (λ x. sub_key x == id) c.subs (not_false (has_entry sub_key id c.subs) e) in
+    (found.0, found.1, eqb-true _ _ found.2)
+missing_told c (ByPacket scid) e =
+    let found = any_told (λ x. packet_key x == scid) c.packets (not_false (has_entry packet_key scid c.packets) e) in
+    (found.0, found.1, eqb-true _ _ found.2)
+
+missing_found : (c : Configuration) (carrier : Carrier) → IsThere c carrier → is_missing c carrier ≡ false
+missing_found c (BySub id) there = ap not (any_holds (λ x. sub_key x == id) c.subs there.0 there.1 (eq-eqb _ _ there.2))
+missing_found c (ByPacket scid) there = ap not (any_holds (λ x. packet_key x == scid) c.packets there.0 there.1 (eq-eqb _ _ there.2))
+
+-- ---- addresses
+
+same_address_told : (p q : Packet) → p.sub ≡ q.sub → p.address ≡ q.address → has_same_address p q ≡ true
+same_address_told p q e f = both_hold _ _ (eq-eqb _ _ e) (eq-eqb _ _ f)
+
+twice_told : (ps : List Packet) → has_address_twice ps ≡ false → (p q : Packet) → Contains ps p → Contains ps q → p.sub ≡ q.sub → p.address ≡ q.address → p.scid ≡ q.scid
+twice_told [] e p q h k i j = absurd (contains_none p h)
+twice_told (x ∷ xs) e p q h k i j =
+    let parts = either (list_any (has_same_address x) xs) (has_address_twice xs) e in
+    elim (contains_cases x xs p h) [
+      | inl s ↦ elim (contains_cases x xs q k) [
+        | inl t ↦ ap (λ (y : Packet). y.scid) (sym s ∙ t)
+        | inr t ↦ absurd (false≢true (sym (none_told (has_same_address x) xs q parts.0 t) ∙ same_address_told x q (ap (λ (y : Packet). y.sub) s ∙ i) (ap (λ (y : Packet). y.address) s ∙ j)))
+      ]
+      | inr s ↦ elim (contains_cases x xs q k) [
+        | inl t ↦ absurd (false≢true (sym (none_told (has_same_address x) xs p parts.0 s) ∙ same_address_told x p (ap (λ (y : Packet). y.sub) t ∙ sym i) (ap (λ (y : Packet). y.address) t ∙ sym j)))
+        | inr t ↦ twice_told xs parts.1 p q s t i j
+      ]
+    ]
+
+twice_none : (ps : List Packet) → IsAscending packet_key ps → ((p q : Packet) → Contains ps p → Contains ps q → p.sub ≡ q.sub → p.address ≡ q.address → p.scid ≡ q.scid) → has_address_twice ps ≡ false
+twice_none [] order h = refl
+twice_none (x ∷ xs) order h =
+    let first : list_any (has_same_address x) xs ≡ false = none_holds (has_same_address x) xs (λ q there. decided (has_same_address x q) (λ e.
+    let parts = both_parts _ _ e in
+    let same : x.scid ≡ q.scid = h x q (contains_first x xs) (contains_later x xs q there) (eqb-true _ _ parts.0) (eqb-true _ _ parts.1) in
+    let less : x.scid < q.scid = each_contains (λ (y : Packet). x.scid < y.scid) xs q order.0 there in
+    omega arith)) in
+    neither _ _ first (twice_none xs order.1 (λ p q i j. h p q (contains_later x xs p i) (contains_later x xs q j)))
+
+-- ---- all together
+
+filled_told : (s : Service) → is_empty_service s ≡ false → s.components ≢ []
+filled_told s e empty = false≢true (sym e ∙ eq-eqb _ _ (ap length empty))
+
+empty_told : (ms : List Component) → length ms ≡ 0 → ms ≡ []
+empty_told [] e = refl
+empty_told (m ∷ ms) e = absurd (omega arith)
+
+pub sound_told : (c : Configuration) → first_fault c ≡ None → IsSound c
+sound_told c e =
+    let one = no_fault (first_overlap c.subs) (other_fault c) e in
+    let two = no_tests (has_orphan c) (has_address_twice c.packets) (list_any is_empty_service c.services) one.1 in
+    let orphans = either (list_any (λ (s : Service). list_any (λ (m : Component). is_missing c (carrier_of m)) s.components) c.services) (list_any (λ (p : Packet). is_missing c (BySub p.sub)) c.packets) two.0 in
+    record {
+      apart = apart_told c.subs one.0;
+      carried = λ s m h k. missing_told c (carrier_of m) (none_told (λ (m : Component). is_missing c (carrier_of m)) s.components m (none_told (λ (s : Service). list_any (λ (m : Component). is_missing c (carrier_of m)) s.components) c.services s orphans.0 h) k);
+      placed = λ p h. missing_told c (BySub p.sub) (none_told (λ (p : Packet). is_missing c (BySub p.sub)) c.packets p orphans.1 h);
+      addressed = twice_told c.packets two.1;
+      filled = λ s h. filled_told s (none_told is_empty_service c.services s two.2 h);
+    }
+
+pub sound_found : (c : Configuration) → IsConfiguration c → IsSound c → first_fault c ≡ None
+sound_found c is sound =
+    let overlap : first_overlap c.subs ≡ None = apart_found c.subs is.subs_ascend is.subs_placed sound.apart in
+    let components : list_any (λ (s : Service). list_any (λ (m : Component). is_missing c (carrier_of m)) s.components) c.services ≡ false =
+    none_holds (λ (s : Service). list_any (λ (m : Component). is_missing c (carrier_of m)) s.components) c.services (λ s h. none_holds (λ (m : Component). is_missing c (carrier_of m)) s.components (λ m k. missing_found c (carrier_of m) (sound.carried s m h k))) in
+    let packets : list_any (λ (p : Packet). is_missing c (BySub p.sub)) c.packets ≡ false =
+    none_holds (λ (p : Packet). is_missing c (BySub p.sub)) c.packets (λ p h. missing_found c (BySub p.sub) (sound.placed p h)) in
+    let addresses : has_address_twice c.packets ≡ false = twice_none c.packets is.packets_ascend sound.addressed in
+    let empty : list_any is_empty_service c.services ≡ false =
+    none_holds is_empty_service c.services (λ s h. ne_eqb _ _ (λ e. sound.filled s h (empty_told s.components e))) in
+    all_none (first_overlap c.subs) (has_orphan c) (has_address_twice c.packets) (list_any is_empty_service c.services) overlap (neither _ _ components packets) addresses empty
