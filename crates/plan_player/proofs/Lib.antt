@@ -1,2 +1,3 @@
 mod Unmoved
 mod LastLevels
+mod Vectors
