@@ -1,14 +1,15 @@
 -- That the FIGs which the walk meets are those of the grammar, and are there exactly where no fault is.
-use Rattle.std.proofs.Common.{◌≡◌, ◌≢◌, ℕ, zero, suc, ◌+◌, ◌/◌, ◌-◌, ◌%◌, ◌<◌, ◌≤◌, ◌==◌, ◌++◌, inl, inr, Bool, true, false, cond, nat_lt, List, [], ◌∷◌, length, get_or, take, drop, map, flat_map, Option, Some, None, refl, ap, sym, ◌∙◌, subst, lt-ltb, le-ltb, arith, length-drop}
+use Rattle.std.proofs.Common.{◌≡◌, ◌≢◌, ℕ, zero, suc, ◌+◌, ◌*◌, ◌/◌, ◌-◌, ◌%◌, ◌<◌, ◌≤◌, ◌==◌, ◌++◌, inl, inr, Bool, true, false, cond, nat_lt, List, [], ◌∷◌, length, get_or, take, drop, map, flat_map, Option, Some, None, refl, ap, sym, ◌∙◌, subst, lt-ltb, le-ltb, arith, length-drop}
 use Rattle.std.specs.Prelude.{◌&&◌}
 use Rattle.std.proofs.lemmas.Bool.{ltb-false, ltb-true, cases_lt, eq-eqb, ne_eqb, eqb-true, eqb-false}
 use Rattle.std.proofs.lemmas.List.{take-append-drop, length-take-le, length-append, append-nil}
 use Rattle.std.proofs.Math.Seq.{take-append_seam, drop-append_seam}
 use Rattle.mux_config.specs.Configuration.{Each}
-use Rattle.fib_codec.specs.Grammar.{IsFib, Fig, Open, Other, entry_len, ensemble_len, AreEntries, IsCounted, IsBody, IsOther, IsFig, AreFigs, is_open, is_long, fig_spelled}
+use Rattle.fib_codec.specs.Grammar.{IsFib, Fig, Open, Other, entry_len, ensemble_len, sub_len, packet_len, AreEntries, IsCounted, IsBody, IsOther, IsFig, AreFigs, is_open, is_long, fig_spelled}
 use Rattle.fib_reader.specs.Faults.{IsFault, entries_fault, ensemble_fault, body_fault, entry_at_fault, fig_fault, figs_fault, or_else}
 use Rattle.fib_reader.specs.declared.fault.FibFault.{FibFault}
 use Rattle.fib_reader.specs.declared.fault.FibFault.TheVariants.{Overrun, Entry}
+use Rattle.fib_reader.specs.Raw.{raw_of}
 use Rattle.fib_reader.specs.Walk.{AreRaw, entries_of, fig_of, IsPiece, pieces_within, pieces_of, figs_of}
 use Rattle.fib_reader.proofs.EntryLists.{through, same_entries, sound_entries, complete_entries}
 
@@ -402,12 +403,31 @@ spelled_fig bytes (Open second es) h =
     h.1 ∙ ap (λ x. (1 + length x) ∷ second ∷ x) (spelled_entries (second % 32) (is_long second) h.0 es h.4.0)
 spelled_fig bytes (Other given) h = sym h.0
 
+-- the P/D flag counts in FIG 0/2 alone
+flag_counts :
+    (a b c long : Bool) (x y p q z : ℕ)
+    → cond a x (cond b y (cond c (cond long p q) z)) ≡ cond a x (cond b y (cond c (cond (c && long) p q) z))
+flag_counts true b c long x y p q z = refl
+flag_counts false true c long x y p q z = refl
+flag_counts false false true long x y p q z = refl
+flag_counts false false false long x y p q z = refl
+
+entry_len-flag : (ext : ℕ) (long : Bool) (bytes : List ℕ) → entry_len ext long bytes ≡ entry_len ext (ext == 2 && long) bytes
+entry_len-flag ext long bytes =
+    flag_counts (ext == 0) (ext == 1) (ext == 2) long (ensemble_len bytes) (sub_len bytes)
+    (5 + 2 * (get_or bytes 4 0 % 16)) (3 + 2 * (get_or bytes 2 0 % 16)) (packet_len bytes)
+
 raw_each :
     (ext : ℕ) (long : Bool) (bytes : List ℕ) (es : List (List ℕ)) → ext < 4 → AreEntries ext long bytes es
-    → (ext ≡ 0 → Each IsCounted es) → AreRaw (map (λ e. record { ext = ext; long = long; bytes = e }) es)
+    → (ext ≡ 0 → Each IsCounted es) → AreRaw (map (raw_of ext long) es)
 raw_each ext long bytes [] low are counted = tt
 raw_each ext long bytes (e ∷ es) low are counted = (
-  record { looked_into = low; whole = are.2; counted = λ zero_ext. (counted zero_ext).0 },
+  record {
+    looked_into = low;
+    whole = are.2 ∙ entry_len-flag ext long e;
+    counted = λ zero_ext. (counted zero_ext).0;
+    no_sid = λ other. and_false (ext == 2) long (ne_eqb ext 2 other);
+  },
   raw_each ext long are.0 es low are.3 (λ zero_ext. (counted zero_ext).1),
 )
 
@@ -417,7 +437,7 @@ and_true_right false b h = absurd (cc)
 
 pub raw_fig :
     (bytes : List ℕ) (second : ℕ) (es : List (List ℕ)) → IsFig bytes (Open second es)
-    → AreRaw (map (λ e. record { ext = second % 32; long = is_long second; bytes = e }) es)
+    → AreRaw (map (raw_of (second % 32) (is_long second)) es)
 raw_fig bytes second es h =
     let low : second % 32 < 4 = ltb-true (second % 32) 4 (and_true_right (second / 64 % 2 == 0) (nat_lt (second % 32) 4) h.3) in
     raw_each (second % 32) (is_long second) h.0 es low h.4.0

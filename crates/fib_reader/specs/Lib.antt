@@ -1,8 +1,12 @@
 pub mod Faults
+pub mod Raw
 pub mod Walk
+pub mod Listening
 pub mod Laws
 pub use Rattle.mux_config.specs.Configuration
 pub use Rattle.mux_config.specs.Facts
+pub use Rattle.mux_config.specs.Tables
+pub use Rattle.mux_config.specs.Edits
 pub use Rattle.fib_codec.specs.Crc
 pub use Rattle.fib_codec.specs.Ranges
 pub use Rattle.fib_codec.specs.Spelling

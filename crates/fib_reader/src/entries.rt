@@ -9,8 +9,7 @@ use crate::value::{ensemble_of, packet_of, service_of, short_of, sub_of};
 use mux_config::Entry;
 use std::marker::Model;
 
-/// An entry as it stands in a FIG of extension 0 to 3, with the extension and the P/D flag that it stands
-/// under. It lends its bytes.
+/// An entry of FIG 0/0 to 0/3 as it is sent. It lends its bytes.
 #[derive(Drop)]
 pub struct RawEntry<'a> {
     ext: u8,
@@ -19,7 +18,7 @@ pub struct RawEntry<'a> {
 }
 
 impl<'a> Model for RawEntry<'a> {
-    ghost use Rattle.fib_reader.specs.Walk.{Raw, IsRaw};
+    ghost use Rattle.fib_reader.specs.Raw.{Raw, IsRaw};
 
     ghost Value = { Raw };
 
@@ -30,7 +29,7 @@ impl<'a> Model for RawEntry<'a> {
 
 impl<'a> RawEntry<'a> {
     ghost use Rattle.std.specs.Prelude.{◌≡◌, ◌<◌};
-    ghost use Rattle.fib_reader.specs.Walk.{IsValue};
+    ghost use Rattle.fib_reader.specs.Raw.{IsValue};
 
     /// Its bytes, as they stand in the FIB.
     pub fn bytes(&self) -> &'a [u8]
@@ -47,15 +46,14 @@ impl<'a> RawEntry<'a> {
         self.ext
     }
 
-    /// The P/D flag of its FIG.
+    /// Whether it has an SId of 32 bits: the P/D flag of its FIG in FIG 0/2, and false in each other.
     pub fn long(&self) -> bool
         ensures { result ≡ self.now.long }
     {
         self.long
     }
 
-    /// Its value: the one entry that is spelled by its bytes, and for a service the one with an SId of the
-    /// length that the P/D flag says (EN 300 401 clauses 6.2.1, 6.3.1, 6.3.2 and 6.4).
+    /// Its value: the entry that is sent so (EN 300 401 clauses 6.2.1, 6.3.1, 6.3.2 and 6.4).
     pub fn value(&self) -> Entry
         ensures { IsValue self.now result }
     {
@@ -96,7 +94,8 @@ pub struct Entries<'a> {
 
 impl<'a> Model for Entries<'a> {
     ghost use Rattle.std.specs.Prelude.{List};
-    ghost use Rattle.fib_reader.specs.Walk.{Raw, raws_of, AreRaw};
+    ghost use Rattle.fib_reader.specs.Raw.{Raw};
+    ghost use Rattle.fib_reader.specs.Walk.{raws_of, AreRaw};
 
     ghost Value = { List Raw };
 
@@ -119,7 +118,7 @@ impl<'a> Iterator for Entries<'a> {
         self.rest = rest;
         Some(RawEntry {
             ext: self.ext,
-            long: self.long,
+            long: self.ext == 2 && self.long,
             bytes,
         })
     }

@@ -18,3 +18,14 @@ pub enum FibFault {
     #[error("Entry {0}")]
     Entry(usize),
 }
+
+/// Why a listener didn't take a FIB. It then knows what it knew before.
+#[derive(Clone, Copy, Debug, PartialEq, Eq, Error)]
+pub enum ListenFault {
+    /// The 32 bytes are no fast information block.
+    #[error("{0}")]
+    Fib(FibFault),
+    /// A 65th service or packet component would have entered one picture.
+    #[error("Full")]
+    Full,
+}

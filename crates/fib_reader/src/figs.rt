@@ -30,7 +30,7 @@ impl<'a> Model for Fig<'a> {
 impl<'a> Fig<'a> {
     ghost use Rattle.std.specs.Prelude.{◌≡◌};
     ghost use Rattle.fib_codec.specs.Grammar.{fig_spelled};
-    ghost use Rattle.fib_reader.specs.Walk.{head_in, entries_in};
+    ghost use Rattle.fib_reader.specs.Raw.{head_in, entries_in};
 
     /// Its bytes, as they stand in the FIB.
     pub fn bytes(&self) -> &'a [u8]

@@ -11,5 +11,5 @@ mod value;
 
 pub use checking::check;
 pub use entries::{Entries, RawEntry};
-pub use fault::FibFault;
+pub use fault::{FibFault, ListenFault};
 pub use figs::{Fig, Figs};

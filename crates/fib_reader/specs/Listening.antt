@@ -1,0 +1,134 @@
+-- What a receiver believes of the multiplex after what it has heard: a fold over the FIGs of undamaged FIBs
+-- (EN 300 401 clauses 6.2.1, 6.3.1, 6.3.2, 6.4 and 6.5).
+use Rattle.std.specs.Prelude.{◌≡◌, ℕ, ◌+◌, ◌*◌, ◌/◌, ◌==◌, ◌||◌, Bool, true, false, if◌then◌else◌, nat_lt, List, [], ◌∷◌, ◌++◌, length, get_or, Option, Some, None, Result, Ok, Err}
+use Rattle.mux_config.specs.Tables.{with_entry, with_entry_changed}
+use Rattle.mux_config.specs.Edits.{has_entry}
+use Rattle.fib_codec.specs.Grammar.{Fig, Open, Other, IsFib, is_next}
+use Rattle.fib_reader.specs.declared.fault.ListenFault.{ListenFault}
+use Rattle.fib_reader.specs.declared.fault.ListenFault.TheVariants.{Fib, Full}
+use Rattle.fib_reader.specs.Faults.{IsFault}
+use Rattle.fib_reader.specs.Raw.{Raw, entries_in}
+
+-- the entries heard of one configuration, each list in ascending order of identifiers
+pub record Pictured : Type 0 where
+  pub subs : List Raw
+  pub services : List Raw
+  pub packets : List Raw
+
+abbrev pub blank : Pictured
+blank = record { subs = []; services = []; packets = [] }
+
+-- in ascending order of extension and identifier
+abbrev pub all_entries : Pictured → List Raw
+all_entries p = p.subs ++ p.services ++ p.packets
+
+-- the identifier that tells an entry from others of its extension: the SubChId in both forms of FIG 0/1, the SId
+-- with short ones before long ones, the SCId
+abbrev pub word_at : ℕ → List ℕ → ℕ
+word_at place bytes = get_or bytes place 0 * 256 + get_or bytes (place + 1) 0
+
+abbrev pub identifier_of : Raw → ℕ
+identifier_of raw =
+    if raw.ext == 1 then get_or raw.bytes 0 0 / 4
+    else if raw.ext == 2
+    then (if raw.long then 65536 + (word_at 0 raw.bytes * 65536 + word_at 2 raw.bytes) else word_at 0 raw.bytes)
+    else word_at 0 raw.bytes / 16
+
+-- an entry stands in place of one with the same identifier, else beside the others
+abbrev pub is_known : Raw → List Raw → Bool
+is_known raw raws = has_entry identifier_of (identifier_of raw) raws
+
+abbrev pub kept : Raw → List Raw → List Raw
+kept raw raws = if is_known raw raws then with_entry_changed identifier_of raw raws else with_entry identifier_of raw raws
+
+-- there are 64 sub-channels at most; of services and of packet components a picture has room for 64 each
+abbrev pub has_room : Raw → List Raw → Bool
+has_room raw raws = is_known raw raws || nat_lt (length raws) 64
+
+-- the picture with an entry of FIG 0/1 to 0/3; None where it has no room for it
+abbrev pub pictured : Raw → Pictured → Option Pictured
+pictured raw p =
+    if raw.ext == 1 then Some (record p { subs = kept raw p.subs })
+    else if raw.ext == 2
+    then (if has_room raw p.services then Some (record p { services = kept raw p.services }) else None)
+    else (if has_room raw p.packets then Some (record p { packets = kept raw p.packets }) else None)
+
+-- what a listener knows: whether it has heard a FIG 0/0 yet, the current and the next configuration as far as it
+-- has heard them, and the low part of the CIF count at which a swap is awaited
+pub record Listening : Type 0 where
+  pub tuned : Bool
+  pub current : Pictured
+  pub next : Pictured
+  pub awaited : Option ℕ
+
+abbrev pub untuned : Listening
+untuned = record { tuned = false; current = blank; next = blank; awaited = None }
+
+-- FIG 0/0: the change flags, the low part of the CIF count, the occurrence change
+abbrev pub flags_of : Raw → ℕ
+flags_of raw = get_or raw.bytes 2 0 / 64
+
+abbrev pub low_part_of : Raw → ℕ
+low_part_of raw = get_or raw.bytes 3 0
+
+abbrev pub occurrence_of : Raw → ℕ
+occurrence_of raw = get_or raw.bytes 4 0
+
+-- the awaited swap has been made: the flags are gone, or the count is the awaited one
+abbrev pub is_made : Option ℕ → Raw → Bool
+is_made None raw = false
+is_made (Some low) raw = flags_of raw == 0 || low_part_of raw == low
+
+abbrev pub swapped : Listening → Listening
+swapped l = record l { current = l.next; next = blank; awaited = None }
+
+abbrev pub awaiting : Raw → Listening → Listening
+awaiting raw l = if flags_of raw == 0 then l else record l { awaited = Some (occurrence_of raw) }
+
+abbrev pub at_ensemble : Raw → Listening → Listening
+at_ensemble raw l = awaiting raw (record (if is_made l.awaited raw then swapped l else l) { tuned = true })
+
+-- an entry of FIG 0/1 to 0/3 goes into the picture that its C/N flag names
+abbrev pub into : Bool → Listening → Option Pictured → Option Listening
+into next l None = None
+into true l (Some p) = Some (record l { next = p })
+into false l (Some p) = Some (record l { current = p })
+
+abbrev pub picture_of : Bool → Listening → Pictured
+picture_of next l = if next then l.next else l.current
+
+-- one entry, under this C/N flag; before the first FIG 0/0 the others are passed over
+abbrev pub hear_entry : Bool → Raw → Listening → Option Listening
+hear_entry next raw l =
+    if raw.ext == 0 then Some (at_ensemble raw l)
+    else if l.tuned then into next l (pictured raw (picture_of next l))
+    else Some l
+
+abbrev pub and_then : Option Listening → (Listening → Option Listening) → Option Listening
+and_then None more = None
+and_then (Some l) more = more l
+
+-- in order; None where a picture has no room for an entry
+abbrev pub hear_entries : Bool → List Raw → Listening → Option Listening
+hear_entries next [] l = Some l
+hear_entries next (raw ∷ raws) l = and_then (hear_entry next raw l) (hear_entries next raws)
+
+abbrev pub hear_fig : Fig → Listening → Option Listening
+hear_fig (Open second es) l = hear_entries (is_next second) (entries_in (Open second es)) l
+hear_fig (Other given) l = Some l
+
+abbrev pub hear_figs : List Fig → Listening → Option Listening
+hear_figs [] l = Some l
+hear_figs (f ∷ fs) l = and_then (hear_fig f l) (hear_figs fs)
+
+-- what the answer says of the 32 bytes, and what the listener then knows: at a fault and without room what it
+-- knew before
+abbrev pub Hears : List ℕ → Listening → Listening → Result (Unit {0}) ListenFault → Type 0
+Hears bytes old new (Ok done) = (figs : List Fig) × IsFib bytes figs × (hear_figs figs old ≡ Some new)
+Hears bytes old new (Err (Fib fault)) = IsFault bytes fault × (new ≡ old)
+Hears bytes old new (Err Full) = ((figs : List Fig) × IsFib bytes figs × (hear_figs figs old ≡ None)) × (new ≡ old)
+
+-- so it is settled by the FIGs alone
+abbrev pub Heard : Option Listening → Listening → Listening → Result (Unit {0}) ListenFault → Type 0
+Heard None old new answer = (answer ≡ Err Full) × (new ≡ old)
+Heard (Some heard) old new answer = (answer ≡ Ok tt) × (new ≡ heard)

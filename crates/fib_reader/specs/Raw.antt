@@ -1,0 +1,44 @@
+-- Entries of FIGs as they are sent, as their bytes (EN 300 401 clauses 5.2.2.1, 6.2.1, 6.3.1, 6.3.2 and 6.4).
+use Rattle.std.specs.Prelude.{◌≡◌, ◌≢◌, ℕ, ◌%◌, ◌<◌, ◌==◌, ◌&&◌, Bool, false, List, [], map, Option, Some, None}
+use Rattle.mux_config.specs.declared.entry.Entry.{Entry}
+use Rattle.fib_codec.specs.declared.head.Head.{Head}
+use Rattle.fib_codec.specs.Ranges.{IsWithin}
+use Rattle.fib_codec.specs.Spelling.{entry_bytes, ext_of, is_long_entry}
+use Rattle.fib_codec.specs.Grammar.{Fig, Open, Other, IsEntry, IsCounted, is_next, is_long}
+
+-- an entry as it is sent: its extension, whether it has an SId of 32 bits, and its bytes
+pub record Raw : Type 0 where
+  pub ext : ℕ
+  pub long : Bool
+  pub bytes : List ℕ
+
+-- as the grammar has it
+pub record IsRaw (raw : Raw) : Type 0 where
+  pub looked_into : raw.ext < 4
+  pub whole : IsEntry raw.ext raw.long raw.bytes
+  pub counted : raw.ext ≡ 0 → IsCounted raw.bytes
+  pub no_sid : raw.ext ≢ 2 → raw.long ≡ false
+
+-- the entry of these bytes in a FIG of this extension and P/D flag, which speaks of SIds alone
+abbrev pub raw_of : ℕ → Bool → List ℕ → Raw
+raw_of ext long bytes = record { ext = ext; long = ext == 2 && long; bytes = bytes }
+
+-- the entries of a FIG, none of one that isn't looked into
+abbrev pub entries_in : Fig → List Raw
+entries_in (Open second es) = map (raw_of (second % 32) (is_long second)) es
+entries_in (Other given) = []
+
+-- the head of a FIG that is looked into
+abbrev pub head_in : Fig → Option Head
+head_in (Open second es) =
+    Some (record { next = is_next second; oe = false; long = is_long second; ext = second % 32 })
+head_in (Other given) = None
+
+-- a value as it is sent
+abbrev pub raw_entry : Entry → Raw
+raw_entry e = record { ext = ext_of e; long = is_long_entry e; bytes = entry_bytes e }
+
+-- this is the value that is sent so
+pub record IsValue (raw : Raw) (e : Entry) : Type 0 where
+  pub spelled : raw ≡ raw_entry e
+  pub within : IsWithin e
