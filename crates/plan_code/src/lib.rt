@@ -6,6 +6,7 @@
 //! `specs/Machine.antt`; the file in `specs/Spelling.antt` and `specs/Reading.antt`.
 #![tactic(auto)]
 
+pub mod code;
 pub mod fault;
 pub mod flags;
 pub mod hold;
@@ -14,10 +15,12 @@ pub mod label;
 pub mod laws;
 pub mod numbers;
 pub mod plan;
+mod ranges;
 mod read_label;
 mod read_line;
 mod reader;
 
+pub use code::Code;
 pub use fault::CodeFault;
 pub use flags::{Contacts, Counters};
 pub use hold::Hold;

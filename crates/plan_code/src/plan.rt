@@ -1,5 +1,7 @@
 //! What a code declares for the whole of its run.
 
+ghost use Rattle.std.specs.Prelude.{◌↔◌, IsTrue};
+
 /// The plan of an ensemble: what its frames carry and what its notices promise.
 #[derive(Clone, Copy, Debug, PartialEq, Eq)]
 pub struct Plan {
@@ -12,4 +14,19 @@ pub struct Plan {
     pub notice: u8,
     /// The budget, 1 to 255 in a code: how many instructions run in one frame at most.
     pub budget: u8,
+}
+
+impl Plan {
+    ghost use Rattle.plan_code.specs.Program.{IsPlan};
+
+    /// Whether each field is within its limits.
+    pub fn is_within_limits(&self) -> bool
+        ensures { IsTrue result ↔ IsPlan self.now }
+    {
+        let has_period = 1 <= self.period && self.period <= 60;
+        let has_notice = 12 <= self.notice && self.notice <= 248;
+        let has_budget = 1 <= self.budget;
+        let _eid = self.eid;
+        has_period && has_notice && has_budget
+    }
 }

@@ -1,0 +1,14 @@
+use Rattle.std.proofs.Common.{ℕ, ◌-◌, ◌<◌, ◌≤◌, length, get_or}
+use Rattle.plan_code.specs.declared.label.Label.{Label}
+use Rattle.plan_code.proofs.code.search.Given as goal
+
+abbrev pub invariant-loop-low : goal.invariant-loop-low
+invariant-loop-low l = record {
+  ordered : l.low ≤ l.high;
+  within : l.high ≤ length l.labels;
+  below : (k : ℕ) (d : Label) → k < l.low → (get_or l.labels k d).pc < l.pc;
+  above : (k : ℕ) (d : Label) → l.high ≤ k → k < length l.labels → l.pc < (get_or l.labels k d).pc;
+}
+
+abbrev pub decreases-loop-low : goal.decreases-loop-low
+decreases-loop-low l = l.high - l.low

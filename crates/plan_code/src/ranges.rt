@@ -1,0 +1,146 @@
+//! What the types of operands say: each is within its range. These functions do nothing; a caller learns
+//! their contracts.
+
+ghost use Rattle.std.specs.Prelude.{◌<◌};
+ghost use Rattle.mux_config.specs.Configuration.{Each, IsConfiguration, IsSid, IsComponent};
+ghost use Rattle.plan_code.specs.Program.{IsNewSub, IsNewPacket, IsCarrier, IsEdit, IsInstr, IsLine};
+
+use crate::instr::{Instr, Line};
+use mux_config::{Carrier, Component, Config, Edit, NewSub, Packet, Sid};
+
+fn sid_in_range(sid: Sid)
+    ensures { IsSid sid }
+{
+    match sid {
+        Sid::Short(_) => {}
+        Sid::Long(_) => {}
+    }
+}
+
+fn component_in_range(component: Component)
+    ensures { IsComponent component }
+{
+    match component {
+        Component::Sound { ty, sub } | Component::Stream { ty, sub } => {
+            ty.get();
+            sub.get();
+        }
+        Component::Packet { scid } => {
+            scid.get();
+        }
+    }
+}
+
+fn carrier_in_range(carrier: Carrier)
+    ensures { IsCarrier carrier }
+{
+    match carrier {
+        Carrier::Sub(id) => {
+            id.get();
+        }
+        Carrier::Packet(scid) => {
+            scid.get();
+        }
+    }
+}
+
+fn new_sub_in_range(new_sub: NewSub)
+    ensures { IsNewSub new_sub }
+{
+    let sub = new_sub.get();
+    sub.id.get();
+    sub.protection.level();
+}
+
+fn new_packet_in_range(packet: Packet)
+    ensures { IsNewPacket packet }
+{
+    packet.scid.get();
+    packet.ty.get();
+    packet.sub.get();
+}
+
+fn edit_in_range(edit: Edit)
+    ensures { IsEdit edit }
+{
+    match edit {
+        Edit::AddSub(sub) => new_sub_in_range(sub),
+        Edit::DropSub(id) => {
+            id.get();
+        }
+        Edit::MoveSub { id, start } => {
+            id.get();
+            start.get();
+        }
+        Edit::RateSub { id, .. } => {
+            id.get();
+        }
+        Edit::AddService(sid) => sid_in_range(sid),
+        Edit::DropService(sid) => sid_in_range(sid),
+        Edit::AddComponent { sid, component } => {
+            sid_in_range(sid);
+            component_in_range(component);
+        }
+        Edit::DropComponent { sid, carrier } => {
+            sid_in_range(sid);
+            carrier_in_range(carrier);
+        }
+        Edit::AddPacket(packet) => new_packet_in_range(packet),
+        Edit::DropPacket(scid) => {
+            scid.get();
+        }
+    }
+}
+
+fn instr_in_range(instr: Instr)
+    ensures { IsInstr instr }
+{
+    match instr {
+        Instr::Wait(frames) => {
+            frames.get();
+        }
+        Instr::Until(frame) => {
+            frame.get();
+        }
+        Instr::WaitContact { contact, .. } => {
+            contact.get();
+        }
+        Instr::CommitIn(delay) => {
+            delay.get();
+        }
+        Instr::CommitAt(_) => {}
+        Instr::Join => {}
+        Instr::End => {}
+        Instr::Edit(edit) => edit_in_range(edit),
+        Instr::Test { contact, .. } => {
+            contact.get();
+        }
+        Instr::Jump(_) => {}
+        Instr::Set { counter, times } => {
+            counter.get();
+            times.get();
+        }
+        Instr::Loop { counter, .. } => {
+            counter.get();
+        }
+    }
+}
+
+/// Each line is formed.
+pub(crate) fn lines_in_range(lines: &[Line])
+    ensures { Each IsLine lines.now }
+{
+    for line in lines {
+        let _number = line.number;
+        instr_in_range(line.instr);
+    }
+}
+
+/// Each configuration is one.
+pub(crate) fn configs_in_range(configs: &[Config])
+    ensures { Each IsConfiguration configs.now }
+{
+    for config in configs {
+        config.subs();
+    }
+}
