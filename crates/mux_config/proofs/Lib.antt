@@ -6,4 +6,5 @@ pub mod Telling
 pub mod Same
 pub mod Powers
 pub mod Tables
+pub mod Keeping
 mod Vectors

@@ -1,5 +1,5 @@
 -- The ten edits of a configuration: what each changes, and why each is refused, in the order tested.
-use Rattle.std.specs.Prelude.{◌≡◌, ℕ, ◌+◌, ◌==◌, ◌||◌, Bool, false, not, if◌then◌else◌, nat_lt, nat_le, List, [], ◌∷◌, ◌++◌, length, map, filter, Option, Some, None, Result, Ok, Err, is_err}
+use Rattle.std.specs.Prelude.{◌≡◌, ℕ, ◌+◌, ◌<◌, ◌≤◌, ◌==◌, ◌||◌, Bool, false, not, if◌then◌else◌, nat_lt, nat_le, List, [], ◌∷◌, ◌++◌, length, map, filter, Option, Some, None, Result, Ok, Err, is_err}
 use Rattle.std.specs.List.{list_any}
 use Rattle.mux_config.specs.declared.parts.Sub.{Sub}
 use Rattle.mux_config.specs.declared.parts.Service.{Service}
@@ -12,7 +12,7 @@ use Rattle.mux_config.specs.declared.edit.Edit.TheVariants.{AddSub, DropSub, Mov
 use Rattle.mux_config.specs.declared.numbers.Sid.{Sid}
 use Rattle.mux_config.specs.declared.fault.EditFault.{EditFault}
 use Rattle.mux_config.specs.declared.fault.EditFault.TheVariants.{IdUsed, IdAbsent, TooManyComponents, TableFull, PastEnd, BadRate, BadAddress}
-use Rattle.mux_config.specs.Configuration.{Configuration, sub_key, sid_key, service_key, packet_key, size_of_sub, carrier_of, component_limit}
+use Rattle.mux_config.specs.Configuration.{Configuration, IsConfiguration, IsSid, IsComponent, sub_key, sid_key, service_key, packet_key, size_of_sub, carrier_of, component_limit}
 use Rattle.mux_config.specs.Tables.{entry_at, with_entry, without_entry}
 use Rattle.mux_eep.specs.Sizes.{size_or_fault}
 
@@ -60,12 +60,14 @@ has_bad_rate s = is_err (size_or_fault s.protection s.kbits)
 abbrev pub is_past_end : Sub → Bool
 is_past_end s = nat_lt 864 (s.start + size_of_sub s)
 
-abbrev pub add_sub_fault : Sub → Configuration → Option EditFault
-add_sub_fault s c =
-    if has_entry sub_key s.id c.subs then Some IdUsed
-    else if has_bad_rate s then Some BadRate
+abbrev pub placing_fault : Sub → Option EditFault
+placing_fault s =
+    if has_bad_rate s then Some BadRate
     else if is_past_end s then Some PastEnd
     else None
+
+abbrev pub add_sub_fault : Sub → Configuration → Option EditFault
+add_sub_fault s c = if has_entry sub_key s.id c.subs then Some IdUsed else placing_fault s
 
 abbrev pub sub_added : Sub → Configuration → Configuration
 sub_added s c = record c { subs = with_entry sub_key s c.subs }
@@ -93,11 +95,7 @@ abbrev pub move_sub : ℕ → ℕ → Configuration → Result Configuration Edi
 move_sub id start c = outcome (move_sub_fault id start c) (sub_moved id start c)
 
 abbrev pub rate_sub_fault : ℕ → ℕ → Configuration → Option EditFault
-rate_sub_fault id kbits c =
-    absent_or (sub_at id c) (λ s.
-    if has_bad_rate (at_rate kbits s) then Some BadRate
-    else if is_past_end (at_rate kbits s) then Some PastEnd
-    else None)
+rate_sub_fault id kbits c = absent_or (sub_at id c) (λ s. placing_fault (at_rate kbits s))
 
 abbrev pub sub_rated : ℕ → ℕ → Configuration → Configuration
 sub_rated id kbits c = record c { subs = changed_at sub_key id (at_rate kbits) c.subs }
@@ -234,3 +232,23 @@ edited e c = outcome (edit_fault e c) (changed e c)
 abbrev pub Edits : Configuration → Configuration → Result Configuration EditFault → Result (Unit {0}) EditFault → Type 0
 Edits old new outcome (Ok done) = outcome ≡ Ok new
 Edits old new outcome (Err fault) = (outcome ≡ Err fault) × (new ≡ old)
+
+-- ---- edits keep configurations
+
+-- the numbers of an edit are within their bits
+abbrev pub IsInRange : Edit → Type 0
+IsInRange (AddSub s) = (s.id < 64) × (1 ≤ s.protection.level) × (s.protection.level ≤ 4)
+IsInRange (DropSub id) = Unit {0}
+IsInRange (MoveSub id start) = Unit {0}
+IsInRange (RateSub id kbits) = Unit {0}
+IsInRange (AddService sid) = IsSid sid
+IsInRange (DropService sid) = Unit {0}
+IsInRange (AddComponent sid m) = IsSid sid × IsComponent m
+IsInRange (DropComponent sid carrier) = Unit {0}
+IsInRange (AddPacket p) = (p.scid < 4096) × (p.ty < 64) × (p.sub < 64)
+IsInRange (DropPacket scid) = Unit {0}
+
+abbrev pub EditsKeep : Type 0
+EditsKeep =
+    (e : Edit) (c : Configuration) → IsInRange e → IsConfiguration c → edit_fault e c ≡ None
+    → IsConfiguration (changed e c)

@@ -1,6 +1,7 @@
 //! What holds of all configurations, whatever holds them.
 
 ghost use Rattle.mux_config.specs.Change.{ChangeTells};
+ghost use Rattle.mux_config.specs.Edits.{EditsKeep};
 ghost use Rattle.mux_config.specs.Facts.{FactsTell};
 
 /// The law of facts: the entries of FIG 0/1 to 0/3 tell configurations apart, so that what is heard of
@@ -19,4 +20,11 @@ pub fn changes()
     ensures { ChangeTells }
 {
     mux_eep::laws::sizes();
+}
+
+/// The law of edits: an edit that has no fault makes a configuration of a configuration. The function does
+/// nothing; its contract is the law.
+pub fn edits()
+    ensures { EditsKeep }
+{
 }
