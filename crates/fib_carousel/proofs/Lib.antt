@@ -1,3 +1,6 @@
 pub mod Steps
 pub mod Least
 pub mod Pieces
+pub mod Walk
+pub mod Figs
+pub mod Sendable

@@ -3,6 +3,8 @@ use Rattle.std.specs.Prelude.{ℕ, ◌+◌, ◌*◌, ◌/◌, ◌%◌, ◌^◌, 
 use Rattle.mux_config.specs.Entries.{EnsembleInformation}
 use Rattle.mux_config.specs.Facts.{Marked, marked}
 use Rattle.mux_config.specs.declared.entry.Entry.TheVariants.{Ensemble as EnsembleOf}
+use Rattle.mux_config.specs.declared.entry.Entry.{Entry}
+use Rattle.fib_codec.specs.declared.head.Head.{Head}
 use Rattle.fib_codec.specs.Spelling.{Written, head_of, figs_bytes, filled}
 use Rattle.fib_codec.specs.Crc.{check_bits}
 use Rattle.fib_carousel.specs.Packing.{same_head}
@@ -18,6 +20,11 @@ joined m (f ∷ fs) =
 abbrev pub figs_of : List Marked → List Written
 figs_of [] = []
 figs_of (m ∷ ms) = joined m (figs_of ms)
+
+-- the entries of this head at the front
+abbrev pub run_of : Head → List Marked → List Entry
+run_of head [] = []
+run_of head (m ∷ ms) = if same_head head (head_of m) then m.entry ∷ run_of head ms else []
 
 -- FIG 0/0, where it is given: of this ensemble, with C/N 0 and P/D 0
 abbrev pub ensemble_figs : Option EnsembleInformation → List Written

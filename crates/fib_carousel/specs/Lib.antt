@@ -1,6 +1,8 @@
 pub mod Packing
 pub mod Pages
 pub mod Bytes
+pub mod Row
+pub mod Items
 pub use Rattle.fib_codec.specs.Crc
 pub use Rattle.fib_codec.specs.Spelling
 pub use Rattle.fib_codec.specs.Grammar

@@ -5,7 +5,13 @@
 //! fewer. The definitions that contracts cite stand in `specs/`: begin with `Packing.antt` and `Pages.antt`.
 #![tactic(auto)]
 
+pub mod carousel;
+pub mod cursor;
+pub mod fact;
 pub mod laws;
+pub mod page_set;
 pub mod place;
+pub mod row;
 
-pub use place::Place;
+pub use carousel::pages;
+pub use place::{Place, Shape};

@@ -1,0 +1,8 @@
+use Rattle.std.proofs.Common.{◌∙◌, ap}
+use Rattle.fib_carousel.specs.Packing.{rounds_of}
+use Rattle.fib_carousel.specs.Pages.{rounds}
+use Rattle.fib_carousel.proofs.Least.{of_packing}
+use Rattle.fib_carousel.proofs.carousel.pages.Goals as goal
+
+pub returns-clause-packing : goal.returns-clause-packing
+returns-clause-packing g c = λ ns p. c.pages.ensures ∙ ap rounds c.new.ensures ∙ of_packing rounds_of _ ns p

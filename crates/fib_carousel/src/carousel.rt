@@ -1,0 +1,20 @@
+//! The pages of one configuration, or of two side by side.
+
+ghost use Rattle.std.specs.Prelude.{◌≡◌, ℕ, ◌≤◌, List, option_map};
+ghost use Rattle.std.specs.Option.{option_copied};
+ghost use Rattle.fib_carousel.specs.Packing.{IsPacking, rounds_of};
+ghost use Rattle.fib_carousel.specs.Pages.{page_set, rounds};
+
+use crate::page_set::PageSet;
+use crate::row;
+use mux_config::Store;
+
+/// How many pages the entries of these configurations take: those of the current one and, where it is
+/// given, of the next one. It is at least 1, and no division of the entries into FIBs takes fewer.
+pub fn pages<'a, S: Store>(current: &'a S, next: Option<&'a S>) -> usize
+    ensures value { result ≡ rounds (page_set (S.content current.now) (option_map S.content (option_copied next.entry))) }
+    ensures packing { (ns : List ℕ) → IsPacking (page_set (S.content current.now) (option_map S.content (option_copied next.entry))) ns → result ≡ rounds_of ns }
+    ensures one { 1 ≤ result }
+{
+    row::pages(&PageSet::new(current, next))
+}

@@ -1,0 +1,21 @@
+//! A walk along a row of entries, FIB by FIB.
+
+use crate::place::Place;
+
+/// How far the row was walked: the number of the next entry, and the place of the one before it.
+#[derive(Clone, Copy, Debug, PartialEq, Eq)]
+pub struct Cursor {
+    /// The number of the next entry, from 0.
+    pub at: u16,
+    /// The place of the entry before it.
+    pub place: Place,
+}
+
+/// Some successive entries of a row.
+#[derive(Clone, Copy, Debug, PartialEq, Eq)]
+pub struct Span {
+    /// The number of the first one.
+    pub from: u16,
+    /// The number after that of the last one.
+    pub to: u16,
+}

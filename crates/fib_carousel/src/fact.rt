@@ -1,0 +1,106 @@
+//! The entries that say what a configuration consists of: one of FIG 0/1 for each sub-channel, one of FIG 0/2
+//! for each service, and one of FIG 0/3 for each packet component (EN 300 401 clauses 6.2.1, 6.3.1 and 6.3.2).
+
+ghost use Rattle.std.specs.Prelude.{◌≡◌, ◌<◌, ◌≤◌, ◌^◌, ◌++◌, map, take, length};
+ghost use Rattle.mux_config.specs.Configuration.{IsPlaced, IsService, IsAddressed};
+ghost use Rattle.mux_config.specs.Facts.{sub_entry, service_entry, packet_entry, component_entry, component_entries};
+
+use mux_config::{
+    Bits, Component, ComponentEntry, Entry, Few, Packet, PacketEntry, Service, ServiceEntry, Sub,
+    SubEntry,
+};
+use mux_eep::{EepSet, size_of};
+
+/// The field of this value, which is within its bits.
+fn field<const WIDTH: u32>(value: u16) -> Bits<WIDTH>
+    requires { value < 2 ^ WIDTH }
+    ensures { result ≡ value }
+{
+    Bits::new(value).unwrap_or_default()
+}
+
+/// The entry of a sub-channel, in the long form.
+pub(crate) fn sub_entry(sub: Sub) -> Entry
+    requires { IsPlaced sub }
+    ensures { result ≡ sub_entry sub }
+{
+    let option = match sub.protection.set() {
+        EepSet::A => 0,
+        EepSet::B => 1,
+    };
+    let size = match size_of(sub.protection, sub.kbits) {
+        Ok(size) => size,
+        Err(_) => 0,
+    };
+    Entry::Sub(SubEntry {
+        id: sub.id,
+        start: field(sub.start),
+        option: field(option),
+        level: field(u16::from(sub.protection.level() - 1)),
+        size: field(size),
+    })
+}
+
+/// What FIG 0/2 says of a component, with its P/S flag.
+fn component_entry(primary: bool, component: Component) -> ComponentEntry
+    ensures { result ≡ component_entry primary component }
+{
+    let ca = false;
+    match component {
+        Component::Sound { ty, sub } => ComponentEntry::Sound {
+            ty,
+            sub,
+            primary,
+            ca,
+        },
+        Component::Stream { ty, sub } => ComponentEntry::Stream {
+            ty,
+            sub,
+            primary,
+            ca,
+        },
+        Component::Packet { scid } => ComponentEntry::Packet { scid, primary, ca },
+    }
+}
+
+/// The components of a service, of which the first is the primary one.
+fn component_entries(components: &[Component]) -> Few<ComponentEntry, 15>
+    requires { length components.now ≤ 12 }
+    ensures { result ≡ component_entries components.now }
+{
+    let mut entries = Few::new();
+    for (place, component) in components.iter().enumerate() {
+        entries.push(component_entry(place == 0, *component));
+    }
+    entries
+}
+
+/// The entry of a service.
+pub(crate) fn service_entry(service: &Service) -> Entry
+    requires { IsService service.now }
+    ensures { result ≡ service_entry service.now }
+{
+    Entry::Service(ServiceEntry {
+        sid: service.sid,
+        rfa: false,
+        ca_id: Bits::default(),
+        components: component_entries(service.components.as_slice()),
+    })
+}
+
+/// The entry of a packet component.
+pub(crate) fn packet_entry(packet: Packet) -> Entry
+    requires { IsAddressed packet }
+    ensures { result ≡ packet_entry packet }
+{
+    Entry::Packet(PacketEntry {
+        scid: packet.scid,
+        rfa: Bits::default(),
+        dg: packet.dg,
+        rfu: false,
+        ty: packet.ty,
+        sub: packet.sub,
+        address: field(packet.address),
+        ca_org: None,
+    })
+}
