@@ -2,3 +2,5 @@ pub mod Division
 pub mod TableRule
 pub mod Words
 pub mod Uniqueness
+pub mod Lengths
+pub mod Finished

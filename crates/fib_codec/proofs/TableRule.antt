@@ -112,7 +112,7 @@ plus-bits [] ys h = tt
 plus-bits (x ∷ xs) [] h = h
 plus-bits (x ∷ xs) (y ∷ ys) h = (omega arith, plus-bits xs ys h.1)
 
-length-plus : (xs ys : List ℕ) → length (plus xs ys) ≡ length xs
+pub length-plus : (xs ys : List ℕ) → length (plus xs ys) ≡ length xs
 length-plus [] ys = refl
 length-plus (x ∷ xs) [] = refl
 length-plus (x ∷ xs) (y ∷ ys) = ap suc (length-plus xs ys)
@@ -168,16 +168,16 @@ both_gone (x ∷ m) (y ∷ a) (c ∷ g) h p q =
     let head : ((x + c) % 2 + (y + c) % 2) % 2 ≡ (x + y) % 2 = omega arith in
     rw (head, both_gone m a g (omega arith) p.1 q.1) refl
 
-divided-nil : (n : ℕ) → divided n [] ≡ []
+pub divided-nil : (n : ℕ) → divided n [] ≡ []
 unfolding divided
 divided-nil zero = refl
 divided-nil (suc n) = refl
 
-without_bits : (b : ℕ) (xs : List ℕ) → AreBits xs → AreBits (without_leading b xs)
+pub without_bits : (b : ℕ) (xs : List ℕ) → AreBits xs → AreBits (without_leading b xs)
 without_bits zero xs h = h
 without_bits (suc b) xs h = plus-bits xs generator h
 
-length-without : (b : ℕ) (xs : List ℕ) → length (without_leading b xs) ≡ length xs
+pub length-without : (b : ℕ) (xs : List ℕ) → length (without_leading b xs) ≡ length xs
 length-without zero xs = refl
 length-without (suc b) xs = length-plus xs generator
 

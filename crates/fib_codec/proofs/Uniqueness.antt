@@ -1,8 +1,8 @@
 -- Bytes are one list of entries at most, and one list of FIGs: where a front begins alike it ends alike.
-use Rattle.std.proofs.Common.{◌≡◌, ◌≢◌, ◌⊎◌, inl, inr, ℕ, zero, suc, ◌+◌, ◌*◌, ◌/◌, ◌%◌, ◌<◌, ◌≤◌, Bool, true, false, cond, eqb, ltb, ◌&&◌, List, [], ◌∷◌, ◌++◌, length, get_or, take, refl, sym, ◌∙◌, ap, ap₂, subst, arith, length-append, lt-ltb, true≢false}
+use Rattle.std.proofs.Common.{◌≡◌, ◌≢◌, inl, inr, ℕ, ◌+◌, ◌*◌, ◌/◌, ◌%◌, ◌≤◌, Bool, true, false, cond, eqb, ltb, List, [], ◌∷◌, ◌++◌, length, get_or, take, refl, sym, ◌∙◌, ap, ap₂, subst, arith, length-append, lt-ltb, true≢false}
 use Rattle.std.proofs.lemmas.Bool.{cond_both, and_from}
 use Rattle.std.proofs.lemmas.List.{get_or_append_left}
-use Rattle.fib_codec.specs.Grammar.{ensemble_len, sub_len, service_len, packet_len, entry_len, IsEntry, AreEntries, IsCounted, IsBody, Fig, Open, Other, is_open, is_long, IsOther, IsFig, AreFigs, IsFib, OneList}
+use Rattle.fib_codec.specs.Grammar.{ensemble_len, sub_len, service_len, packet_len, entry_len, IsEntry, AreEntries, Fig, Open, Other, is_long, IsOther, IsFig, AreFigs, OneList}
 
 -- ---- lists
 -- lists that begin alike, with fronts of one length
@@ -46,7 +46,7 @@ packet_front e rest h = ap (λ x. cond (eqb (x % 2) 1) 7 5) (get_or_append_left 
 chosen_front : (first second third long : Bool) (e rest : List ℕ)
     → cond first (ensemble_len e) (cond second (sub_len e) (cond third (service_len long e) (packet_len e))) ≤ length e
     → cond first (ensemble_len (e ++ rest)) (cond second (sub_len (e ++ rest)) (cond third (service_len long (e ++ rest)) (packet_len (e ++ rest))))
-        ≡ cond first (ensemble_len e) (cond second (sub_len e) (cond third (service_len long e) (packet_len e)))
+    ≡ cond first (ensemble_len e) (cond second (sub_len e) (cond third (service_len long e) (packet_len e)))
 chosen_front true second third long e rest h = ensemble_front e rest h
 chosen_front false true third long e rest h = sub_front e rest h
 chosen_front false false true long e rest h = service_front long e rest h
@@ -121,7 +121,7 @@ open_open bytes second other es gs (body, e, short, looked, given) (body', e', s
     let heads : second ≡ other = cc in
     let bodies : body ≡ body' = cc in
     let moved = subst (λ (b : List ℕ). AreEntries (other % 32) (is_long other) b es) bodies
-        (subst (λ (n : ℕ). AreEntries (n % 32) (is_long n) body es) heads given.0) in
+    (subst (λ (n : ℕ). AreEntries (n % 32) (is_long n) body es) heads given.0) in
     ap₂ (λ n xs. Open n xs) heads (one_entries (other % 32) (is_long other) body' es gs moved given'.0)
 
 open_other : (bytes : List ℕ) (second : ℕ) (es : List (List ℕ)) → IsFig bytes (Open second es) → IsOther bytes → ⊥

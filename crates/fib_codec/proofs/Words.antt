@@ -1,12 +1,16 @@
 -- Words of sixteen bits as two bytes, and as bits.
-use Rattle.std.proofs.Common.{◌≡◌, ℕ, zero, suc, ◌+◌, ◌*◌, ◌/◌, ◌<◌, List, [], ◌∷◌, ◌++◌, length, get_or, drop, take, sym, ◌∙◌, ap, arith, inl, inr, append-nil, drop-cons, ◌↔◌}
-use Rattle.std.proofs.lemmas.List.{drop_all}
+use Rattle.std.proofs.Common.{◌≡◌, ℕ, zero, suc, ◌+◌, ◌-◌, ◌*◌, ◌/◌, ◌%◌, ◌^◌, ◌<◌, map, refl, replicate, List, [], ◌∷◌, ◌++◌, length, get_or, drop, take, sym, ◌∙◌, ap, ap₂, arith, subst, take_at, drop_at, length-append, pow-suc, length-take, inl, inr, append-nil, drop-cons, ◌↔◌}
+use Rattle.std.proofs.lemmas.List.{drop_all, length-map}
 use Rattle.std.proofs.lemmas.Bool.{cases_eq}
-use Rattle.std.proofs.lemmas.Nat.Bits.{same_from_bits_below}
+use Rattle.std.proofs.lemmas.Nat.Bits.{same_from_bits_below, bit_at_cat_high, bit_at_lowest}
 use Rattle.std.specs.Int.{bit_at}
-use Rattle.fib_codec.specs.Crc.{bits_of, bits_of_bytes, check_bits, IsChecked}
-use Rattle.fib_codec.proofs.Division.{bits_of-suc, bits_of-below}
-use Rattle.fib_codec.proofs.TableRule.{split}
+use Rattle.std.proofs.lemmas.Nat.{mod-pow-add}
+use Rattle.byteorder.specs.Endian.{big_bytes}
+use Rattle.fib_codec.specs.Spelling.{checked}
+use borrow.Rule.Slice.PartMut.{put_mid}
+use Rattle.fib_codec.specs.Crc.{bits_of, bits_of_bytes, check_bits, number_of_bits, check_word, IsChecked, AreBits, divided, dividend, without_leading}
+use Rattle.fib_codec.proofs.Division.{bits_of-suc, bits_of-zero, length-bits_of, bits_of-below, divided-zero, divided-suc}
+use Rattle.fib_codec.proofs.TableRule.{split, length-plus, divided-nil, without_bits, length-without}
 
 -- numbers with the same bits have each bit the same
 same_bit : (w x y i : ℕ) → bits_of w x ≡ bits_of w y → i < w → bit_at x i ≡ bit_at y i
@@ -48,3 +52,124 @@ checked_by_word bytes word long high low fits h =
       λ same. sent ∙ ap (bits_of 16) (sym same) ∙ h,
       λ checked. one_word word (get_or bytes 30 0 * 256 + get_or bytes 31 0) fits (omega arith) (h ∙ sym checked ∙ sent),
     )
+
+-- the number that a word's bits spell is the word
+word_spelled : (w x : ℕ) → number_of_bits (bits_of w x) ≡ x % 2 ^ w
+word_spelled zero x =
+    let none : bits_of 0 x ≡ [] = bits_of-zero x in
+    let rest : x % 2 ^ 0 ≡ 0 = omega arith in
+    ap number_of_bits none ∙ sym rest
+word_spelled (suc w) x =
+    let count : 1 + w ≡ suc w = omega arith in
+    let one : x / 2 ^ w % 2 ^ 1 ≡ bit_at x w = refl in
+    ap number_of_bits (bits_of-suc w x)
+    ∙ ap₂ (λ k n. bit_at x w * 2 ^ k + n) (length-bits_of w x) (word_spelled w x)
+    ∙ sym (ap (λ n. x % 2 ^ n) (sym count) ∙ mod-pow-add x 1 w)
+
+pub word_checked : (bytes : List ℕ) (word : ℕ) → word < 65536 → bits_of 16 word ≡ check_bits bytes → word ≡ check_word bytes
+word_checked bytes word fits h =
+    let small : word % 2 ^ 16 ≡ word = omega arith in
+    sym small ∙ sym (word_spelled 16 word) ∙ ap number_of_bits h
+
+-- two bytes written behind thirty
+pub word_behind : (bytes word : List ℕ) → length bytes ≡ 30 → put_mid 30 2 (bytes ++ 0 ∷ 0 ∷ []) word ≡ bytes ++ word
+word_behind bytes word h =
+    let front : take 30 (bytes ++ 0 ∷ 0 ∷ []) ≡ bytes = take_at bytes (0 ∷ 0 ∷ []) 30 h in
+    let behind : drop 2 (drop 30 (bytes ++ 0 ∷ 0 ∷ [])) ≡ [] = ap (drop 2) (drop_at bytes (0 ∷ 0 ∷ []) 30 h) in
+    ap₂ (λ xs ys. xs ++ (word ++ ys)) front behind ∙ ap (λ t. bytes ++ t) (append-nil word)
+
+-- ---- the check word is a word
+length-divided : (n : ℕ) (xs : List ℕ) → length (divided n xs) ≡ length xs - n
+length-divided zero xs =
+    let all : length xs ≡ length xs - 0 = omega arith in
+    ap length (divided-zero xs) ∙ all
+length-divided (suc n) [] =
+    let none : 0 ≡ 0 - suc n = omega arith in
+    ap length (divided-nil (suc n)) ∙ none
+length-divided (suc n) (b ∷ bits) =
+    let less : length bits - n ≡ suc (length bits) - suc n = omega arith in
+    ap length (divided-suc n b bits) ∙ length-divided n (without_leading b bits) ∙ ap (λ k. k - n) (length-without b bits) ∙ less
+
+divided_bits : (n : ℕ) (xs : List ℕ) → AreBits xs → AreBits (divided n xs)
+divided_bits zero xs are = subst (λ (ys : List ℕ). AreBits ys) (sym (divided-zero xs)) are
+divided_bits (suc n) [] are = subst (λ (ys : List ℕ). AreBits ys) (sym (divided-nil (suc n))) tt
+divided_bits (suc n) (b ∷ bits) are =
+    subst (λ (ys : List ℕ). AreBits ys) (sym (divided-suc n b bits))
+    (divided_bits n (without_leading b bits) (without_bits b bits are.1))
+
+turned_bits : (xs : List ℕ) → AreBits (map (λ b. 1 - b) xs)
+turned_bits [] = tt
+turned_bits (x ∷ xs) = (omega arith, turned_bits xs)
+
+length-bits_of_bytes : (bytes : List ℕ) → length (bits_of_bytes bytes) ≡ 8 * length bytes
+length-bits_of_bytes [] = refl
+length-bits_of_bytes (b ∷ bs) =
+    length-append (bits_of 8 b) (bits_of_bytes bs)
+    ∙ ap₂ (λ m n. m + n) (length-bits_of 8 b) (length-bits_of_bytes bs) ∙ omega arith
+
+check_len : (bytes : List ℕ) → length (check_bits bytes) ≡ 16
+check_len bytes =
+    let bits = bits_of_bytes bytes ++ replicate 16 0 in
+    let whole : length (dividend bytes) ≡ 8 * length bytes + 16 =
+    length-plus bits (replicate 16 1) ∙ length-append (bits_of_bytes bytes) (replicate 16 0)
+    ∙ ap (λ n. n + 16) (length-bits_of_bytes bytes) in
+    let left : 8 * length bytes + 16 - 8 * length bytes ≡ 16 = omega arith in
+    length-map (divided (8 * length bytes) (dividend bytes)) (λ (b : ℕ). 1 - b)
+    ∙ length-divided (8 * length bytes) (dividend bytes) ∙ ap (λ n. n - 8 * length bytes) whole ∙ left
+
+-- bits spell a number that has these bits
+number_below : (bits : List ℕ) → AreBits bits → number_of_bits bits < 2 ^ length bits
+number_below [] are = omega arith
+number_below (zero ∷ bits) are =
+    let more : 2 ^ suc (length bits) ≡ 2 ^ length bits * 2 = pow-suc 2 (length bits) in
+    omega (arith, more, number_below bits are.1)
+number_below (suc zero ∷ bits) are =
+    let more : 2 ^ suc (length bits) ≡ 2 ^ length bits * 2 = pow-suc 2 (length bits) in
+    omega (arith, more, number_below bits are.1)
+number_below (suc (suc b) ∷ bits) are = absurd (omega (arith, are.0))
+
+spelled_bits : (bits : List ℕ) → AreBits bits → bits_of (length bits) (number_of_bits bits) ≡ bits
+spelled_bits [] are = bits_of-zero 0
+spelled_bits (b ∷ bits) are =
+    let n = number_of_bits bits in
+    let w = length bits in
+    let place : w - w ≡ 0 = omega arith in
+    let bit : b % 2 ≡ b = omega (arith, are.0) in
+    let high : bit_at (b * 2 ^ w + n) w ≡ b =
+    bit_at_cat_high b w n w (number_below bits are.1) (omega arith) ∙ ap (bit_at b) place ∙ bit_at_lowest b ∙ bit in
+    bits_of-suc w (b * 2 ^ w + n)
+    ∙ ap₂ (λ x xs. x ∷ xs) high (bits_of-below w b w n (omega arith) ∙ spelled_bits bits are.1)
+
+pub check_word_bits : (bytes : List ℕ) → bits_of 16 (check_word bytes) ≡ check_bits bytes
+check_word_bits bytes =
+    ap (λ w. bits_of w (check_word bytes)) (sym (check_len bytes))
+    ∙ spelled_bits (check_bits bytes) (turned_bits (divided (8 * length bytes) (dividend bytes)))
+
+pub check_word_below : (bytes : List ℕ) → check_word bytes < 65536
+check_word_below bytes =
+    let below : check_word bytes < 2 ^ length (check_bits bytes) =
+    number_below (check_bits bytes) (turned_bits (divided (8 * length bytes) (dividend bytes))) in
+    subst (λ (k : ℕ). check_word bytes < 2 ^ k) (check_len bytes) below
+
+-- thirty bytes and their check word are checked
+pub checked_is : (bytes : List ℕ) → length bytes ≡ 30 → IsChecked (checked bytes)
+checked_is bytes h =
+    let word = check_word bytes in
+    let high : word / 256 % 256 ≡ word / 256 = omega (arith, check_word_below bytes) in
+    let whole : word / 256 % 256 * 256 + word % 256 ≡ word = omega (arith, check_word_below bytes) in
+    ap bits_of_bytes (drop_at bytes (big_bytes 2 word) 30 h)
+    ∙ sent_bits (word / 256 % 256) (word % 256) (omega arith)
+    ∙ ap (bits_of 16) whole ∙ check_word_bits bytes ∙ ap check_bits (sym (take_at bytes (big_bytes 2 word) 30 h))
+
+-- the same bytes, as they are written into a row of zeros
+pub sealed_bytes : (bytes moved buf : List ℕ) (word : ℕ) → length bytes ≡ 30 → moved ≡ bytes → word < 65536
+    → bits_of 16 word ≡ check_bits bytes
+    → buf ≡ word / 256 % 256 ∷ word % 256 ∷ drop 2 (take 2 (drop 30 (moved ++ 0 ∷ 0 ∷ [])))
+    → put_mid 30 2 (moved ++ 0 ∷ 0 ∷ []) buf ≡ checked bytes
+sealed_bytes bytes moved buf word h same fits bits written =
+    let tail = take 2 (drop 30 (moved ++ 0 ∷ 0 ∷ [])) in
+    let none : drop 2 tail ≡ [] = drop_all 2 tail (omega (arith, length-take 2 (drop 30 (moved ++ 0 ∷ 0 ∷ [])))) in
+    let two : buf ≡ big_bytes 2 word = written ∙ ap (λ t. word / 256 % 256 ∷ word % 256 ∷ t) none in
+    ap₂ (λ xs ys. put_mid 30 2 (xs ++ 0 ∷ 0 ∷ []) ys) same two
+    ∙ word_behind bytes (big_bytes 2 word) h
+    ∙ ap (λ w. bytes ++ big_bytes 2 w) (word_checked bytes word fits bits)

@@ -1,6 +1,6 @@
 -- The check word of a FIB as a long division over lists of bits (EN 300 401 clause 5.2.1 and annex E).
 -- A bit is 0 or 1, and the first bit of a list is the most significant one, which goes on air first.
-use Rattle.std.specs.Prelude.{◌≡◌, ℕ, zero, suc, ◌+◌, ◌-◌, ◌*◌, ◌%◌, ◌<◌, List, [], ◌∷◌, ◌++◌, length, map, flat_map, take, drop, replicate}
+use Rattle.std.specs.Prelude.{◌≡◌, ℕ, zero, suc, ◌+◌, ◌-◌, ◌*◌, ◌%◌, ◌^◌, ◌<◌, List, [], ◌∷◌, ◌++◌, length, map, flat_map, take, drop, replicate}
 use Rattle.std.specs.Int.{bit_at}
 
 -- the lowest bits of a number, as many as the width says
@@ -44,6 +44,14 @@ dividend bytes = plus (bits_of_bytes bytes ++ replicate 16 0) (replicate 16 1)
 -- the check word's bits: those of the remainder, each turned
 abbrev pub check_bits : List ℕ → List ℕ
 check_bits bytes = map (λ b. 1 - b) (divided (8 * length bytes) (dividend bytes))
+
+-- the number that bits spell, and so the check word as a number
+abbrev pub number_of_bits : List ℕ → ℕ
+number_of_bits [] = 0
+number_of_bits (b ∷ bits) = b * 2 ^ length bits + number_of_bits bits
+
+abbrev pub check_word : List ℕ → ℕ
+check_word bytes = number_of_bits (check_bits bytes)
 
 -- of 32 bytes, the last two are the check word of the others
 abbrev pub IsChecked : List ℕ → Type 0

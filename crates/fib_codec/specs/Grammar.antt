@@ -1,9 +1,9 @@
 -- Which FIGs the 32 bytes of a FIB hold, for reader and writer alike (EN 300 401 clauses 5.2.1, 5.2.2, 6.2.1,
 -- 6.3.1, 6.3.2 and 6.4). FIGs of other types or extensions, and those of other ensembles, aren't looked into.
-use Rattle.std.specs.Prelude.{◌≡◌, ◌≢◌, ℕ, ◌+◌, ◌*◌, ◌/◌, ◌%◌, ◌<◌, ◌≤◌, ◌==◌, ◌&&◌, nat_lt, Bool, true, false, if◌then◌else◌, ◌⊎◌, List, [], ◌∷◌, ◌++◌, length, flat_map, take, get_or}
+use Rattle.std.specs.Prelude.{◌≡◌, ◌≢◌, ℕ, ◌+◌, ◌*◌, ◌/◌, ◌%◌, ◌<◌, ◌≤◌, ◌==◌, ◌&&◌, nat_lt, Bool, true, false, if◌then◌else◌, ◌⊎◌, List, [], ◌∷◌, ◌++◌, length, map, flat_map, take, get_or}
 use Rattle.mux_config.specs.Configuration.{Each}
 use Rattle.fib_codec.specs.Crc.{IsChecked}
-use Rattle.fib_codec.specs.Spelling.{filled}
+use Rattle.fib_codec.specs.Spelling.{Written, entry_bytes, head_byte, fig_bytes, filled}
 
 -- how long the entry is that begins here, as the bytes that decide it say; more than are there where one of
 -- these is missing. FIG 0/0 has its occurrence change where a flag is set, FIG 0/1 a long form, FIG 0/2 a number
@@ -98,6 +98,13 @@ pub record IsValid (bytes : List ℕ) (figs : List Fig) : Type 0 where
   pub fib : IsFib bytes figs
   pub looked_into : Each IsOpen figs
   pub rest_filled : take 30 bytes ≡ filled (flat_map fig_spelled figs)
+
+-- a FIG that is written, in the grammar: one of another ensemble isn't looked into
+abbrev pub fig_of : Written → Fig
+fig_of w = if w.head.oe then Other (fig_bytes w.head w.entries) else Open (head_byte w.head) (map entry_bytes w.entries)
+
+abbrev pub IsOurs : Written → Type 0
+IsOurs w = w.head.oe ≡ false
 
 -- 32 bytes hold at most one list of FIGs
 abbrev pub OneList : Type 0

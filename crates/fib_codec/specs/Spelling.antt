@@ -1,7 +1,7 @@
 -- How entries of FIG 0/0 to 0/3 and the FIGs of a FIB are written (EN 300 401 clauses 5.2.1, 5.2.2, 6.2.1,
 -- 6.3.1, 6.3.2 and 6.4). Numbers of more than one byte go highest byte first: `big_bytes n x` is the lowest n
 -- bytes of x.
-use Rattle.std.specs.Prelude.{◌≡◌, ℕ, ◌+◌, ◌-◌, ◌*◌, ◌/◌, ◌%◌, ◌<◌, Bool, true, false, if◌then◌else◌, nat_lt, is_some, Option, Some, None, List, [], ◌∷◌, ◌++◌, length, flat_map, replicate}
+use Rattle.std.specs.Prelude.{◌≡◌, ℕ, ◌+◌, ◌-◌, ◌*◌, ◌/◌, ◌%◌, ◌<◌, ◌≤◌, Bool, true, false, if◌then◌else◌, nat_lt, is_some, Option, Some, None, List, [], ◌∷◌, ◌++◌, length, flat_map, replicate}
 use Rattle.byteorder.specs.Endian.{big_bytes}
 use Rattle.mux_config.specs.Entries.{EnsembleInformation}
 use Rattle.mux_config.specs.Configuration.{Each}
@@ -18,6 +18,7 @@ use Rattle.mux_config.specs.declared.entry.ComponentEntry.{ComponentEntry}
 use Rattle.mux_config.specs.declared.entry.ComponentEntry.TheVariants.{Sound, Stream, Other, Packet}
 use Rattle.fib_codec.specs.declared.head.Head.{Head}
 use Rattle.fib_codec.specs.Ranges.{IsWithin}
+use Rattle.fib_codec.specs.Crc.{check_word}
 
 abbrev pub bit_of : Bool → ℕ
 bit_of flag = if flag then 1 else 0
@@ -154,3 +155,15 @@ figs_bytes figs = flat_map (λ (fig : Written). fig_bytes fig.head fig.entries) 
 -- data bytes filled up to thirty: the end marker and zeros where there is room for them
 abbrev pub filled : List ℕ → List ℕ
 filled bytes = if nat_lt (length bytes) 30 then bytes ++ 255 ∷ replicate (29 - length bytes) 0 else bytes
+
+-- a FIB: thirty data bytes and their check word
+abbrev pub checked : List ℕ → List ℕ
+checked bytes = bytes ++ big_bytes 2 (check_word bytes)
+
+abbrev pub fib_bytes : List Written → List ℕ
+fib_bytes figs = checked (filled (figs_bytes figs))
+
+-- a FIG that can be appended to these data bytes: its entries belong together, and it fits in what is left
+pub record FitsFig (bytes : List ℕ) (head : Head) (entries : List Entry) : Type 0 where
+  pub formed : IsFormed head entries
+  pub room : length bytes + length (fig_bytes head entries) ≤ 30

@@ -6,5 +6,4 @@ ghost use Rattle.fib_codec.specs.Grammar.{OneList};
 /// The law of the grammar: 32 bytes hold at most one list of FIGs.
 pub fn one_list()
     ensures { OneList }
-{
-}
+{}

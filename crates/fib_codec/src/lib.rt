@@ -8,13 +8,17 @@
 
 pub mod crc;
 pub mod crc_tables;
+pub mod fib;
 pub mod head;
 pub mod laws;
+pub mod write;
 
 pub use crc::crc16_by_bits;
 pub use crc_tables::{crc16, is_checked};
+pub use fib::Fib;
 pub use head::Head;
 pub use mux_config::{
     Bits, ComponentEntry, Ensemble, Entry, Few, PacketEntry, ScId, ScTy, ServiceEntry, ShortEntry,
     Sid, SubEntry, SubId,
 };
+pub use write::entry_len;

@@ -1,0 +1,128 @@
+-- How many bytes spellings have.
+use Rattle.std.proofs.Common.{◌≡◌, ℕ, zero, suc, drop, ◌+◌, ◌-◌, ◌*◌, ◌≤◌, cond, Option, Some, None, is_some, List, [], ◌∷◌, ◌++◌, length, get_or, take, refl, sym, ◌∙◌, ap, subst, arith, length-append, append_assoc, append-nil, ◌<◌}
+use Rattle.std.specs.Prelude.{flat_map}
+use Rattle.std.proofs.lemmas.List.{take_more, length-take-le, take_all, take-append-drop}
+use Rattle.mux_config.specs.Configuration.{Each}
+use Rattle.mux_config.specs.declared.numbers.Sid.{Sid}
+use Rattle.mux_config.specs.declared.numbers.Sid.TheVariants.{Short, Long}
+use Rattle.mux_config.specs.declared.entry.Entry.{Entry}
+use Rattle.mux_config.specs.declared.entry.Entry.TheVariants.{Ensemble as EnsembleOf, Sub as SubOf, Short as ShortOf, Service as ServiceOf, Packet as PacketOf}
+use Rattle.mux_config.specs.declared.entry.ComponentEntry.{ComponentEntry}
+use Rattle.fib_codec.specs.Spelling.{occurrence_bytes, ca_org_bytes, sid_bytes, sid_size, components_bytes, entry_bytes, entry_size, entries_bytes, IsUnder, IsFormed}
+use Rattle.fib_codec.specs.declared.head.Head.{Head}
+
+occurrence_len : (o : Option ℕ) → 4 + length (occurrence_bytes o) ≡ cond (is_some o) 5 4
+occurrence_len None = refl
+occurrence_len (Some low) = refl
+
+ca_org_len : (o : Option ℕ) → 5 + length (ca_org_bytes o) ≡ cond (is_some o) 7 5
+ca_org_len None = refl
+ca_org_len (Some org) = refl
+
+pub sid_len : (s : Sid) → length (sid_bytes s) ≡ sid_size s
+sid_len (Short n) = refl
+sid_len (Long n) = refl
+
+pub components_len : (cs : List ComponentEntry) → length (components_bytes cs) ≡ 2 * length cs
+components_len [] = refl
+components_len (c ∷ cs) = omega (arith, components_len cs)
+
+sid_head : (s : Sid) (rest : List ℕ) → length (sid_bytes s ++ rest) ≡ sid_size s + length rest
+sid_head s rest = length-append (sid_bytes s) rest ∙ ap (λ n. n + length rest) (sid_len s)
+
+pub entry_length : (e : Entry) → length (entry_bytes e) ≡ entry_size e
+entry_length (EnsembleOf e) = omega (arith, occurrence_len e.occurrence)
+entry_length (SubOf s) = refl
+entry_length (ShortOf s) = refl
+entry_length (ServiceOf s) =
+    let components : length (components_bytes s.components) ≡ 2 * length s.components = components_len s.components in
+    sid_head s.sid _ ∙ omega (arith, components)
+entry_length (PacketOf p) = omega (arith, ca_org_len p.ca_org)
+
+-- ---- steps of loops that append
+pub Each-append : {T : Type 0} (P : T → Type 0) (xs ys : List T) → Each P xs → Each P ys → Each P (xs ++ ys)
+Each-append P [] ys h k = k
+Each-append P (x ∷ xs) ys h k = (h.0, Each-append P xs ys h.1 k)
+
+pub flat_map-append : {X A : Type 0} (f : X → List A) (xs ys : List X) → flat_map f (xs ++ ys) ≡ flat_map f xs ++ flat_map f ys
+flat_map-append f [] ys = refl
+flat_map-append f (x ∷ xs) ys =
+    ap (λ t. f x ++ t) (flat_map-append f xs ys) ∙ sym (append_assoc (f x) (flat_map f xs) (flat_map f ys))
+
+-- one more spelling behind those of the values before it
+pub spelled_more : {T : Type 0} (f : T → List ℕ) (old : List ℕ) (xs : List T) (i : ℕ) (d : T) → i < length xs
+    → (old ++ flat_map f (take i xs)) ++ f (get_or xs i d) ≡ old ++ flat_map f (take (i + 1) xs)
+spelled_more f old xs i d h =
+    append_assoc old (flat_map f (take i xs)) (f (get_or xs i d))
+    ∙ ap (λ t. old ++ t)
+    (ap (λ t. flat_map f (take i xs) ++ t) (sym (append-nil (f (get_or xs i d))))
+    ∙ sym (flat_map-append f (take i xs) (get_or xs i d ∷ []))
+    ∙ ap (flat_map f) (sym (take_more xs i d h)))
+
+pub Each-more : {T : Type 0} (P : T → Type 0) (xs : List T) (i : ℕ) (d : T) → i < length xs → Each P (take i xs) → P (get_or xs i d)
+    → Each P (take (i + 1) xs)
+Each-more {T} P xs i d h before here =
+    subst (λ (ys : List T). Each P ys) (sym (take_more xs i d h)) (Each-append P (take i xs) (get_or xs i d ∷ []) before (here, tt))
+
+-- room for one more component, where there was room for all of them
+pub component_fits : (now old : List ℕ) (cs : List ComponentEntry) (i : ℕ) → length old + 2 * length cs ≤ 30 → i < length cs
+    → now ≡ old ++ components_bytes (take i cs) → length now + 2 ≤ 30
+component_fits now old cs i room h written =
+    let long : length now ≡ length old + length (components_bytes (take i cs)) =
+    ap length written ∙ length-append old (components_bytes (take i cs)) in
+    let taken : length (take i cs) ≡ i = length-take-le i cs (omega arith) in
+    omega (arith, long, taken, components_len (take i cs))
+
+-- ---- entries of one FIG
+pub Each-at : {T : Type 0} (P : T → Type 0) (xs : List T) (i : ℕ) (d : T) → Each P xs → i < length xs → P (get_or xs i d)
+Each-at P [] i d h lt = absurd (omega arith)
+Each-at P (x ∷ xs) zero d h lt = h.0
+Each-at P (x ∷ xs) (suc i) d h lt = Each-at P xs i d h.1 (omega arith)
+
+pub Each-all : {T : Type 0} (P : T → Type 0) (xs : List T) (i : ℕ) → length xs ≤ i → Each P (take i xs) → Each P xs
+Each-all {T} P xs i h each = subst (λ (ys : List T). Each P ys) (take_all i xs h) each
+
+pub entries_more : (xs : List Entry) (i : ℕ) (d : Entry) → i < length xs
+    → length (entries_bytes (take (i + 1) xs)) ≡ length (entries_bytes (take i xs)) + entry_size (get_or xs i d)
+entries_more xs i d h =
+    ap length (sym (spelled_more entry_bytes [] xs i d h))
+    ∙ length-append (entries_bytes (take i xs)) (entry_bytes (get_or xs i d))
+    ∙ ap (λ n. length (entries_bytes (take i xs)) + n) (entry_length (get_or xs i d))
+
+pub entries_part : (xs : List Entry) (i : ℕ) → length (entries_bytes (take i xs)) ≤ length (entries_bytes xs)
+entries_part xs i =
+    let whole : length (entries_bytes xs) ≡ length (entries_bytes (take i xs)) + length (entries_bytes (drop i xs)) =
+    ap (λ ys. length (entries_bytes ys)) (sym (take-append-drop i xs))
+    ∙ ap length (flat_map-append entry_bytes (take i xs) (drop i xs))
+    ∙ length-append (entries_bytes (take i xs)) (entries_bytes (drop i xs)) in
+    omega (arith, whole)
+
+-- room for one more entry, where there was room for all of them
+pub entry_fits : (now old : List ℕ) (xs : List Entry) (i : ℕ) (d : Entry) → length old + length (entries_bytes xs) ≤ 30 → i < length xs
+    → now ≡ old ++ entries_bytes (take i xs) → d ≡ get_or xs i d → length now + entry_size d ≤ 30
+entry_fits now old xs i d room h written is =
+    let same : entry_size d ≡ entry_size (get_or xs i d) = ap entry_size is in
+    let long : length now ≡ length old + length (entries_bytes (take i xs)) =
+    ap length written ∙ length-append old (entries_bytes (take i xs)) in
+    omega (arith, long, entries_more xs i d h, entries_part xs (i + 1))
+
+-- no room for one more entry, and so not for all of them
+pub entry_passes : (xs : List Entry) (i len room more : ℕ) (d : Entry) → i < length xs → d ≡ get_or xs i d
+    → len ≡ length (entries_bytes (take i xs)) → more ≡ entry_size d → len ≤ room → room - len < more → room < length (entries_bytes xs)
+entry_passes xs i len room more d h is counted sized within past =
+    let same : entry_size d ≡ entry_size (get_or xs i d) = ap entry_size is in
+    omega (arith, entries_more xs i d h, entries_part xs (i + 1))
+
+under_small : (head : Head) (e : Entry) → IsUnder head e → head.ext < 4
+under_small head (EnsembleOf e) h = omega arith
+under_small head (SubOf s) h = omega arith
+under_small head (ShortOf s) h = omega arith
+under_small head (ServiceOf s) h = omega (arith, h.0)
+under_small head (PacketOf p) h = omega arith
+
+some_small : (head : Head) (xs : List Entry) → 0 < length xs → Each (IsUnder head) xs → head.ext < 4
+some_small head [] h each = absurd (omega arith)
+some_small head (x ∷ xs) h each = under_small head x each.0
+
+pub ext_small : (head : Head) (xs : List Entry) → IsFormed head xs → head.ext < 4
+ext_small head xs h = some_small head xs h.some h.under

@@ -1,0 +1,11 @@
+use Rattle.std.proofs.Common.{◌≡◌, ◌++◌, take}
+use Rattle.mux_config.specs.Configuration.{Each}
+use Rattle.fib_codec.specs.Ranges.{IsWithin}
+use Rattle.fib_codec.specs.Spelling.{entries_bytes}
+use Rattle.fib_codec.proofs.fib.put_entries.Given as goal
+
+abbrev pub invariant-loop-entry : goal.invariant-loop-entry
+invariant-loop-entry l = record {
+  written : l.out.items ≡ l.fn.out.items ++ entries_bytes (take l.entry-index l.entries);
+  within : Each IsWithin (take l.entry-index l.entries);
+}

@@ -1,0 +1,11 @@
+use Rattle.std.proofs.Common.{◌≡◌, ◌++◌, take}
+use Rattle.mux_config.specs.Configuration.{Each}
+use Rattle.fib_codec.specs.Ranges.{IsComponentEntry}
+use Rattle.fib_codec.specs.Spelling.{components_bytes}
+use Rattle.fib_codec.proofs.write.put_components.Given as goal
+
+abbrev pub invariant-loop-component : goal.invariant-loop-component
+invariant-loop-component l = record {
+  written : l.out.items ≡ l.fn.out.items ++ components_bytes (take l.component-index l.components);
+  within : Each IsComponentEntry (take l.component-index l.components);
+}

@@ -1,0 +1,184 @@
+//! A FIB that is being written.
+
+ghost use Rattle.std.specs.Prelude.{◌≡◌, ◌+◌, ◌≤◌, ◌<◌, ◌↔◌, ◌++◌, ◌∷◌, [], length, IsTrue, IsFalse, MatchOption, List, map};
+ghost use Rattle.arrayvec.specs.ArrayVec.{array_vec_len};
+ghost use Rattle.mux_config.specs.Configuration.{Each};
+ghost use Rattle.fib_codec.specs.Ranges.{IsWithin};
+ghost use Rattle.fib_codec.specs.Spelling.{head_byte as byte_of_head, entries_bytes, fig_bytes, IsUnder, IsFormed, FitsFig, Written, IsWritten, figs_bytes, filled, checked};
+ghost use Rattle.fib_codec.specs.Grammar.{IsFib, IsValid, fig_of, IsOurs};
+
+use crate::crc_tables::crc16;
+use crate::head::Head;
+use crate::write::{Data, entry_len, put_entry};
+use arrayvec::ArrayVec;
+use byteorder::{BigEndian, ByteOrder};
+use mux_config::{Entry, Sid};
+use std::marker::Model;
+
+/// A Fast Information Block that is being written (EN 300 401 clause 5.2.1). Contracts see it as its data
+/// bytes so far, at most 30: those of the FIGs appended to it.
+#[derive(Drop)]
+pub struct Fib {
+    bytes: Data,
+}
+
+impl Model for Fib {
+    ghost use Rattle.std.specs.Prelude.{List, ℕ, length, ◌≤◌};
+
+    ghost Value = { List ℕ };
+
+    ghost view = { λ f. f.bytes.items };
+
+    ghost invariant = { λ f. length f.bytes.items ≤ 30 };
+}
+
+/// Whether an entry can stand under this head.
+fn is_under(head: Head, entry: &Entry) -> bool
+    ensures { IsTrue result ↔ IsUnder head entry.now }
+{
+    match entry {
+        Entry::Ensemble(_) => head.ext == 0,
+        Entry::Sub(_) => head.ext == 1,
+        Entry::Short(_) => head.ext == 1,
+        Entry::Service(service) => match service.sid {
+            Sid::Short(_) => head.ext == 2 && !head.long,
+            Sid::Long(_) => head.ext == 2 && head.long,
+        },
+        Entry::Packet(_) => head.ext == 3,
+    }
+}
+
+fn are_under(head: Head, entries: &[Entry]) -> bool
+    ensures { IsTrue result ↔ Each (IsUnder head) entries.now }
+{
+    for entry in entries {
+        if !is_under(head, entry) {
+            return false;
+        }
+    }
+    true
+}
+
+/// Whether these entries belong together in one FIG with this head.
+fn is_formed(head: Head, entries: &[Entry]) -> bool
+    ensures { IsTrue result ↔ IsFormed head entries.now }
+{
+    if entries.is_empty() {
+        return false;
+    }
+    if head.ext == 0 {
+        if entries.len() > 1 {
+            return false;
+        }
+    }
+    are_under(head, entries)
+}
+
+/// How many bytes these entries take, where that is no more than `room`.
+fn len_within(entries: &[Entry], room: usize) -> Option<usize>
+    ensures { MatchOption result (room < length (entries_bytes entries.now)) (λ len. (len ≡ length (entries_bytes entries.now)) × (len ≤ room)) }
+{
+    let mut len = 0;
+    for entry in entries {
+        let more = entry_len(entry);
+        if more > room - len {
+            return None;
+        }
+        len += more;
+    }
+    Some(len)
+}
+
+/// The second byte of a FIG of type 0.
+fn head_byte(head: Head) -> u8
+    requires { head.ext < 32 }
+    ensures { result ≡ byte_of_head head }
+{
+    u8::from(head.next) * 128 + u8::from(head.oe) * 64 + u8::from(head.long) * 32 + head.ext
+}
+
+fn put_entries(out: &mut Data, entries: &[Entry])
+    requires { array_vec_len out.old + length (entries_bytes entries.now) ≤ 30 }
+    ensures written { out.new.items ≡ out.old.items ++ entries_bytes entries.now }
+    ensures within { Each IsWithin entries.now }
+{
+    for entry in entries {
+        put_entry(out, entry);
+    }
+}
+
+/// Fills data bytes up to thirty.
+fn fill(out: &mut Data)
+    ensures { out.new.items ≡ filled out.old.items }
+{
+    let used = out.len();
+    if used == 30 {
+        return;
+    }
+    out.push(0xff);
+    for zeros in 0..29 - used {
+        out.push(0);
+    }
+}
+
+/// Thirty data bytes with their check word.
+fn sealed(bytes: &[u8]) -> [u8; 32]
+    requires { length bytes.now ≡ 30 }
+    ensures { result ≡ checked bytes.now }
+{
+    let mut fib = [0u8; 32];
+    fib[..30].copy_from_slice(bytes);
+    BigEndian::write_u16(&mut fib[30..], crc16(bytes));
+    fib
+}
+
+impl Fib {
+    /// A FIB without FIGs.
+    pub fn new() -> Fib
+        ensures { result ≡ [] }
+    {
+        Fib {
+            bytes: ArrayVec::new(),
+        }
+    }
+
+    /// Appends a FIG of type 0 with this head and these entries, and says whether it did. It answers
+    /// false, and the FIB stays as it was, exactly where `entries` is empty, an entry is of another
+    /// extension than the head's, a service's SId isn't as long as the head's P/D flag says, FIG 0/0 is
+    /// given more than one entry, or the FIG doesn't fit in what is left of the 30 data bytes.
+    pub fn try_fig(&mut self, head: Head, entries: &[Entry]) -> bool
+        ensures answer { IsTrue result ↔ FitsFig self.old head entries.now }
+        ensures added { IsTrue result → self.new ≡ self.old ++ fig_bytes head entries.now }
+        ensures written { IsTrue result → IsWritten (record { head = head; entries = entries.now }) }
+        ensures unchanged { IsFalse result → self.new ≡ self.old }
+    {
+        if !is_formed(head, entries) {
+            return false;
+        }
+        let used = self.bytes.len();
+        if used > 28 {
+            return false;
+        }
+        match len_within(entries, 28 - used) {
+            None => false,
+            Some(len) => {
+                self.bytes.push(1 + len as u8);
+                self.bytes.push(head_byte(head));
+                put_entries(&mut self.bytes, entries);
+                true
+            }
+        }
+    }
+
+    /// The 32 bytes of the FIB: its FIGs, the end marker and zeros where there is room for them, and the
+    /// check word. In the grammar they are exactly the FIGs that were appended, in order; those with OE 1
+    /// are there as FIGs that aren't looked into, and without such a one the FIB is valid.
+    pub fn finish(mut self) -> [u8; 32]
+        ensures spelled { result ≡ checked (filled self) }
+        ensures figs { (figs : List Written) → Each IsWritten figs → self ≡ figs_bytes figs → IsFib result (map fig_of figs) }
+        ensures valid { (figs : List Written) → Each IsWritten figs → self ≡ figs_bytes figs → Each IsOurs figs → IsValid result (map fig_of figs) }
+    {
+        fill(&mut self.bytes);
+        sealed(self.bytes.as_slice())
+    }
+}
