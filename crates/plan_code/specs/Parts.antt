@@ -17,12 +17,6 @@ use Rattle.plan_code.specs.declared.instr.Instr.{Instr}
 use Rattle.plan_code.specs.declared.instr.Instr.TheVariants.{Wait, Until, WaitContact, CommitIn, CommitAt, Join, End, Edit as Edits, Test, Jump, Set, Loop}
 use Rattle.plan_code.specs.declared.instr.Line.{Line}
 
--- what a reader answered is what reading gives: the value, as it is seen by view, and the bytes after it; or the
--- first fault
-abbrev pub Takes : {X Y : Type 0} → (X → Y) → (rest : List ℕ) → Result X RecordFault → Reads Y → Type 0
-Takes view rest (Ok x) read = read ≡ Ok (view x, rest)
-Takes view rest (Err e) read = read ≡ Err e
-
 -- ---- labels
 
 abbrev pub bounds_of : (total : ℕ) → Bool → List ℕ → Reads (Option (ℕ × ℕ))

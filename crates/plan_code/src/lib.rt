@@ -14,11 +14,12 @@ pub mod instr;
 pub mod label;
 pub mod laws;
 pub mod numbers;
+mod operand;
 pub mod plan;
 mod ranges;
+mod read_edit;
 mod read_label;
 mod read_line;
-mod reader;
 
 pub use code::Code;
 pub use fault::CodeFault;

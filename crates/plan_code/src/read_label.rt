@@ -1,51 +1,62 @@
 //! Reading a label.
 
-ghost use Rattle.std.specs.Prelude.{◌≡◌, ◌≤◌, Ok, Err};
-ghost use Rattle.plan_code.specs.Parts.{Takes, pending_at, label_at};
+ghost use Rattle.std.specs.Prelude.{◌≡◌, ◌≤◌};
+ghost use Rattle.mux_config.specs.Reading.{Takes, word_within};
+ghost use Rattle.plan_code.specs.Parts.{pending_at, label_at};
 
 use crate::flags::Counters;
 use crate::label::Label;
-use crate::reader::Reader;
-use mux_config::RecordFault;
+use mux_config::{Reader, RecordFault};
 
-impl<'a> Reader<'a> {
-    /// The bounds of the swap that is pending.
-    #[tactic(auto, unfolding(crate::specs::Parts::pending_at))]
-    fn pending(&mut self) -> Result<Option<(u16, u16)>, RecordFault>
-        ensures value { Takes (λ p. p) self.new.rest.now result (pending_at self.old.total self.old.rest.now) }
-        ensures total { self.new.total ≡ self.old.total }
-    {
-        if self.flag()? {
-            let low = self.word_within(1, u16::MAX)?;
-            let high = self.word_within(u32::from(low), u16::MAX)?;
-            Ok(Some((low, high)))
-        } else {
-            self.word_within(0, 0)?;
-            self.word_within(0, 0)?;
-            Ok(None)
-        }
+/// Reads the bounds of the swap that is pending.
+#[tactic(auto, unfolding(crate::specs::Parts::pending_at))]
+fn pending(reader: &mut Reader) -> Result<Option<(u16, u16)>, RecordFault>
+    ensures read { Takes (pending_at reader.old.total reader.old.rest) result reader.new }
+    ensures total { reader.new.total ≡ reader.old.total }
+{
+    if reader.flag()? {
+        let low = reader.word_within(1, u16::MAX)?;
+        let high = reader.word_within(low, u16::MAX)?;
+        Ok(Some((low, high)))
+    } else {
+        reader.word_within(0, 0)?;
+        reader.word_within(0, 0)?;
+        Ok(None)
     }
+}
 
-    /// A label at `low` or later, where there are so many configurations.
-    #[tactic(auto, unfolding(crate::specs::Parts::label_at))]
-    pub(crate) fn label(&mut self, configs: u16, low: u32) -> Result<Label, RecordFault>
-        requires { 1 ≤ configs }
-        ensures value { Takes (λ l. l) self.new.rest.now result (label_at self.old.total configs low self.old.rest.now) }
-        ensures total { self.new.total ≡ self.old.total }
-    {
-        let pc = self.word_within(low, u16::MAX)?;
-        let cur = self.word_within(0, configs - 1)?;
-        let next = self.word_within(0, configs - 1)?;
-        let pending = self.pending()?;
-        let counters = Counters(self.byte()?);
-        let cost = self.byte_within(1, u8::MAX)?;
-        Ok(Label {
-            pc,
-            cur,
-            next,
-            pending,
-            counters,
-            cost,
-        })
+/// Reads the place of a label, `low` or later.
+fn place_from(reader: &mut Reader, low: u32) -> Result<u16, RecordFault>
+    ensures read { Takes (word_within reader.old.total low 65535 reader.old.rest) result reader.new }
+    ensures total { reader.new.total ≡ reader.old.total }
+{
+    let place = reader.place();
+    let word = reader.word()?;
+    if u32::from(word) < low {
+        return Err(RecordFault::Field(place));
     }
+    Ok(word)
+}
+
+/// Reads a label at `low` or later, where there are so many configurations.
+#[tactic(auto, unfolding(crate::specs::Parts::label_at))]
+pub(crate) fn label(reader: &mut Reader, configs: u16, low: u32) -> Result<Label, RecordFault>
+    requires { 1 ≤ configs }
+    ensures read { Takes (label_at reader.old.total configs low reader.old.rest) result reader.new }
+    ensures total { reader.new.total ≡ reader.old.total }
+{
+    let pc = place_from(reader, low)?;
+    let cur = reader.word_within(0, configs - 1)?;
+    let next = reader.word_within(0, configs - 1)?;
+    let pending = pending(reader)?;
+    let counters = Counters(reader.byte()?);
+    let cost = reader.byte_within(1, u8::MAX)?;
+    Ok(Label {
+        pc,
+        cur,
+        next,
+        pending,
+        counters,
+        cost,
+    })
 }

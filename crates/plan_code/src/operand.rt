@@ -1,0 +1,139 @@
+//! Reading the operands of instructions.
+
+ghost use Rattle.std.specs.Prelude.{◌≡◌};
+ghost use Rattle.mux_config.specs.Reading.{Takes};
+ghost use Rattle.plan_code.specs.Parts.{contact_at, counter_at, start_at, times_at, delay_at, day_frame_at, new_sub_at, new_packet_at, wide_sub_id_at, carrier_at};
+
+use crate::numbers::{ContactId, CounterId, DayFrame, Delay, Frames, Times};
+use mux_config::{Carrier, NewSub, Packet, Reader, RecordFault, Start, SubId};
+
+/// Reads the number of a contact.
+pub(crate) fn contact(reader: &mut Reader) -> Result<ContactId, RecordFault>
+    ensures read { Takes (contact_at reader.old.total reader.old.rest) result reader.new }
+    ensures total { reader.new.total ≡ reader.old.total }
+{
+    let place = reader.place();
+    let number = reader.byte()?;
+    ContactId::new(number).ok_or(RecordFault::Field(place))
+}
+
+/// Reads the number of a counter.
+pub(crate) fn counter(reader: &mut Reader) -> Result<CounterId, RecordFault>
+    ensures read { Takes (counter_at reader.old.total reader.old.rest) result reader.new }
+    ensures total { reader.new.total ≡ reader.old.total }
+{
+    let place = reader.place();
+    let number = reader.byte()?;
+    CounterId::new(number).ok_or(RecordFault::Field(place))
+}
+
+/// Reads a start address.
+pub(crate) fn start(reader: &mut Reader) -> Result<Start, RecordFault>
+    ensures read { Takes (start_at reader.old.total reader.old.rest) result reader.new }
+    ensures total { reader.new.total ≡ reader.old.total }
+{
+    let place = reader.place();
+    let number = reader.word()?;
+    Start::new(number).ok_or(RecordFault::Field(place))
+}
+
+/// Reads a number of frames to wait.
+pub(crate) fn frames(reader: &mut Reader) -> Result<Frames, RecordFault>
+    ensures read { Takes (times_at reader.old.total reader.old.rest) result reader.new }
+    ensures total { reader.new.total ≡ reader.old.total }
+{
+    let place = reader.place();
+    let number = reader.word()?;
+    Frames::new(number).ok_or(RecordFault::Field(place))
+}
+
+/// Reads how many times the body of a loop is to run.
+pub(crate) fn times(reader: &mut Reader) -> Result<Times, RecordFault>
+    ensures read { Takes (times_at reader.old.total reader.old.rest) result reader.new }
+    ensures total { reader.new.total ≡ reader.old.total }
+{
+    let place = reader.place();
+    let number = reader.word()?;
+    Times::new(number).ok_or(RecordFault::Field(place))
+}
+
+/// Reads the delay of a commit.
+pub(crate) fn delay(reader: &mut Reader) -> Result<Delay, RecordFault>
+    ensures read { Takes (delay_at reader.old.total reader.old.rest) result reader.new }
+    ensures total { reader.new.total ≡ reader.old.total }
+{
+    let place = reader.place();
+    let number = reader.word()?;
+    Delay::new(number).ok_or(RecordFault::Field(place))
+}
+
+/// Reads a frame of the day.
+pub(crate) fn day_frame(reader: &mut Reader) -> Result<DayFrame, RecordFault>
+    ensures read { Takes (day_frame_at reader.old.total reader.old.rest) result reader.new }
+    ensures total { reader.new.total ≡ reader.old.total }
+{
+    let place = reader.place();
+    let number = reader.long()?;
+    DayFrame::new(number).ok_or(RecordFault::Field(place))
+}
+
+#[tactic(auto, unfolding(crate::specs::Parts::new_sub_at))]
+pub(crate) fn new_sub(reader: &mut Reader) -> Result<NewSub, RecordFault>
+    ensures read { Takes (new_sub_at reader.old.total reader.old.rest) result reader.new }
+    ensures total { reader.new.total ≡ reader.old.total }
+{
+    let id = reader.sub_id()?;
+    let start = start(reader)?;
+    let protection = reader.protection()?;
+    let kbits = reader.word()?;
+    Ok(NewSub::from_parts(id, start, protection, kbits))
+}
+
+#[tactic(auto, unfolding(crate::specs::Parts::new_packet_at))]
+pub(crate) fn new_packet(reader: &mut Reader) -> Result<Packet, RecordFault>
+    ensures read { Takes (new_packet_at reader.old.total reader.old.rest) result reader.new }
+    ensures total { reader.new.total ≡ reader.old.total }
+{
+    let scid = reader.sc_id()?;
+    let dg = reader.flag()?;
+    let ty = reader.sc_ty()?;
+    let sub = reader.sub_id()?;
+    let address = reader.word()?;
+    Ok(Packet {
+        scid,
+        dg,
+        ty,
+        sub,
+        address,
+    })
+}
+
+/// A sub-channel as a carrier: its identifier in two bytes.
+fn wide_sub_id(reader: &mut Reader) -> Result<SubId, RecordFault>
+    ensures read { Takes (wide_sub_id_at reader.old.total reader.old.rest) result reader.new }
+    ensures total { reader.new.total ≡ reader.old.total }
+{
+    let at = reader.place();
+    let word = reader.word()?;
+    if word > 63 {
+        return Err(RecordFault::Field(at));
+    }
+    SubId::new(word as u8).ok_or(RecordFault::Field(at))
+}
+
+#[tactic(auto, unfolding(crate::specs::Parts::carrier_at))]
+pub(crate) fn carrier(reader: &mut Reader) -> Result<Carrier, RecordFault>
+    ensures read { Takes (carrier_at reader.old.total reader.old.rest) result reader.new }
+    ensures total { reader.new.total ≡ reader.old.total }
+{
+    match reader.byte_within(0, 1)? {
+        0 => {
+            let id = wide_sub_id(reader)?;
+            Ok(Carrier::Sub(id))
+        }
+        _ => {
+            let scid = reader.sc_id()?;
+            Ok(Carrier::Packet(scid))
+        }
+    }
+}
