@@ -1,11 +1,10 @@
 -- An edit without a fault keeps a configuration one.
-use Rattle.std.proofs.Common.{◌≡◌, ◌≢◌, ℕ, zero, suc, ◌+◌, ◌%◌, ◌<◌, ◌≤◌, ◌==◌, Bool, true, false, not, cond, ◌||◌, eqb, ltb, leb, List, [], ◌∷◌, ◌++◌, length, map, Option, Some, None, Result, Ok, Err, refl, sym, ap, ◌∙◌, subst, inl, inr, arith, length-append}
+use Rattle.std.proofs.Common.{◌≡◌, ◌≢◌, ℕ, suc, ◌+◌, ◌%◌, ◌<◌, ◌≤◌, ◌==◌, Bool, true, false, not, cond, ◌||◌, ltb, leb, List, [], ◌∷◌, ◌++◌, length, Option, Some, None, Ok, Err, refl, sym, ap, ◌∙◌, subst, inl, inr, arith, length-append}
 use Rattle.std.specs.Result.{is_err}
 use Rattle.std.specs.List.{list_any, filter}
 use Rattle.std.proofs.lemmas.Bool.{false≢true, cases_eq, cases_lt, lt-ltb, le-ltb, eq-eqb, ne_eqb, eqb-true, eqb-false, ltb-false, leb-false}
 use Rattle.std.proofs.lemmas.List.{length-map}
 use Rattle.mux_eep.specs.Sizes.{Profile, IsSize, size_or_fault, table_size, rate_step}
-use Rattle.mux_eep.specs.declared.fault.EepFault.{EepFault}
 use Rattle.mux_eep.specs.declared.fault.EepFault.TheVariants.{NotMultiple, ZeroRate, PastMultiplex}
 use Rattle.mux_config.specs.declared.parts.Sub.{Sub}
 use Rattle.mux_config.specs.declared.parts.Service.{Service}
@@ -17,11 +16,10 @@ use Rattle.mux_config.specs.declared.numbers.Sid.{Sid}
 use Rattle.mux_config.specs.declared.numbers.Sid.TheVariants.{Short, Long}
 use Rattle.mux_config.specs.declared.fault.EditFault.{EditFault}
 use Rattle.mux_config.specs.declared.fault.EditFault.TheVariants.{IdUsed, IdAbsent, TooManyComponents, TableFull, PastEnd, BadRate, BadAddress}
-use Rattle.mux_config.specs.declared.edit.Edit.{Edit}
 use Rattle.mux_config.specs.declared.edit.Edit.TheVariants.{AddSub, DropSub, MoveSub, RateSub, AddService, DropService, AddComponent, DropComponent, AddPacket, DropPacket}
 use Rattle.mux_config.specs.Configuration.{Configuration, IsConfiguration, Each, IsAscending, IsPlaced, IsService, IsAddressed, IsSid, IsComponent, AreDifferent, size_of_sub, sub_key, sid_key, service_key, packet_key, carrier_of, component_limit}
 use Rattle.mux_config.specs.Tables.{entry_at, with_entry, without_entry, with_entry_changed}
-use Rattle.mux_config.specs.Edits.{has_entry, changed_at, absent_or, sub_at, service_at, packet_at, at_start, at_rate, has_bad_rate, is_past_end, placing_fault, names, is_same_carrier, with_component, without_carrier, has_bad_address, add_sub_fault, sub_added, drop_sub_fault, sub_dropped, move_sub_fault, sub_moved, rate_sub_fault, sub_rated, add_service_fault, service_added, drop_service_fault, service_dropped, add_component_fault, component_added, drop_component_fault, component_dropped, add_packet_fault, packet_added, drop_packet_fault, packet_dropped, EditsKeep}
+use Rattle.mux_config.specs.Edits.{has_entry, changed_at, absent_or, sub_at, service_at, at_start, at_rate, has_bad_rate, is_past_end, placing_fault, names, is_same_carrier, with_component, without_carrier, has_bad_address, add_sub_fault, sub_added, sub_dropped, move_sub_fault, sub_moved, rate_sub_fault, sub_rated, add_service_fault, service_added, service_dropped, add_component_fault, component_added, drop_component_fault, component_dropped, add_packet_fault, packet_added, packet_dropped, EditsKeep}
 use Rattle.mux_config.proofs.Tables.{each_weaker, each_pushed, each_with, each_without, each_changed, ascends_with, ascends_without, ascends_changed}
 
 -- ---- tests
@@ -301,7 +299,7 @@ move_sub_keeps id start c h e =
     let was : IsPlaced s = entry_holds IsPlaced sub_key id c.subs s h.subs_placed found.1 in
     let parts = passed (is_past_end (at_start start s)) PastEnd None found.2 in
     subs_keep c (changed_at sub_key id (at_start start) c.subs) h
-      (set_changed IsPlaced sub_key id (at_start start) c.subs s (subs_set c h) found.1 (entry_key sub_key id c.subs s found.1) (moved_placed start s was parts.0))
+    (set_changed IsPlaced sub_key id (at_start start) c.subs s (subs_set c h) found.1 (entry_key sub_key id c.subs s found.1) (moved_placed start s was parts.0))
 
 pub rate_sub_keeps : (id kbits : ℕ) (c : Configuration) → IsConfiguration c → rate_sub_fault id kbits c ≡ None → IsConfiguration (sub_rated id kbits c)
 rate_sub_keeps id kbits c h e =
@@ -309,7 +307,7 @@ rate_sub_keeps id kbits c h e =
     let s = found.0 in
     let was : IsPlaced s = entry_holds IsPlaced sub_key id c.subs s h.subs_placed found.1 in
     subs_keep c (changed_at sub_key id (at_rate kbits) c.subs) h
-      (set_changed IsPlaced sub_key id (at_rate kbits) c.subs s (subs_set c h) found.1 (entry_key sub_key id c.subs s found.1) (placed (at_rate kbits s) was.named was.from_one was.to_four found.2))
+    (set_changed IsPlaced sub_key id (at_rate kbits) c.subs s (subs_set c h) found.1 (entry_key sub_key id c.subs s found.1) (placed (at_rate kbits s) was.named was.from_one was.to_four found.2))
 
 -- ---- services
 
@@ -319,8 +317,8 @@ add_service_keeps sid c named h e =
     let two = passed (leb 64 (length c.services)) TableFull None one.1 in
     let fresh : Service = record { sid = sid; components = [] } in
     services_keep c (with_entry service_key fresh c.services) h
-      (set_with IsService service_key fresh c.services (services_set c h) (absent_told service_key (sid_key sid) c.services one.0)
-        (record { named = named; within = tt; carriers = tt; few = omega arith }) (leb-false 64 (length c.services) two.0))
+    (set_with IsService service_key fresh c.services (services_set c h) (absent_told service_key (sid_key sid) c.services one.0)
+    (record { named = named; within = tt; carriers = tt; few = omega arith }) (leb-false 64 (length c.services) two.0))
 
 pub drop_service_keeps : (sid : Sid) (c : Configuration) → IsConfiguration c → IsConfiguration (service_dropped sid c)
 drop_service_keeps sid c h = services_keep c (without_entry service_key (sid_key sid) c.services) h (set_without IsService service_key (sid_key sid) c.services (services_set c h))
@@ -388,8 +386,8 @@ add_component_keeps sid m c named within h e =
     let two = passed (leb (component_limit sid) (length s.components)) TooManyComponents None one.1 in
     let key = entry_key service_key (sid_key sid) c.services s found.1 in
     services_keep c (changed_at service_key (sid_key sid) (with_component m) c.services) h
-      (set_changed IsService service_key (sid_key sid) (with_component m) c.services s (services_set c h) found.1 key
-        (grown sid m s within was (ap component_limit (sid_told sid s.sid named was.named (sym key))) one.0 two.0))
+    (set_changed IsService service_key (sid_key sid) (with_component m) c.services s (services_set c h) found.1 key
+    (grown sid m s within was (ap component_limit (sid_told sid s.sid named was.named (sym key))) one.0 two.0))
 
 pub drop_component_keeps : (sid : Sid) (carrier : Carrier) (c : Configuration) → IsConfiguration c → drop_component_fault sid carrier c ≡ None → IsConfiguration (component_dropped sid carrier c)
 drop_component_keeps sid carrier c h e =
@@ -397,7 +395,7 @@ drop_component_keeps sid carrier c h e =
     let s = found.0 in
     let was : IsService s = entry_holds IsService service_key (sid_key sid) c.services s h.services_formed found.1 in
     services_keep c (changed_at service_key (sid_key sid) (without_carrier carrier) c.services) h
-      (set_changed IsService service_key (sid_key sid) (without_carrier carrier) c.services s (services_set c h) found.1 (entry_key service_key (sid_key sid) c.services s found.1) (shrunk carrier s was))
+    (set_changed IsService service_key (sid_key sid) (without_carrier carrier) c.services s (services_set c h) found.1 (entry_key service_key (sid_key sid) c.services s found.1) (shrunk carrier s was))
 
 -- ---- packet components
 
@@ -414,8 +412,8 @@ add_packet_keeps p c named typed carried h e =
     let three = passed (leb 64 (length c.packets)) TableFull None two.1 in
     let address = either_number p two.0 in
     packets_keep c (with_entry packet_key p c.packets) h
-      (set_with IsAddressed packet_key p c.packets (packets_set c h) (absent_told packet_key p.scid c.packets one.0)
-        (record { named = named; typed = typed; carried = carried; from_one = address.0; to_last = address.1 }) (leb-false 64 (length c.packets) three.0))
+    (set_with IsAddressed packet_key p c.packets (packets_set c h) (absent_told packet_key p.scid c.packets one.0)
+    (record { named = named; typed = typed; carried = carried; from_one = address.0; to_last = address.1 }) (leb-false 64 (length c.packets) three.0))
 
 pub drop_packet_keeps : (scid : ℕ) (c : Configuration) → IsConfiguration c → IsConfiguration (packet_dropped scid c)
 drop_packet_keeps scid c h = packets_keep c (without_entry packet_key scid c.packets) h (set_without IsAddressed packet_key scid c.packets (packets_set c h))

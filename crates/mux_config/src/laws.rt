@@ -26,5 +26,4 @@ pub fn changes()
 /// nothing; its contract is the law.
 pub fn edits()
     ensures { EditsKeep }
-{
-}
+{}

@@ -17,6 +17,7 @@ pub mod parts;
 pub mod reader;
 pub mod reconfiguration;
 pub mod record;
+mod sameness;
 pub mod sound;
 pub mod store;
 pub mod table;

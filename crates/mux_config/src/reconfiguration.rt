@@ -2,11 +2,10 @@
 
 ghost use Rattle.std.specs.Prelude.{◌≡◌};
 ghost use Rattle.mux_config.specs.Configuration.{IsConfiguration};
-ghost use Rattle.mux_config.specs.Change.{IsChange, change_of, is_same_sub, is_same_sid, is_same_component, is_same_service, is_same_packet, is_same_list, has_same_subs, has_same_services};
+ghost use Rattle.mux_config.specs.Change.{IsChange, change_of, is_same_service, is_same_packet, is_same_list, has_same_subs, has_same_services};
 
 use crate::flags::Change;
-use crate::numbers::Sid;
-use crate::parts::{Component, Packet, Service, Sub};
+use crate::sameness::{is_same_packet, is_same_service, is_same_sub};
 use crate::store::Store;
 
 /// What the step from one configuration to the next changes: the sub-channel organization where their entries
@@ -70,51 +69,6 @@ fn has_same_packet_set<S: Store>(current: &S, next: &S) -> bool
     }
     for place in 0..current.packet_count() {
         if !is_same_packet(current.packet_at(place), next.packet_at(place)) {
-            return false;
-        }
-    }
-    true
-}
-
-fn is_same_sub(a: Sub, b: Sub) -> bool
-    ensures { result ≡ is_same_sub a b }
-{
-    a == b
-}
-
-fn is_same_packet(p: Packet, q: Packet) -> bool
-    ensures { result ≡ is_same_packet p q }
-{
-    p == q
-}
-
-fn is_same_component(m: Component, n: Component) -> bool
-    ensures { result ≡ is_same_component m n }
-{
-    m == n
-}
-
-fn is_same_sid(a: Sid, b: Sid) -> bool
-    ensures { result ≡ is_same_sid a b }
-{
-    a == b
-}
-
-fn is_same_service(a: &Service, b: &Service) -> bool
-    ensures { result ≡ is_same_service a.now b.now }
-{
-    is_same_sid(a.sid, b.sid)
-        && has_same_components(a.components.as_slice(), b.components.as_slice())
-}
-
-fn has_same_components(ms: &[Component], ns: &[Component]) -> bool
-    ensures { result ≡ is_same_list is_same_component ms.now ns.now }
-{
-    if ms.len() != ns.len() {
-        return false;
-    }
-    for place in 0..ms.len() {
-        if !is_same_component(ms[place], ns[place]) {
             return false;
         }
     }

@@ -1,6 +1,6 @@
 use Rattle.std.proofs.Common.{◌≡◌, length, drop}
 use Rattle.mux_config.specs.Change.{is_same_component, is_same_list}
-use Rattle.mux_config.proofs.reconfiguration.has_same_components.Given as goal
+use Rattle.mux_config.proofs.sameness.has_same_components.Given as goal
 
 abbrev pub invariant-loop-place : goal.invariant-loop-place
 invariant-loop-place l = record {
