@@ -1,7 +1,6 @@
 -- Contact settings count by the last level of each contact alone.
 use Rattle.std.proofs.Common.{◌≡◌, ◌≢◌, ℕ, ◌-◌, ◌<◌, ◌^◌, Bool, true, false, cond, eqb, List, [], ◌∷◌, ◌++◌, Option, Some, None, refl, sym, ap, subst, ◌∙◌, arith}
 use Rattle.std.specs.Int.{bit_at}
-use Rattle.std.specs.Int.RustNames.{bit_and, bit_or}
 use Rattle.std.proofs.lemmas.Nat.{pow_below, or_lt, and_le_l}
 use Rattle.std.proofs.lemmas.Nat.Bits.{bit_at-lt, same_from_bits_below}
 use Rattle.std.proofs.lemmas.Bool.{eqb-true, eqb-false}
@@ -12,10 +11,10 @@ use Rattle.plan_code.proofs.Bits.{contacts_change_alone}
 use Rattle.plan_code.specs.Program.{Program}
 use Rattle.plan_code.specs.Machine.{State}
 use Rattle.plan_player.specs.declared.event.Event.{Event}
-use Rattle.plan_player.specs.declared.event.Event.TheVariants.{Contact, Frame}
+use Rattle.plan_player.specs.declared.event.Event.TheVariants.{Frame}
 use Rattle.plan_player.specs.Frames.{after_frame, frame_bytes}
 use Rattle.plan_player.specs.Runs.{run, run_frames, run_states}
-use Rattle.plan_player.specs.Settings.{Setting, IsSetting, last_of, level_by, last_level, AreAlike, AreAllAlike, set_events, schedule, LastLevelsCount}
+use Rattle.plan_player.specs.Settings.{Setting, IsSetting, last_of, level_by, last_level, AreAlike, set_events, schedule, LastLevelsCount}
 use Rattle.plan_player.proofs.Unmoved.{frame_contacts}
 
 -- ---- what settings make of the contacts
@@ -77,9 +76,9 @@ alike_contacts xs ys contacts in_xs in_ys below alike =
     let b = contacts_after ys contacts in
     let bits : (i : ℕ) → i < 16 → bit_at a.0 i ≡ bit_at b.0 i =
     λ i low.
-      let same : is_closed a i ≡ is_closed b i =
-      level_after xs contacts i in_xs low ∙ ap (λ l. level_or l (is_closed contacts i)) (alike i) ∙ sym (level_after ys contacts i in_ys low) in
-      one_bit (bit_at a.0 i) (bit_at b.0 i) (bit_at-lt a.0 i) (bit_at-lt b.0 i) same in
+    let same : is_closed a i ≡ is_closed b i =
+    level_after xs contacts i in_xs low ∙ ap (λ l. level_or l (is_closed contacts i)) (alike i) ∙ sym (level_after ys contacts i in_ys low) in
+    one_bit (bit_at a.0 i) (bit_at b.0 i) (bit_at-lt a.0 i) (bit_at-lt b.0 i) same in
     same_contacts a b (same_from_bits_below 16 a.0 b.0 (below_after xs contacts in_xs below) (below_after ys contacts in_ys below) bits)
 
 -- ---- runs over settings
@@ -96,7 +95,6 @@ states_settings : (xs : List Setting) (p : Program) (s : State) (es : List Event
 states_settings [] p s es = refl
 states_settings (x ∷ xs) p s es = states_settings xs p (at_contacts s (with_contact x.contact x.closed s.contacts)) es
 
-
 -- the trailing settings may stand at the end of a list
 end_list : (es : List Event) → es ++ [] ≡ es
 end_list [] = refl
@@ -108,8 +106,7 @@ at_end f xs = ap f (end_list (set_events xs))
 pub last_levels_count : LastLevelsCount
 last_levels_count p s [] [] last other below in_these in_those in_last in_other alike alike_last =
     let e : at_contacts s (contacts_after last s.contacts) ≡ at_contacts s (contacts_after other s.contacts) =
-    ap (λ c. at_contacts s c) (alike_contacts last other s.contacts in_last in_other below alike_last) in
-    (
+    ap (λ c. at_contacts s c) (alike_contacts last other s.contacts in_last in_other below alike_last) in (
       sym (at_end (run_frames p s) last) ∙ frames_settings last p s [] ∙ ap (λ t. run_frames p t []) e ∙ sym (frames_settings other p s []) ∙ at_end (run_frames p s) other,
       sym (at_end (run_states p s) last) ∙ states_settings last p s [] ∙ ap (λ t. run_states p t []) e ∙ sym (states_settings other p s []) ∙ at_end (run_states p s) other,
       sym (at_end (run p s) last) ∙ run_settings last p s [] ∙ ap (λ t. run p t []) e ∙ sym (run_settings other p s []) ∙ at_end (run p s) other,
@@ -124,8 +121,7 @@ last_levels_count p s (x ∷ these) (y ∷ those) last other below in_these in_t
     let there = Frame ∷ schedule those other in
     let still : (after_frame p t).contacts.0 < 2 ^ 16 =
     subst (λ (c : Contacts). c.0 < 2 ^ 16) (sym (frame_contacts p t)) (below_after x s.contacts in_these.0 below) in
-    let more = last_levels_count p (after_frame p t) these those last other still in_these.1 in_those.1 in_last in_other alike.1 alike_last in
-    (
+    let more = last_levels_count p (after_frame p t) these those last other still in_these.1 in_those.1 in_last in_other alike.1 alike_last in (
       frames_settings x p s here ∙ ap (λ fs. frame_bytes p t ∷ fs) more.0 ∙ ap (λ u. run_frames p u there) e ∙ sym (frames_settings y p s there),
       states_settings x p s here ∙ ap (λ ss. t ∷ after_frame p t ∷ ss) more.1 ∙ ap (λ u. run_states p u there) e ∙ sym (states_settings y p s there),
       run_settings x p s here ∙ more.2 ∙ ap (λ u. run p u there) e ∙ sym (run_settings y p s there),

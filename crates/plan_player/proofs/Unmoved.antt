@@ -1,13 +1,12 @@
 -- A frame leaves the contacts as they are.
-use Rattle.std.proofs.Common.{◌≡◌, ℕ, zero, suc, Bool, true, false, cond, Option, Some, None, refl, ap, ◌∙◌}
-use Rattle.mux_config.specs.declared.edit.Edit.{Edit}
+use Rattle.std.proofs.Common.{◌≡◌, ℕ, zero, suc, Bool, true, false, cond, Option, Some, None, refl, ◌∙◌}
 use Rattle.plan_code.specs.declared.plan.Plan.{Plan}
 use Rattle.plan_code.specs.declared.flags.Contacts.{Contacts}
 use Rattle.plan_code.specs.declared.instr.Instr.{Instr}
 use Rattle.plan_code.specs.declared.instr.Instr.TheVariants.{Wait, Until, WaitContact, CommitIn, CommitAt, Join, End, Edit as Edits, Test, Jump, Set, Loop}
 use Rattle.plan_code.specs.Program.{Program, instr_at}
 use Rattle.plan_code.specs.Machine.{State, step, effect, effect_of}
-use Rattle.plan_player.specs.Frames.{is_due, swapped, begun, goes, is_here, woken, burst, ready, settled, is_first_noticed, shown, advanced, after_frame}
+use Rattle.plan_player.specs.Frames.{is_due, swapped, begun, goes, is_here, burst, ready, settled, is_first_noticed, after_frame}
 
 effect_contacts : (plan : Plan) (i : Instr) (s : State) → (effect plan i s).contacts ≡ s.contacts
 effect_contacts plan (Wait n) s = refl

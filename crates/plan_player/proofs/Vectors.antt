@@ -1,9 +1,8 @@
 -- Small runs, computed by the checker: the bytes and the counts are those of worked examples of the field.
-use Rattle.std.proofs.Common.{◌≡◌, ℕ, zero, suc, ◌+◌, true, false, List, [], ◌∷◌, ◌++◌, Option, Some, None, take, drop, replicate, refl}
+use Rattle.std.proofs.Common.{◌≡◌, ℕ, zero, suc, true, false, List, [], ◌∷◌, ◌++◌, Some, None, take, drop, replicate, refl}
 use Rattle.mux_eep.specs.declared.sizes.EepSet.TheVariants.{A}
 use Rattle.mux_config.specs.declared.parts.Sub.{Sub}
 use Rattle.mux_config.specs.declared.parts.Service.{Service}
-use Rattle.mux_config.specs.declared.parts.Component.{Component}
 use Rattle.mux_config.specs.declared.parts.Component.TheVariants.{Sound}
 use Rattle.mux_config.specs.declared.numbers.Sid.TheVariants.{Short}
 use Rattle.mux_config.specs.declared.edit.Edit.TheVariants.{AddSub, AddService, AddComponent, RateSub}
@@ -14,13 +13,13 @@ use Rattle.plan_code.specs.declared.flags.Contacts.{Contacts}
 use Rattle.plan_code.specs.declared.hold.Hold.TheVariants.{Waits}
 use Rattle.plan_code.specs.declared.label.Label.{Label}
 use Rattle.plan_code.specs.declared.instr.Instr.{Instr}
-use Rattle.plan_code.specs.declared.instr.Instr.TheVariants.{WaitContact, CommitIn, CommitAt, Join, End, Edit as Edits, Jump}
+use Rattle.plan_code.specs.declared.instr.Instr.TheVariants.{WaitContact, CommitIn, Join, End, Edit as Edits, Jump}
 use Rattle.plan_code.specs.declared.instr.Line.{Line}
 use Rattle.plan_code.specs.Program.{Program}
 use Rattle.plan_code.specs.Machine.{State, left_at}
 use Rattle.plan_player.specs.declared.event.Event.{Event}
 use Rattle.plan_player.specs.declared.event.Event.TheVariants.{Contact, Frame}
-use Rattle.plan_player.specs.Frames.{is_due, frame_bytes, frame_steps, shown}
+use Rattle.plan_player.specs.Frames.{is_due, frame_bytes, frame_steps}
 use Rattle.plan_player.specs.Runs.{run}
 
 abbrev plan : Plan
@@ -71,13 +70,13 @@ begins =
       configurations = nothing ∷ [];
       labels = empty_label ∷ [];
       lines =
-        line 1 (Edits (AddSub (sub_at_rate 128)))
-        ∷ line 2 (Edits (AddService (Short 0xc221)))
-        ∷ line 3 (Edits (AddComponent (Short 0xc221) (Sound 63 1)))
-        ∷ line 4 (CommitIn 24)
-        ∷ line 5 Join
-        ∷ line 6 End
-        ∷ [];
+          line 1 (Edits (AddSub (sub_at_rate 128)))
+          ∷ line 2 (Edits (AddService (Short 0xc221)))
+          ∷ line 3 (Edits (AddComponent (Short 0xc221) (Sound 63 1)))
+          ∷ line 4 (CommitIn 24)
+          ∷ line 5 Join
+          ∷ line 6 End
+          ∷ [];
     }
 
 -- the first frame carries out five instructions, and then 25 frames are left
@@ -130,16 +129,16 @@ lowers =
       configurations = opening ∷ [];
       labels = loop_label ∷ [];
       lines =
-        line 8 (WaitContact 3 true)
-        ∷ line 9 (Edits (RateSub 1 96))
-        ∷ line 10 (CommitIn 24)
-        ∷ line 11 Join
-        ∷ line 12 (WaitContact 3 false)
-        ∷ line 13 (Edits (RateSub 1 128))
-        ∷ line 14 (CommitIn 24)
-        ∷ line 15 Join
-        ∷ line 7 (Jump 0)
-        ∷ [];
+          line 8 (WaitContact 3 true)
+          ∷ line 9 (Edits (RateSub 1 96))
+          ∷ line 10 (CommitIn 24)
+          ∷ line 11 Join
+          ∷ line 12 (WaitContact 3 false)
+          ∷ line 13 (Edits (RateSub 1 128))
+          ∷ line 14 (CommitIn 24)
+          ∷ line 15 Join
+          ∷ line 7 (Jump 0)
+          ∷ [];
     }
 
 -- one frame, and then contact 3 is closed, open and closed again

@@ -1,5 +1,5 @@
 -- What was heard of a notice, and when it is enough for the swap.
-use Rattle.std.specs.Prelude.{◌≡◌, ℕ, zero, suc, ◌+◌, ◌-◌, ◌%◌, ◌<◌, Bool, true, false, if◌then◌else◌, List, [], ◌∷◌, ◌++◌, Contains, slice_get, Option, Some, None}
+use Rattle.std.specs.Prelude.{◌≡◌, ℕ, zero, suc, ◌+◌, ◌-◌, ◌%◌, ◌<◌, Bool, true, if◌then◌else◌, List, [], ◌∷◌, ◌++◌, Contains, slice_get, Option, Some, None}
 use Rattle.mux_config.specs.Configuration.{Configuration}
 use Rattle.mux_config.specs.Entries.{EnsembleInformation}
 use Rattle.mux_config.specs.Facts.{Marked, facts_of}
@@ -10,7 +10,7 @@ use Rattle.plan_code.specs.Program.{Program}
 use Rattle.plan_code.specs.Machine.{State}
 use Rattle.plan_player.specs.declared.event.Event.{Event}
 use Rattle.plan_player.specs.declared.event.Event.TheVariants.{Contact, Frame}
-use Rattle.plan_player.specs.Frames.{is_due, is_noticed, shown, shown_bytes, advanced, frame_bytes, after_frame, FrameIsAllowed}
+use Rattle.plan_player.specs.Frames.{is_due, is_noticed, shown, shown_bytes, advanced, frame_bytes, FrameIsAllowed}
 use Rattle.plan_player.specs.Runs.{happens}
 
 -- ---- what is heard of frames, by their bytes alone

@@ -1,6 +1,6 @@
 -- What a typed code promises, for every list of events: the statements, each of which is to be the contract of a
 -- law and of the player's calls.
-use Rattle.std.specs.Prelude.{◌≡◌, ℕ, ◌+◌, ◌%◌, ◌<◌, ◌≤◌, ◌^◌, ◌==◌, Bool, true, false, MatchBool, IfSome, List, [], ◌∷◌, Option, Some, None}
+use Rattle.std.specs.Prelude.{◌≡◌, ℕ, ◌%◌, ◌<◌, ◌≤◌, ◌==◌, true, false, MatchBool, List, [], ◌∷◌, Some}
 use Rattle.mux_config.specs.Configuration.{Each}
 use Rattle.mux_config.specs.Entries.{EnsembleInformation}
 use Rattle.mux_config.specs.Sound.{IsSound}
@@ -12,7 +12,7 @@ use Rattle.plan_player.specs.declared.event.Event.{Event}
 use Rattle.plan_player.specs.declared.event.Event.TheVariants.{Contact, Frame}
 use Rattle.plan_player.specs.declared.event.Start.{Start}
 use Rattle.plan_player.specs.Frames.{is_due, frame_bytes, frame_steps, after_frame}
-use Rattle.plan_player.specs.Runs.{IsStart, RunIsAllowed, happens, run, run_states}
+use Rattle.plan_player.specs.Runs.{IsStart, RunIsAllowed, happens, run}
 use Rattle.plan_player.specs.Announced.{Runs, heard_along, heard_of}
 use Rattle.plan_player.specs.RightBytes.{FramesAreRight, IsHeardEachPeriod}
 

@@ -1,6 +1,6 @@
 -- What the bytes of a frame have to be, and of the frames of a phase (EN 300 401 clauses 5.2.1, 6.4 and 6.5).
-use Rattle.std.specs.Prelude.{◌≡◌, ◌≢◌, ℕ, ◌+◌, ◌%◌, ◌<◌, ◌⊎◌, Bool, true, false, List, [], ◌∷◌, length, Contains, Option, Some, None}
-use Rattle.mux_config.specs.Configuration.{Configuration, Each}
+use Rattle.std.specs.Prelude.{◌≡◌, ◌≢◌, ℕ, ◌+◌, ◌%◌, ◌<◌, ◌⊎◌, true, false, List, [], ◌∷◌, length, Contains, Option, Some, None}
+use Rattle.mux_config.specs.Configuration.{Each}
 use Rattle.mux_config.specs.Entries.{EnsembleInformation}
 use Rattle.mux_config.specs.Facts.{Marked, marked, facts_of}
 use Rattle.mux_config.specs.declared.entry.Entry.TheVariants.{Ensemble as EnsembleOf}

@@ -1,5 +1,5 @@
 -- Runs: what the states and the bytes are over a list of events, and that no trap is met.
-use Rattle.std.specs.Prelude.{◌≡◌, ℕ, List, [], ◌∷◌, Option, Some, None, slice_get, replicate}
+use Rattle.std.specs.Prelude.{◌≡◌, ℕ, List, [], ◌∷◌, Some, None, slice_get, replicate}
 use Rattle.plan_code.specs.declared.hold.Hold.TheVariants.{Waits}
 use Rattle.plan_code.specs.declared.label.Label.{Label}
 use Rattle.plan_code.specs.Flags.{with_contact}

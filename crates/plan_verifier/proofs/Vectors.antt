@@ -1,16 +1,14 @@
 -- Small codes that are not typed, each for its reason, and the bounds of a pending swap.
-use Rattle.std.proofs.Common.{◌≡◌, ℕ, ◌<◌, ◌≤◌, true, false, List, [], ◌∷◌, Option, Some, None, is_some, refl, sym, ap, subst, arith, inl, inr}
-
-use Rattle.mux_config.specs.Configuration.{Configuration, nothing}
+use Rattle.std.proofs.Common.{◌≡◌, ℕ, ◌<◌, true, List, [], ◌∷◌, Option, Some, None, is_some, refl, sym, ap, subst, arith, inl, inr}
+use Rattle.mux_config.specs.Configuration.{nothing}
 use Rattle.plan_code.specs.declared.plan.Plan.{Plan}
 use Rattle.plan_code.specs.declared.flags.Counters.{Counters}
 use Rattle.plan_code.specs.declared.label.Label.{Label}
 use Rattle.plan_code.specs.declared.instr.Instr.{Instr}
-use Rattle.plan_code.specs.declared.instr.Instr.TheVariants.{Wait, CommitIn, Join, End, Jump, Loop}
-use Rattle.plan_code.specs.declared.instr.Line.{Line}
+use Rattle.plan_code.specs.declared.instr.Instr.TheVariants.{Wait, CommitIn, Join, Jump, Loop}
 use Rattle.plan_code.specs.Flags.{is_set}
-use Rattle.plan_code.specs.Program.{Program, instr_at, label_at}
-use Rattle.plan_verifier.specs.Typing.{Known, IsFine, IsCertain, leaves, waited, IsTyping, IsTyped, Declares, HasOpening, IsOpening, IsPlaced, Reaches, IsSafe}
+use Rattle.plan_code.specs.Program.{Program}
+use Rattle.plan_verifier.specs.Typing.{Known, IsFine, leaves, IsTyped, IsSafe}
 
 abbrev plan : Plan
 plan = record { eid = 0xe1c5; period = 4; notice = 24; budget = 20 }
