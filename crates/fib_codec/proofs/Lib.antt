@@ -4,3 +4,5 @@ pub mod Words
 pub mod Uniqueness
 pub mod Lengths
 pub mod Finished
+pub mod Told
+pub mod Sent

@@ -3,7 +3,10 @@
 use Rattle.std.specs.Prelude.{◌≡◌, ◌≢◌, ℕ, ◌+◌, ◌*◌, ◌/◌, ◌%◌, ◌<◌, ◌≤◌, ◌==◌, ◌&&◌, nat_lt, Bool, true, false, if◌then◌else◌, ◌⊎◌, List, [], ◌∷◌, ◌++◌, length, map, flat_map, take, get_or}
 use Rattle.mux_config.specs.Configuration.{Each}
 use Rattle.fib_codec.specs.Crc.{IsChecked}
-use Rattle.fib_codec.specs.Spelling.{Written, entry_bytes, head_byte, fig_bytes, filled}
+use Rattle.fib_codec.specs.Spelling.{Written, IsWritten, IsUnder, entry_bytes, head_byte, fig_bytes, figs_bytes, fib_bytes, filled}
+use Rattle.fib_codec.specs.declared.head.Head.{Head}
+use Rattle.fib_codec.specs.Ranges.{IsWithin}
+use Rattle.mux_config.specs.declared.entry.Entry.{Entry}
 
 -- how long the entry is that begins here, as the bytes that decide it say; more than are there where one of
 -- these is missing. FIG 0/0 has its occurrence change where a flag is set, FIG 0/1 a long form, FIG 0/2 a number
@@ -109,3 +112,18 @@ IsOurs w = w.head.oe ≡ false
 -- 32 bytes hold at most one list of FIGs
 abbrev pub OneList : Type 0
 OneList = (bytes : List ℕ) (figs others : List Fig) → IsFib bytes figs → IsFib bytes others → figs ≡ others
+
+-- an entry that is written is one in the grammar
+abbrev pub SpellingIsEntry : Type 0
+SpellingIsEntry =
+    (head : Head) (e : Entry) → IsUnder head e → IsWithin e → IsEntry head.ext head.long (entry_bytes e)
+
+-- a FIB that is written holds its FIGs, and is valid where each of them is of this ensemble
+abbrev pub WrittenIsFib : Type 0
+WrittenIsFib =
+    (figs : List Written) → Each IsWritten figs → length (figs_bytes figs) ≤ 30 → IsFib (fib_bytes figs) (map fig_of figs)
+
+abbrev pub WrittenIsValid : Type 0
+WrittenIsValid =
+    (figs : List Written) → Each IsWritten figs → length (figs_bytes figs) ≤ 30 → Each IsOurs figs
+    → IsValid (fib_bytes figs) (map fig_of figs)

@@ -1,12 +1,13 @@
 -- Which entries a receiver hears in FIBs, by the grammar alone (EN 300 401 clauses 5.2.2.1, 6.2.1, 6.3.1, 6.3.2
 -- and 6.4).
-use Rattle.std.specs.Prelude.{◌≡◌, ℕ, ◌*◌, ◌%◌, ◌≤◌, Bool, List, take, drop, Contains}
+use Rattle.std.specs.Prelude.{◌≡◌, ℕ, ◌*◌, ◌%◌, ◌≤◌, ◌↔◌, Bool, if◌then◌else◌, List, [], map, flat_map, take, drop, Contains}
+use Rattle.mux_config.specs.Configuration.{Each}
 use Rattle.mux_config.specs.Entries.{EnsembleInformation}
-use Rattle.mux_config.specs.Facts.{Marked}
+use Rattle.mux_config.specs.Facts.{Marked, marked}
 use Rattle.mux_config.specs.declared.entry.Entry.TheVariants.{Ensemble as EnsembleOf}
 use Rattle.fib_codec.specs.Ranges.{IsWithin}
-use Rattle.fib_codec.specs.Spelling.{entry_bytes, ext_of, is_long_entry}
-use Rattle.fib_codec.specs.Grammar.{Fig, Open, Other, IsFib, is_next, is_long}
+use Rattle.fib_codec.specs.Spelling.{entry_bytes, ext_of, is_long_entry, Written, IsWritten}
+use Rattle.fib_codec.specs.Grammar.{Fig, Open, Other, IsFib, fig_of, is_next, is_long}
 
 -- these bytes, in a FIG with this second byte, are the marked entry: its extension, its C/N flag, for a service
 -- the P/D flag of its SId, and its spelling
@@ -45,3 +46,16 @@ IsHeardInRow bytes m = (place : ℕ) × IsHeard (fib_at bytes place) m
 
 abbrev pub IsEnsembleHeardInRow : List ℕ → Bool → EnsembleInformation → Type 0
 IsEnsembleHeardInRow bytes next e = (place : ℕ) × IsEnsembleHeard (fib_at bytes place) next e
+
+-- what FIGs that are written say: their entries with the C/N flag of their head, but nothing of another ensemble
+abbrev pub marked_by : Written → List Marked
+marked_by w = if w.head.oe then [] else map (marked w.head.next) w.entries
+
+abbrev pub marked_of : List Written → List Marked
+marked_of figs = flat_map marked_by figs
+
+-- in a FIB that holds written FIGs stand exactly their marked entries
+abbrev pub HeardIsWritten : Type 0
+HeardIsWritten =
+    (bytes : List ℕ) (figs : List Written) → Each IsWritten figs → IsFib bytes (map fig_of figs)
+    → (m : Marked) → IsInFib bytes m ↔ Contains (marked_of figs) m

@@ -167,3 +167,9 @@ fib_bytes figs = checked (filled (figs_bytes figs))
 pub record FitsFig (bytes : List ℕ) (head : Head) (entries : List Entry) : Type 0 where
   pub formed : IsFormed head entries
   pub room : length bytes + length (fig_bytes head entries) ≤ 30
+
+-- entries of one extension and, for services, one P/D flag are told apart by how they are written
+abbrev pub SpellingTells : Type 0
+SpellingTells =
+    (e f : Entry) → IsWithin e → IsWithin f → ext_of e ≡ ext_of f → is_long_entry e ≡ is_long_entry f
+    → entry_bytes e ≡ entry_bytes f → e ≡ f

@@ -1,9 +1,31 @@
 //! What holds of all FIBs, whatever writes or reads them. Each law is a function that does nothing; its
 //! contract is the law.
 
-ghost use Rattle.fib_codec.specs.Grammar.{OneList};
+ghost use Rattle.fib_codec.specs.Spelling.{SpellingTells};
+ghost use Rattle.fib_codec.specs.Grammar.{OneList, SpellingIsEntry, WrittenIsFib, WrittenIsValid};
+ghost use Rattle.fib_codec.specs.Heard.{HeardIsWritten};
 
 /// The law of the grammar: 32 bytes hold at most one list of FIGs.
 pub fn one_list()
     ensures { OneList }
+{}
+
+/// The law of spellings: an entry that is written is an entry in the grammar, and entries of one extension
+/// and one P/D flag are told apart by their bytes.
+pub fn spelling()
+    ensures is_entry { SpellingIsEntry }
+    ensures tells { SpellingTells }
+{}
+
+/// The law of written FIBs: their bytes hold exactly the FIGs that were written, and are valid where all of
+/// these are of this ensemble.
+pub fn written()
+    ensures fib { WrittenIsFib }
+    ensures valid { WrittenIsValid }
+{}
+
+/// The law of hearing: in bytes that hold written FIGs stand exactly the entries of those FIGs, each with
+/// the C/N flag of its head, and none of another ensemble.
+pub fn heard()
+    ensures { HeardIsWritten }
 {}

@@ -1,0 +1,9 @@
+use Rattle.fib_codec.proofs.Finished.{entry_is}
+use Rattle.fib_codec.proofs.Told.{entry_told}
+use Rattle.fib_codec.proofs.laws.spelling.Goals as goal
+
+pub returns-clause-is_entry : goal.returns-clause-is_entry
+returns-clause-is_entry c = entry_is
+
+pub returns-clause-tells : goal.returns-clause-tells
+returns-clause-tells c = entry_told
