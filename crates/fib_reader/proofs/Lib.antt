@@ -2,3 +2,5 @@ pub mod FaultSteps
 pub mod Lengths
 pub mod EntryLists
 pub mod FigLists
+pub mod Keeping
+pub mod Room

@@ -2,6 +2,7 @@ pub mod Faults
 pub mod Raw
 pub mod Walk
 pub mod Listening
+pub mod Picture
 pub mod Laws
 pub use Rattle.mux_config.specs.Configuration
 pub use Rattle.mux_config.specs.Facts

@@ -1,7 +1,8 @@
 //! Single bytes of a FIG, and what they say.
 
-ghost use Rattle.std.specs.Prelude.{◌≡◌, get_or};
+ghost use Rattle.std.specs.Prelude.{◌≡◌, ◌<◌, get_or};
 ghost use Rattle.fib_codec.specs.Grammar.{entry_len, is_open, is_long};
+ghost use Rattle.fib_reader.specs.Listening.{word_at};
 
 /// The byte at a place, or 0 past the end.
 pub(crate) fn byte_at(bytes: &[u8], place: usize) -> u8
@@ -11,6 +12,15 @@ pub(crate) fn byte_at(bytes: &[u8], place: usize) -> u8
         Some(byte) => *byte,
         None => 0,
     }
+}
+
+/// The number that two bytes are, the first one higher; a byte past the end is 0.
+pub(crate) fn word_at(bytes: &[u8], place: usize) -> u64
+    requires { place < 8 }
+    ensures value { result ≡ word_at place bytes.now }
+    ensures in_range { result < 65536 }
+{
+    u64::from(byte_at(bytes, place)) * 256 + u64::from(byte_at(bytes, place + 1))
 }
 
 /// Whether this second byte of a FIG of type 0 says OE 0 and an extension from 0 to 3.

@@ -4,7 +4,7 @@ ghost use Rattle.std.specs.Prelude.{◌≡◌, ◌<◌, ◌≤◌, [], ◌∷◌
 ghost use Rattle.fib_codec.specs.Grammar.{entry_len};
 ghost use Rattle.fib_reader.specs.Walk.{entries_of};
 
-use crate::bytes::{byte_at, entry_len_of, is_long_of};
+use crate::bytes::{byte_at, entry_len_of, is_long_of, word_at};
 use crate::value::{ensemble_of, packet_of, service_of, short_of, sub_of};
 use mux_config::Entry;
 use std::marker::Model;
@@ -28,12 +28,43 @@ impl<'a> Model for RawEntry<'a> {
 }
 
 impl<'a> RawEntry<'a> {
-    ghost use Rattle.std.specs.Prelude.{◌≡◌, ◌<◌};
-    ghost use Rattle.fib_reader.specs.Raw.{IsValue};
+    ghost use Rattle.std.specs.Prelude.{◌≡◌, ◌<◌, ◌≤◌, length};
+    ghost use Rattle.fib_reader.specs.Raw.{IsRaw, IsValue};
+    ghost use Rattle.fib_reader.specs.Listening.{identifier_of};
+
+    /// An entry of these bytes, which must be whole.
+    pub(crate) fn of(ext: u8, long: bool, bytes: &'a [u8]) -> Self
+        requires { IsRaw (record { ext = ext; long = long; bytes = bytes.now }) }
+        ensures { result ≡ record { ext = ext; long = long; bytes = bytes.now } }
+    {
+        RawEntry { ext, long, bytes }
+    }
+
+    /// What tells it from the other entries of its extension: the SubChId in both forms of FIG 0/1, the SId
+    /// with all short ones before the long ones, the SCId (EN 300 401 clauses 6.2.1, 6.3.1 and 6.3.2).
+    pub fn identifier(&self) -> u64
+        ensures value { result ≡ identifier_of self.now }
+        ensures sub { self.now.ext ≡ 1 → result < 64 }
+        ensures in_range { self.now.ext < 4 }
+    {
+        match self.ext {
+            1 => u64::from(byte_at(self.bytes, 0) / 4),
+            2 => {
+                if self.long {
+                    65_536 + (word_at(self.bytes, 0) * 65_536 + word_at(self.bytes, 2))
+                } else {
+                    word_at(self.bytes, 0)
+                }
+            }
+            _ => word_at(self.bytes, 0) / 16,
+        }
+    }
 
     /// Its bytes, as they stand in the FIB.
     pub fn bytes(&self) -> &'a [u8]
-        ensures { result.now ≡ self.now.bytes }
+        ensures value { result.now ≡ self.now.bytes }
+        ensures short { length result.now ≤ 35 }
+        ensures whole { IsRaw self.now }
     {
         self.bytes
     }

@@ -6,10 +6,15 @@ pub mod checking;
 pub mod entries;
 pub mod fault;
 pub mod figs;
+mod kept;
 pub mod laws;
+pub mod listener;
+pub mod picture;
 mod value;
 
 pub use checking::check;
 pub use entries::{Entries, RawEntry};
 pub use fault::{FibFault, ListenFault};
 pub use figs::{Fig, Figs};
+pub use listener::Listener;
+pub use picture::Picture;

@@ -1,0 +1,159 @@
+-- Sets of entries, kept in ascending order of their identifiers.
+use Rattle.std.proofs.Common.{◌≡◌, ◌≢◌, ℕ, zero, suc, ◌+◌, ◌-◌, ◌<◌, ◌≤◌, ◌==◌, ◌++◌, Bool, true, false, cond, nat_lt, List, [], ◌∷◌, length, map, Option, Some, None, is_some, inl, inr, refl, ap, sym, ◌∙◌, subst, lt-ltb, le-ltb, arith}
+use Rattle.std.specs.Prelude.{◌||◌}
+use Rattle.std.specs.List.{find}
+use Rattle.std.proofs.lemmas.Bool.{ltb-false, ltb-true, cases_lt, eq-eqb, ne_eqb, eqb-true, eqb-false}
+use Rattle.mux_config.specs.Configuration.{Each, IsAscending}
+use Rattle.mux_config.specs.Tables.{entry_at, with_entry, with_entry_changed}
+use Rattle.mux_config.specs.Edits.{has_entry}
+use Rattle.std.specs.Prelude.{option_copied}
+use Rattle.std.proofs.Common.{Bor, take}
+use Rattle.std.proofs.Math.Seq.{take-append_seam}
+use Rattle.fib_reader.specs.Raw.{Raw, IsRaw}
+use Rattle.fib_reader.specs.Listening.{identifier_of, is_known, kept, has_room}
+
+-- what is kept of a known entry and of a new one
+pub kept-known : (raw : Raw) (raws : List Raw) → is_known raw raws ≡ true → kept raw raws ≡ with_entry_changed identifier_of raw raws
+kept-known raw raws known =
+    ap (λ b. cond b (with_entry_changed identifier_of raw raws) (with_entry identifier_of raw raws)) known
+
+pub kept-new : (raw : Raw) (raws : List Raw) → is_known raw raws ≡ false → kept raw raws ≡ with_entry identifier_of raw raws
+kept-new raw raws known =
+    ap (λ b. cond b (with_entry_changed identifier_of raw raws) (with_entry identifier_of raw raws)) known
+
+pub room_for_known : (raw : Raw) (raws : List Raw) → is_known raw raws ≡ true → has_room raw raws ≡ true
+room_for_known raw raws known = ap (λ b. b || nat_lt (length raws) 64) known
+
+or_right : (a b : Bool) → b ≡ true → (a || b) ≡ true
+or_right true b h = refl
+or_right false b h = h
+
+or_left : (a b : Bool) → a ≡ true → (a || b) ≡ true
+or_left true b h = refl
+or_left false b h = absurd (cc)
+
+pub room_for_new : (raw : Raw) (raws : List Raw) → length raws < 64 → has_room raw raws ≡ true
+room_for_new raw raws few = or_right (is_known raw raws) (nat_lt (length raws) 64) (lt-ltb (length raws) 64 few)
+
+pub no_room : (raw : Raw) (raws : List Raw) → is_known raw raws ≡ false → 64 ≤ length raws → has_room raw raws ≡ false
+no_room raw raws known full = ap (λ b. b || nat_lt (length raws) 64) known ∙ le-ltb (length raws) 64 full
+
+-- a property of each entry stays one
+each_changed :
+    (P : Raw → Type 0) (raw : Raw) (raws : List Raw) → P raw → Each P raws → Each P (with_entry_changed identifier_of raw raws)
+each_changed P raw [] one all = tt
+each_changed P raw (x ∷ xs) one all = (chosen (identifier_of x == identifier_of raw), each_changed P raw xs one all.1)
+  where
+    chosen : (b : Bool) → P (cond b raw x)
+    chosen true = one
+    chosen false = all.0
+
+each_added : (P : Raw → Type 0) (raw : Raw) (raws : List Raw) → P raw → Each P raws → Each P (with_entry identifier_of raw raws)
+each_added P raw [] one all = (one, tt)
+each_added P raw (x ∷ xs) one all =
+    let more = each_added P raw xs one all.1 in
+    elim (nat_lt (identifier_of raw) (identifier_of x)) as (λ b. Each P (cond b (raw ∷ x ∷ xs) (x ∷ with_entry identifier_of raw xs))) [
+      | true ↦ (one, all)
+      | false ↦ (all.0, more)
+    ]
+
+pub each_kept : (P : Raw → Type 0) (raw : Raw) (raws : List Raw) → P raw → Each P raws → Each P (kept raw raws)
+each_kept P raw raws one all = chosen (is_known raw raws)
+  where
+    chosen : (b : Bool) → Each P (cond b (with_entry_changed identifier_of raw raws) (with_entry identifier_of raw raws))
+    chosen true = each_changed P raw raws one all
+    chosen false = each_added P raw raws one all
+
+-- ---- sixty-four sub-channels are all there are
+
+each_weaker : (P Q : Raw → Type 0) (xs : List Raw) → ((x : Raw) → P x → Q x) → Each P xs → Each Q xs
+each_weaker P Q [] f all = tt
+each_weaker P Q (x ∷ xs) f all = (f x all.0, each_weaker P Q xs f all.1)
+
+-- so many numbers fit between two
+few_between :
+    (low high : ℕ) (xs : List Raw) → IsAscending identifier_of xs → Each (λ x. low ≤ identifier_of x) xs
+    → Each (λ x. identifier_of x < high) xs → length xs ≤ high - low
+few_between low high [] up from below = omega arith
+few_between low high (x ∷ xs) up from below =
+    let above : Each (λ y. identifier_of x + 1 ≤ identifier_of y) xs =
+    each_weaker (λ y. identifier_of x < identifier_of y) (λ y. identifier_of x + 1 ≤ identifier_of y) xs (λ y lt. omega arith) up.0 in
+    let more : length xs ≤ high - (identifier_of x + 1) = few_between (identifier_of x + 1) high xs up.1 above below.1 in
+    let one : low ≤ identifier_of x = from.0 in
+    let other : identifier_of x < high = below.0 in
+    omega arith
+
+-- where they all are there, each is
+all_there :
+    (low high k : ℕ) (xs : List Raw) → IsAscending identifier_of xs → Each (λ x. low ≤ identifier_of x) xs
+    → Each (λ x. identifier_of x < high) xs → high - low ≤ length xs → low ≤ k → k < high
+    → has_entry identifier_of k xs ≡ true
+all_there low high k [] up from below full at_least under = absurd (omega arith)
+all_there low high k (x ∷ xs) up from below full at_least under =
+    let above : Each (λ y. identifier_of x + 1 ≤ identifier_of y) xs =
+    each_weaker (λ y. identifier_of x < identifier_of y) (λ y. identifier_of x + 1 ≤ identifier_of y) xs (λ y lt. omega arith) up.0 in
+    let few : length xs ≤ high - (identifier_of x + 1) = few_between (identifier_of x + 1) high xs up.1 above below.1 in
+    let one : low ≤ identifier_of x = from.0 in
+    let other : identifier_of x < high = below.0 in
+    elim (cases_lt (identifier_of x) k) [
+      | inl less ↦ or_right (identifier_of x == k) _
+          (all_there (identifier_of x + 1) high k xs up.1 above below.1 (omega arith) (omega arith) under)
+      | inr least ↦ elim (cases_lt k (identifier_of x)) [
+        | inl more ↦ absurd (omega arith)
+        | inr most ↦ (let same : identifier_of x ≡ k = omega arith in or_left (identifier_of x == k) _ (eq-eqb (identifier_of x) k same))
+      ]
+    ]
+
+pub room_for_subs :
+    (raw : Raw) (raws : List Raw) → IsAscending identifier_of raws → Each (λ x. (x.ext ≡ 1) × (identifier_of x < 64)) raws
+    → identifier_of raw < 64 → has_room raw raws ≡ true
+room_for_subs raw raws up all one =
+    let below : Each (λ x. identifier_of x < 64) raws =
+    each_weaker (λ x. (x.ext ≡ 1) × (identifier_of x < 64)) (λ x. identifier_of x < 64) raws (λ x h. h.1) all in
+    let from : Each (λ x. 0 ≤ identifier_of x) raws =
+    each_weaker (λ x. identifier_of x < 64) (λ x. 0 ≤ identifier_of x) raws (λ x h. omega arith) below in
+    elim (cases_lt (length raws) 64) [
+      | inl few ↦ room_for_new raw raws few
+      | inr full ↦ room_for_known raw raws (all_there 0 64 (identifier_of raw) raws up from below (omega arith) (omega arith) one)
+    ]
+
+-- what a look-up says
+pub has_entry-found :
+    (k : ℕ) (raws : List Raw) → has_entry identifier_of k raws ≡ is_some (entry_at identifier_of k raws)
+has_entry-found k [] = refl
+has_entry-found k (x ∷ xs) =
+    let more = has_entry-found k xs in
+    elim (identifier_of x == k) as (λ b. (b || has_entry identifier_of k xs) ≡ is_some (cond b (Some x) (entry_at identifier_of k xs))) [
+      | true ↦ refl
+      | false ↦ more
+    ]
+
+copied-is_some : (o : Option (Bor Raw)) → is_some (option_copied o) ≡ is_some o
+copied-is_some None = refl
+copied-is_some (Some x) = refl
+
+pub looked_up :
+    (raw : Raw) (raws : List Raw) (identifier : ℕ) (o : Option (Bor Raw)) (b : Bool) → identifier ≡ identifier_of raw
+    → option_copied o ≡ entry_at identifier_of identifier raws → b ≡ is_some o → is_known raw raws ≡ b
+looked_up raw raws identifier o b same found is =
+    ap (λ k. has_entry identifier_of k raws) (sym same) ∙ has_entry-found identifier raws ∙ ap is_some (sym found)
+    ∙ copied-is_some o ∙ sym is
+
+-- an entry of equal parts
+pub raw_again :
+    (raw : Raw) (ext : ℕ) (long : Bool) (bytes : List ℕ) → IsRaw raw → ext ≡ raw.ext → long ≡ raw.long → bytes ≡ raw.bytes
+    → IsRaw (record { ext = ext; long = long; bytes = bytes })
+raw_again raw ext long bytes is e l b =
+    subst (λ (x : ℕ). IsRaw (record { ext = x; long = long; bytes = bytes })) (sym e)
+    (subst (λ (x : Bool). IsRaw (record { ext = raw.ext; long = x; bytes = bytes })) (sym l)
+    (subst (λ (x : List ℕ). IsRaw (record { ext = raw.ext; long = raw.long; bytes = x })) (sym b) is))
+
+pub copied_front : (n : ℕ) (xs ys zs : List ℕ) → length zs ≡ n → xs ≡ zs → take n (xs ++ ys) ≡ zs
+copied_front n xs ys zs len same =
+    ap (λ x. take n (x ++ ys)) same ∙ ap (λ k. take k (zs ++ ys)) (sym len) ∙ take-append_seam zs ys
+
+pub each_after :
+    (P : Raw → Type 0) (raw : Raw) (old new : List Raw) (b : Bool) → P raw → Each P old → (b ≡ true → new ≡ kept raw old)
+    → (b ≡ false → new ≡ old) → Each P new
+each_after P raw old new true one all taken refused = subst (Each P) (sym (taken refl)) (each_kept P raw old one all)
+each_after P raw old new false one all taken refused = subst (Each P) (sym (refused refl)) all

@@ -1,0 +1,28 @@
+-- What holds of every picture.
+use Rattle.std.specs.Prelude.{◌≡◌, ℕ, ◌<◌, ◌≤◌, List, length, flat_map}
+use Rattle.mux_config.specs.Configuration.{Each}
+use Rattle.fib_codec.specs.Grammar.{Fig}
+use Rattle.fib_reader.specs.Raw.{Raw, entries_in}
+use Rattle.fib_reader.specs.Listening.{Pictured, Listening, identifier_of}
+
+-- each list has entries of its extension, and there are 64 sub-channels at most
+abbrev pub IsSubOf : Raw → Type 0
+IsSubOf raw = (raw.ext ≡ 1) × (identifier_of raw < 64)
+
+pub record IsPictured (p : Pictured) : Type 0 where
+  pub subs : Each IsSubOf p.subs
+  pub services : Each (λ raw. raw.ext ≡ 2) p.services
+  pub packets : Each (λ raw. raw.ext ≡ 3) p.packets
+
+-- so many services and packet components at most
+pub record HasRoom (most : ℕ) (p : Pictured) : Type 0 where
+  pub services : length p.services ≤ most
+  pub packets : length p.packets ≤ most
+
+pub record IsRoomy (most : ℕ) (l : Listening) : Type 0 where
+  pub current : HasRoom most l.current
+  pub next : HasRoom most l.next
+
+-- how many entries there are in FIGs
+abbrev pub entry_count : List Fig → ℕ
+entry_count figs = length (flat_map entries_in figs)

@@ -1,0 +1,85 @@
+//! An entry with bytes of its own, as a picture keeps it.
+
+ghost use Rattle.std.specs.Prelude.{◌≡◌};
+
+use crate::entries::RawEntry;
+use mux_config::Keyed;
+use std::marker::Model;
+
+/// The longest entry there can be: a service with an SId of 32 bits and 15 components.
+const LONGEST: usize = 35;
+
+/// An entry with bytes of its own. Contracts see it as the entry that is sent.
+#[derive(Drop)]
+pub struct Kept {
+    bytes: [u8; LONGEST],
+    len: u8,
+    ext: u8,
+    long: bool,
+}
+
+impl Model for Kept {
+    ghost use Rattle.std.specs.Prelude.{take, ◌≤◌};
+    ghost use Rattle.fib_reader.specs.Raw.{Raw, IsRaw};
+
+    ghost Value = { Raw };
+
+    ghost view = { λ k. record { ext = k.ext; long = k.long; bytes = take k.len k.bytes } };
+
+    ghost invariant = { λ k. (k.len ≤ 35) × IsRaw (record { ext = k.ext; long = k.long; bytes = take k.len k.bytes }) };
+}
+
+impl Kept {
+    /// A copy of an entry.
+    pub fn of(entry: &RawEntry<'_>) -> Kept
+        ensures { result ≡ entry.now }
+    {
+        let given = entry.bytes();
+        let mut bytes = [0; LONGEST];
+        bytes[..given.len()].copy_from_slice(given);
+        Kept {
+            bytes,
+            len: given.len() as u8,
+            ext: entry.ext(),
+            long: entry.long(),
+        }
+    }
+
+    /// The entry, lent.
+    pub fn lent(&self) -> RawEntry<'_>
+        ensures { result ≡ self.now }
+    {
+        RawEntry::of(self.ext, self.long, &self.bytes[..usize::from(self.len)])
+    }
+}
+
+impl Default for Kept {
+    /// A sub-channel in the short form, all zeros. It fills the unused places of a table.
+    fn default() -> Kept {
+        Kept {
+            bytes: [0; LONGEST],
+            len: 3,
+            ext: 1,
+            long: false,
+        }
+    }
+}
+
+impl Keyed for Kept {
+    ghost use Rattle.fib_reader.specs.Listening.{identifier_of};
+
+    ghost key = { identifier_of };
+
+    fn key(&self) -> u64 {
+        self.lent().identifier()
+    }
+
+    fn copied(&self) -> Kept {
+        Kept {
+            bytes: self.bytes,
+            len: self.len,
+            ext: self.ext,
+            long: self.long,
+        }
+    }
+}

@@ -1,0 +1,214 @@
+//! A receiver's memory of the multiplex configuration.
+
+use crate::bytes::byte_at;
+use crate::checking::check;
+use crate::entries::{Entries, RawEntry};
+use crate::fault::ListenFault;
+use crate::figs::Figs;
+use crate::picture::Picture;
+use std::marker::Model;
+use std::mem;
+
+/// What a receiver believes of the multiplex: two pictures, of the current and of the next configuration,
+/// and when a swap is awaited (EN 300 401 clauses 6.4 and 6.5). Until it has heard a FIG 0/0 it keeps no entry.
+#[derive(Drop)]
+pub struct Listener {
+    tuned: bool,
+    current: Picture,
+    next: Picture,
+    awaited: Option<u8>,
+}
+
+impl Model for Listener {
+    ghost use Rattle.fib_reader.specs.Listening.{Listening};
+
+    ghost Value = { Listening };
+
+    ghost view = { λ l. record { tuned = l.tuned; current = l.current; next = l.next; awaited = l.awaited } };
+}
+
+impl Listener {
+    ghost use Rattle.std.specs.Prelude.{◌≡◌, ◌≤◌, List, true, false, Some, None};
+    ghost use Rattle.fib_codec.specs.Grammar.{Fig, IsFib};
+    ghost use Rattle.fib_reader.specs.Raw.{Raw};
+    ghost use Rattle.fib_reader.specs.Picture.{IsRoomy, entry_count};
+    ghost use Rattle.fib_reader.specs.Listening.{untuned, at_ensemble, hear_entry, hear_entries, hear_figs, swapped, Hears, Heard};
+
+    /// A listener that has heard nothing.
+    pub fn new() -> Listener
+        ensures { result ≡ untuned }
+    {
+        Listener {
+            tuned: false,
+            current: Picture::new(),
+            next: Picture::new(),
+            awaited: None,
+        }
+    }
+
+    /// What it has heard of the current configuration.
+    pub fn current(&self) -> &Picture
+        ensures { result.now ≡ self.now.current }
+    {
+        &self.current
+    }
+
+    /// What it has heard of the next configuration.
+    pub fn next(&self) -> &Picture
+        ensures { result.now ≡ self.now.next }
+    {
+        &self.next
+    }
+
+    /// The low part of the CIF count at which a swap is awaited; None where none is.
+    pub fn swap_at(&self) -> Option<u8>
+        ensures { result ≡ self.now.awaited }
+    {
+        self.awaited
+    }
+
+    /// Makes the next picture the current one, and empties the next one.
+    fn swap(&mut self)
+        ensures { self.new ≡ swapped self.old }
+    {
+        mem::swap(&mut self.current, &mut self.next);
+        self.next = Picture::new();
+        self.awaited = None;
+    }
+
+    /// Takes note of ensemble information.
+    fn hear_ensemble(&mut self, entry: &RawEntry<'_>)
+        ensures { self.new ≡ at_ensemble entry.now self.old }
+    {
+        let bytes = entry.bytes();
+        let flags = byte_at(bytes, 2) / 64;
+        if let Some(low) = self.awaited {
+            if flags == 0 || byte_at(bytes, 3) == low {
+                self.swap();
+            }
+        }
+        if flags > 0 {
+            self.awaited = Some(byte_at(bytes, 4));
+        }
+        self.tuned = true;
+    }
+
+    /// Takes note of one entry; false where the picture has no room for it, and then nothing changes.
+    fn hear_entry(&mut self, next: bool, entry: &RawEntry<'_>) -> bool
+        ensures heard { result ≡ true → hear_entry next entry.now self.old ≡ Some self.new }
+        ensures full { result ≡ false → hear_entry next entry.now self.old ≡ None }
+    {
+        if entry.ext() == 0 {
+            self.hear_ensemble(entry);
+            return true;
+        }
+        if !self.tuned {
+            return true;
+        }
+        if next {
+            self.next.take_in(entry)
+        } else {
+            self.current.take_in(entry)
+        }
+    }
+
+    /// Takes note of the entries of one FIG; false where a picture has no room for one of them.
+    fn hear_entries(&mut self, next: bool, mut entries: Entries<'_>) -> bool
+        ensures heard { result ≡ true → hear_entries next entries.entry self.old ≡ Some self.new }
+        ensures full { result ≡ false → hear_entries next entries.entry self.old ≡ None }
+    {
+        while let Some(entry) = entries.next() {
+            if !self.hear_entry(next, &entry) {
+                return false;
+            }
+        }
+        true
+    }
+
+    /// Takes note of FIGs in order; false where a picture has no room for an entry of them.
+    fn hear_figs(&mut self, mut figs: Figs<'_>) -> bool
+        ensures heard { result ≡ true → hear_figs figs.entry self.old ≡ Some self.new }
+        ensures full { result ≡ false → hear_figs figs.entry self.old ≡ None }
+    {
+        while let Some(fig) = figs.next() {
+            if let Some(head) = fig.head() {
+                if !self.hear_entries(head.next, fig.entries()) {
+                    return false;
+                }
+            }
+        }
+        true
+    }
+
+    /// Whether no picture can become full by the entries of one FIB, of which there are ten at most.
+    fn is_roomy(&self) -> bool
+        ensures { result ≡ true → IsRoomy 54 self.now }
+    {
+        self.current.is_roomy() && self.next.is_roomy()
+    }
+
+    /// Takes note of FIGs in order, on a copy, so that nothing changes where a picture becomes full. The answer
+    /// is false then.
+    #[inline(never)]
+    fn hear_aside(&mut self, figs: Figs<'_>) -> bool
+        ensures heard { result ≡ true → hear_figs figs.entry self.old ≡ Some self.new }
+        ensures full { result ≡ false → hear_figs figs.entry self.old ≡ None }
+        ensures unchanged { result ≡ false → self.new ≡ self.old }
+    {
+        let mut copy = Listener::new();
+        copy.copy_from(self);
+        if !copy.hear_figs(figs) {
+            return false;
+        }
+        mem::swap(self, &mut copy);
+        true
+    }
+
+    /// Becomes a copy of another listener.
+    fn copy_from(&mut self, other: &Self)
+        ensures { self.new ≡ other.now }
+    {
+        self.tuned = other.tuned;
+        self.current.copy_from(&other.current);
+        self.next.copy_from(&other.next);
+        self.awaited = other.awaited;
+    }
+
+    /// Takes note of FIGs in order; false where a picture has no room for an entry of them, and then nothing
+    /// changes.
+    fn hear_all(&mut self, figs: Figs<'_>) -> bool
+        requires { entry_count figs ≤ 10 }
+        ensures heard { result ≡ true → hear_figs figs.entry self.old ≡ Some self.new }
+        ensures full { result ≡ false → hear_figs figs.entry self.old ≡ None }
+        ensures unchanged { result ≡ false → self.new ≡ self.old }
+    {
+        if self.is_roomy() {
+            return self.hear_figs(figs);
+        }
+        self.hear_aside(figs)
+    }
+
+    /// Hears one fast information block. Its FIGs are taken in order. Those that aren't looked into, and each
+    /// entry before the first FIG 0/0, are passed over. An entry with C/N 0 goes into the current picture, one
+    /// with C/N 1 into the next one, in place of one with the same identifier. At a FIG 0/0 an awaited swap is
+    /// made where the change flags are gone or the low part of the CIF count is the awaited one; and where flags
+    /// are set, its occurrence change is awaited from then on (EN 300 401 clauses 6.4 and 6.5).
+    ///
+    /// Nothing changes where the answer is a fault:
+    /// - `Fib`: the 32 bytes are no fast information block; see [`check`];
+    /// - `Full`: a 65th service or packet component would have entered a picture.
+    pub fn hear(&mut self, bytes: &[u8; 32]) -> Result<(), ListenFault>
+        ensures answer { Hears bytes.now self.old self.new result }
+        ensures every { (figs : List Fig) → IsFib bytes.now figs → Heard (hear_figs figs self.old) self.old self.new result }
+    {
+        let figs = match check(bytes) {
+            Ok(figs) => figs,
+            Err(fault) => return Err(ListenFault::Fib(fault)),
+        };
+        if self.hear_all(figs) {
+            Ok(())
+        } else {
+            Err(ListenFault::Full)
+        }
+    }
+}

@@ -1,0 +1,100 @@
+//! What a receiver has heard of one configuration.
+
+ghost use Rattle.std.specs.Prelude.{◌≡◌, true, false};
+ghost use Rattle.mux_config.specs.Configuration.{IsAscending};
+ghost use Rattle.fib_reader.specs.Listening.{has_room, kept, identifier_of};
+
+use crate::entries::RawEntry;
+use crate::kept::Kept;
+use mux_config::Table;
+use std::marker::Model;
+
+/// Puts an entry in place of the one with the same identifier, or beside the others where there is room.
+/// The answer is whether that was so; where it was not, nothing changes.
+fn keep(table: &mut Table<Kept, 64>, identifier: u64, entry: &RawEntry<'_>) -> bool
+    requires { identifier ≡ identifier_of entry.now }
+    ensures taken { result ≡ true → has_room entry.now table.old ≡ true }
+    ensures kept { result ≡ true → table.new ≡ kept entry.now table.old }
+    ensures refused { result ≡ false → has_room entry.now table.old ≡ false }
+    ensures unchanged { result ≡ false → table.new ≡ table.old }
+    ensures ascending { IsAscending identifier_of table.old }
+{
+    if table.get(identifier).is_some() {
+        table.replace(Kept::of(entry));
+        return true;
+    }
+    if table.is_full() {
+        return false;
+    }
+    table.insert(Kept::of(entry));
+    true
+}
+
+/// What a receiver has heard of one configuration: entries of FIG 0/1 to 0/3, told from one another by
+/// their identifiers. Contracts see it as three lists of entries as they were sent, each in ascending order.
+#[derive(Drop)]
+pub struct Picture {
+    subs: Table<Kept, 64>,
+    services: Table<Kept, 64>,
+    packets: Table<Kept, 64>,
+}
+
+impl Model for Picture {
+    ghost use Rattle.fib_reader.specs.Listening.{Pictured};
+    ghost use Rattle.fib_reader.specs.Picture.{IsPictured};
+
+    ghost Value = { Pictured };
+
+    ghost view = { λ p. record { subs = p.subs; services = p.services; packets = p.packets } };
+
+    ghost invariant = { λ p. IsPictured (record { subs = p.subs; services = p.services; packets = p.packets }) };
+}
+
+impl Picture {
+    ghost use Rattle.std.specs.Prelude.{◌≡◌, ◌≢◌, true, false, Some, None};
+    ghost use Rattle.fib_reader.specs.Listening.{blank, pictured};
+    ghost use Rattle.fib_reader.specs.Picture.{HasRoom};
+
+    /// The picture of nothing.
+    pub(crate) fn new() -> Self
+        ensures { result ≡ blank }
+    {
+        Picture {
+            subs: Table::new(),
+            services: Table::new(),
+            packets: Table::new(),
+        }
+    }
+
+    /// Becomes a copy of another picture.
+    pub(crate) fn copy_from(&mut self, other: &Self)
+        ensures { self.new ≡ other.now }
+    {
+        self.subs.copy_from(&other.subs);
+        self.services.copy_from(&other.services);
+        self.packets.copy_from(&other.packets);
+    }
+
+    /// Takes in an entry of FIG 0/1 to 0/3, where there is room for it. The answer is whether there was;
+    /// where there was none, nothing changes.
+    pub(crate) fn take_in(&mut self, entry: &RawEntry<'_>) -> bool
+        requires { entry.now.ext ≢ 0 }
+        ensures taken { result ≡ true → pictured entry.now self.old ≡ Some self.new }
+        ensures full { result ≡ false → pictured entry.now self.old ≡ None }
+        ensures unchanged { result ≡ false → self.new ≡ self.old }
+    {
+        let identifier = entry.identifier();
+        match entry.ext() {
+            1 => keep(&mut self.subs, identifier, entry),
+            2 => keep(&mut self.services, identifier, entry),
+            _ => keep(&mut self.packets, identifier, entry),
+        }
+    }
+
+    /// Whether it has room for ten services and ten packet components more.
+    pub(crate) fn is_roomy(&self) -> bool
+        ensures { result ≡ true → HasRoom 54 self.now }
+    {
+        self.services.len() <= 54 && self.packets.len() <= 54
+    }
+}
