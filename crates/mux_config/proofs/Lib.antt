@@ -4,7 +4,11 @@ pub mod Sounding
 pub mod Overlaps
 pub mod Telling
 pub mod Same
+pub mod FieldLaws
+pub mod PartLaws
 pub mod Powers
+pub mod ReadingLoops
+pub mod RecordLaws
 pub mod Tables
 pub mod Keeping
 mod Vectors

@@ -2,6 +2,8 @@
 
 ghost use Rattle.std.specs.Prelude.{◌≡◌, [], ◌↔◌, IsTrue};
 ghost use Rattle.mux_config.specs.Configuration.{component_limit, carrier_of};
+ghost use Rattle.mux_config.specs.Edits.{names};
+ghost use Rattle.std.specs.List.{list_any};
 ghost use Rattle.mux_config.specs.declared.numbers.Sid.TheVariants.{Short};
 
 use crate::few::Few;
@@ -53,6 +55,19 @@ impl Default for Component {
     }
 }
 
+impl Component {
+    /// What it names as the carrier of its content.
+    pub fn carrier(&self) -> Carrier
+        ensures { result ≡ carrier_of self.now }
+    {
+        match *self {
+            Component::Sound { ty: _, sub } => Carrier::Sub(sub),
+            Component::Stream { ty: _, sub } => Carrier::Sub(sub),
+            Component::Packet { scid } => Carrier::Packet(scid),
+        }
+    }
+}
+
 /// What a component names as the carrier of its content. No two components of one service name the same.
 #[derive(Clone, Copy, Debug, PartialEq, Eq)]
 pub enum Carrier {
@@ -60,6 +75,20 @@ pub enum Carrier {
     Sub(SubId),
     /// A packet component, of a component in packet mode.
     Packet(ScId),
+}
+
+impl Carrier {
+    /// Whether one of the components names it.
+    pub fn is_named_by(&self, components: &[Component]) -> bool
+        ensures { result ≡ list_any (names self.now) components.now }
+    {
+        for component in components {
+            if component.carrier() == *self {
+                return true;
+            }
+        }
+        false
+    }
 }
 
 /// A service and its components, of which the first is the primary one (EN 300 401 clause 6.3.1).

@@ -1,0 +1,179 @@
+//! Reading a configuration record.
+
+ghost use Rattle.std.specs.Prelude.{◌≡◌, ℕ, ◌<◌, ◌≤◌, ◌^◌, ◌++◌, [], List, length, take, drop, Ok, Err, IfOk, IfErr};
+ghost use Rattle.mux_config.specs.Configuration.{Configuration, IsConfiguration, sid_key, component_limit};
+ghost use Rattle.mux_config.specs.Spelling.{config_bytes};
+ghost use Rattle.mux_config.specs.Reading.{Reads, Takes, sub_at, components_at, service_at, packet_at, members_at, record_at, config_at};
+
+use crate::config::Config;
+use crate::few::Few;
+use crate::keys::sid_key;
+use crate::parts::{Component, Packet, Service, Sub};
+use crate::reader::Reader;
+use crate::record::RecordFault;
+use crate::table::{Keyed, Table};
+use mux_eep::size_of;
+
+/// The capacity units of a multiplex, numbered 0 to 863 (EN 300 401 clause 5.1).
+const CAPACITY_UNITS: u32 = 864;
+
+/// The most members that each set of a configuration has.
+const MEMBERS: u8 = 64;
+
+/// A member of a set, as a record has it.
+trait Member: Keyed {
+    ghost use Rattle.std.specs.Prelude.{ℕ, List};
+    ghost use Rattle.mux_config.specs.Reading.{Reads};
+
+    ghost member_at: { ℕ → ℕ → List ℕ → Reads Self };
+
+    /// Reads a member whose key is `low` or more. Fault: `Order` as soon as its identifier is read and below;
+    /// else the first field at fault.
+    fn read(reader: &mut Reader, low: u64) -> Result<Self, RecordFault>
+        ensures read { Takes (member_at reader.old.total low reader.old.rest) result reader.new }
+        ensures total { reader.new.total ≡ reader.old.total }
+        ensures ordered { IfOk result (λ x. low ≤ Self.key x) }
+        ensures bounded { IfOk result (λ x. Self.key x < 2 ^ 33) };
+}
+
+impl Member for Sub {
+    ghost member_at = { sub_at };
+
+    #[tactic(auto, unfolding(crate::specs::Reading::sub_at))]
+    fn read(reader: &mut Reader, low: u64) -> Result<Self, RecordFault> {
+        let id = reader.sub_id()?;
+        if u64::from(id.get()) < low {
+            return Err(RecordFault::Order);
+        }
+        let start_place = reader.place();
+        let start = reader.word()?;
+        let protection = reader.protection()?;
+        let rate_place = reader.place();
+        let kbits = reader.word()?;
+        let Ok(size) = size_of(protection, kbits) else {
+            return Err(RecordFault::Field(rate_place));
+        };
+        if u32::from(start) + u32::from(size) > CAPACITY_UNITS {
+            return Err(RecordFault::Field(start_place));
+        }
+        Ok(Sub {
+            id,
+            start,
+            protection,
+            kbits,
+        })
+    }
+}
+
+/// Reads that many components of one service.
+fn components(reader: &mut Reader, count: u8) -> Result<Few<Component, 12>, RecordFault>
+    requires { count ≤ 12 }
+    ensures read { Takes (components_at reader.old.total [] count reader.old.rest) result reader.new }
+    ensures total { reader.new.total ≡ reader.old.total }
+{
+    let mut components = Few::new();
+    for _ in 0..count {
+        let place = reader.place();
+        let component = reader.component()?;
+        if component.carrier().is_named_by(components.as_slice()) {
+            return Err(RecordFault::Field(place));
+        }
+        components.push(component);
+    }
+    Ok(components)
+}
+
+impl Member for Service {
+    ghost member_at = { service_at };
+
+    #[tactic(auto, unfolding(crate::specs::Reading::service_at))]
+    fn read(reader: &mut Reader, low: u64) -> Result<Self, RecordFault> {
+        let sid = reader.sid()?;
+        if sid_key(sid) < low {
+            return Err(RecordFault::Order);
+        }
+        let count = reader.byte_within(0, Service::new(sid).limit() as u8)?;
+        let components = components(reader, count)?;
+        Ok(Service { sid, components })
+    }
+}
+
+impl Member for Packet {
+    ghost member_at = { packet_at };
+
+    #[tactic(auto, unfolding(crate::specs::Reading::packet_at))]
+    fn read(reader: &mut Reader, low: u64) -> Result<Self, RecordFault> {
+        let scid = reader.sc_id()?;
+        if u64::from(scid.get()) < low {
+            return Err(RecordFault::Order);
+        }
+        let dg = reader.flag()?;
+        let ty = reader.sc_ty()?;
+        let sub = reader.sub_id()?;
+        let address = reader.word_within(1, 1023)?;
+        Ok(Packet {
+            scid,
+            dg,
+            ty,
+            sub,
+            address,
+        })
+    }
+}
+
+/// Reads that many members of a set, each with an identifier above that of the one before it.
+fn members<T: Member>(reader: &mut Reader, count: u8) -> Result<Table<T, 64>, RecordFault>
+    requires { count ≤ 64 }
+    ensures read { Takes (members_at T.key (T.member_at reader.old.total) 0 [] count reader.old.rest) result reader.new }
+    ensures total { reader.new.total ≡ reader.old.total }
+{
+    let mut members = Table::new();
+    let mut low = 0;
+    for _ in 0..count {
+        let member = T::read(reader, low)?;
+        low = member.key() + 1;
+        members.append(member);
+    }
+    Ok(members)
+}
+
+/// Reads a record field by field.
+#[tactic(auto, unfolding(crate::specs::Reading::record_at))]
+fn record(bytes: &[u8]) -> Result<(Config, usize), RecordFault>
+    ensures read { IfOk result (λ found. config_at bytes.now ≡ Ok (found.0, drop found.1 bytes.now)) }
+    ensures whole { IfOk result (λ found. found.1 ≡ length (config_bytes found.0)) }
+    ensures first_fault { IfErr result (λ fault. config_at bytes.now ≡ Err fault) }
+{
+    let mut reader = Reader::new(bytes);
+    let sub_count = reader.byte_within(0, MEMBERS)?;
+    let service_count = reader.byte_within(0, MEMBERS)?;
+    let packet_count = reader.byte_within(0, MEMBERS)?;
+    let subs = members(&mut reader, sub_count)?;
+    let services = members(&mut reader, service_count)?;
+    let packets = members(&mut reader, packet_count)?;
+    let config = Config {
+        subs,
+        services,
+        packets,
+    };
+    Ok((config, reader.place()))
+}
+
+/// Reads the configuration record at the front of these bytes: the configuration, and the length of its
+/// record. It takes no memory.
+///
+/// A refusal is the first fault in the order of the bytes: `Short` where a field's bytes are missing; `Field`
+/// with the place of the first byte of a field that is out of its range; `Order` where an identifier is not
+/// above the one before it, as soon as it is read and in range. A bit rate that has no size is at fault where
+/// it stands, and then a sub-channel that ends past the last capacity unit at its start address. A component
+/// whose carrier the service has already is at fault at its first byte.
+pub fn read_config(bytes: &[u8]) -> Result<(Config, usize), RecordFault>
+    ensures configuration { IfOk result (λ found. IsConfiguration found.0) }
+    ensures spelled { IfOk result (λ found. bytes.now ≡ config_bytes found.0 ++ drop found.1 bytes.now) }
+    ensures whole { IfOk result (λ found. found.1 ≡ length (config_bytes found.0)) }
+    ensures only { (c : Configuration) (rest : List ℕ) → IsConfiguration c → bytes.now ≡ config_bytes c ++ rest → result ≡ Ok (c, length (config_bytes c)) }
+    ensures read { IfOk result (λ found. config_at bytes.now ≡ Ok (found.0, drop found.1 bytes.now)) }
+    ensures first_fault { IfErr result (λ fault. config_at bytes.now ≡ Err fault) }
+{
+    record(bytes)
+}
