@@ -17,4 +17,4 @@ pub use entries::{Entries, RawEntry};
 pub use fault::{FibFault, ListenFault};
 pub use figs::{Fig, Figs};
 pub use listener::Listener;
-pub use picture::Picture;
+pub use picture::{Picture, PictureEntries};

@@ -52,7 +52,7 @@ impl Model for Picture {
 
 impl Picture {
     ghost use Rattle.std.specs.Prelude.{◌≡◌, ◌≢◌, true, false, Some, None};
-    ghost use Rattle.fib_reader.specs.Listening.{blank, pictured};
+    ghost use Rattle.fib_reader.specs.Listening.{blank, pictured, all_entries};
     ghost use Rattle.fib_reader.specs.Picture.{HasRoom};
 
     /// The picture of nothing.
@@ -96,5 +96,58 @@ impl Picture {
         ensures { result ≡ true → HasRoom 54 self.now }
     {
         self.services.len() <= 54 && self.packets.len() <= 54
+    }
+
+    /// Its entries in ascending order of extension and identifier: FIG 0/1 by SubChId, FIG 0/2 by SId with the
+    /// short ones first, FIG 0/3 by SCId.
+    pub fn entries(&self) -> PictureEntries<'_>
+        ensures { result ≡ all_entries self.now }
+    {
+        PictureEntries {
+            subs: self.subs.as_slice(),
+            services: self.services.as_slice(),
+            packets: self.packets.as_slice(),
+        }
+    }
+}
+
+/// The entries of a picture in order.
+#[derive(Drop)]
+pub struct PictureEntries<'a> {
+    subs: &'a [Kept],
+    services: &'a [Kept],
+    packets: &'a [Kept],
+}
+
+impl<'a> Model for PictureEntries<'a> {
+    ghost use Rattle.std.specs.Prelude.{List, ◌++◌};
+    ghost use Rattle.fib_reader.specs.Raw.{Raw};
+
+    ghost Value = { List Raw };
+
+    ghost view = { λ s. s.subs.now ++ s.services.now ++ s.packets.now };
+}
+
+impl<'a> Iterator for PictureEntries<'a> {
+    ghost use Rattle.std.specs.Iterator.{YieldsFirstBy, item_count};
+
+    type Item = RawEntry<'a>;
+
+    ghost next_gives = { YieldsFirstBy (λ e. e) (λ s. s) };
+
+    ghost remaining = { item_count (λ s. s) };
+
+    fn next(&mut self) -> Option<RawEntry<'a>> {
+        if let Some((first, rest)) = self.subs.split_first() {
+            self.subs = rest;
+            return Some(first.lent());
+        }
+        if let Some((first, rest)) = self.services.split_first() {
+            self.services = rest;
+            return Some(first.lent());
+        }
+        let (first, rest) = self.packets.split_first()?;
+        self.packets = rest;
+        Some(first.lent())
     }
 }
