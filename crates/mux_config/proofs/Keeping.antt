@@ -1,9 +1,10 @@
 -- An edit without a fault keeps a configuration one.
-use Rattle.std.proofs.Common.{◌≡◌, ◌≢◌, ℕ, suc, ◌+◌, ◌%◌, ◌<◌, ◌≤◌, ◌==◌, Bool, true, false, not, cond, ◌||◌, ltb, leb, List, [], ◌∷◌, ◌++◌, length, Option, Some, None, Ok, Err, refl, sym, ap, ◌∙◌, subst, inl, inr, arith, length-append}
+use Rattle.std.proofs.Common.{◌≡◌, ◌≢◌, ℕ, zero, suc, ◌+◌, ◌%◌, ◌<◌, ◌≤◌, ◌==◌, Bool, true, false, not, cond, ◌||◌, ltb, leb, List, [], ◌∷◌, ◌++◌, length, Option, Some, None, Ok, Err, refl, sym, ap, ◌∙◌, subst, inl, inr, arith, length-append, slice_get, is_some, IfSome, IfNone}
 use Rattle.std.specs.Result.{is_err}
-use Rattle.std.specs.List.{list_any, filter}
+use Rattle.std.specs.List.{list_any, filter, remove}
 use Rattle.std.proofs.lemmas.Bool.{false≢true, cases_eq, cases_lt, lt-ltb, le-ltb, eq-eqb, ne_eqb, eqb-true, eqb-false, ltb-false, leb-false}
 use Rattle.std.proofs.lemmas.List.{length-map}
+use Rattle.std.proofs.lemmas.Option.{slice_get_cases}
 use Rattle.mux_eep.specs.Sizes.{Profile, IsSize, size_or_fault, table_size, rate_step}
 use Rattle.mux_eep.specs.declared.fault.EepFault.TheVariants.{NotMultiple, ZeroRate, PastMultiplex}
 use Rattle.mux_config.specs.declared.parts.Sub.{Sub}
@@ -13,13 +14,13 @@ use Rattle.mux_config.specs.declared.parts.Carrier.{Carrier}
 use Rattle.mux_config.specs.declared.parts.Carrier.TheVariants.{Sub as BySub, Packet as ByPacket}
 use Rattle.mux_config.specs.declared.parts.Packet.{Packet}
 use Rattle.mux_config.specs.declared.numbers.Sid.{Sid}
-use Rattle.mux_config.specs.declared.numbers.Sid.TheVariants.{Short, Long}
 use Rattle.mux_config.specs.declared.fault.EditFault.{EditFault}
 use Rattle.mux_config.specs.declared.fault.EditFault.TheVariants.{IdUsed, IdAbsent, TooManyComponents, TableFull, PastEnd, BadRate, BadAddress}
 use Rattle.mux_config.specs.declared.edit.Edit.TheVariants.{AddSub, DropSub, MoveSub, RateSub, AddService, DropService, AddComponent, DropComponent, AddPacket, DropPacket}
 use Rattle.mux_config.specs.Configuration.{Configuration, IsConfiguration, Each, IsAscending, IsPlaced, IsService, IsAddressed, IsSid, IsComponent, AreDifferent, size_of_sub, sub_key, sid_key, service_key, packet_key, carrier_of, component_limit}
 use Rattle.mux_config.specs.Tables.{entry_at, with_entry, without_entry, with_entry_changed}
-use Rattle.mux_config.specs.Edits.{has_entry, changed_at, absent_or, sub_at, service_at, at_start, at_rate, has_bad_rate, is_past_end, placing_fault, names, is_same_carrier, with_component, without_carrier, has_bad_address, add_sub_fault, sub_added, sub_dropped, move_sub_fault, sub_moved, rate_sub_fault, sub_rated, add_service_fault, service_added, service_dropped, add_component_fault, component_added, drop_component_fault, component_dropped, add_packet_fault, packet_added, packet_dropped, EditsKeep}
+use Rattle.mux_config.specs.Edits.{has_entry, changed_at, absent_or, sub_at, service_at, at_start, at_rate, has_bad_rate, is_past_end, placing_fault, names, is_same_carrier, component_fault, with_component, without_carrier, has_bad_address, add_sub_fault, sub_added, sub_dropped, move_sub_fault, sub_moved, rate_sub_fault, sub_rated, add_service_fault, service_added, service_dropped, add_component_fault, component_added, drop_component_fault, component_dropped, add_packet_fault, packet_added, packet_dropped, EditsKeep}
+use Rattle.mux_config.proofs.Walking.{each_at}
 use Rattle.mux_config.proofs.Tables.{each_weaker, each_pushed, each_with, each_without, each_changed, ascends_with, ascends_without, ascends_changed}
 
 -- ---- tests
@@ -35,6 +36,10 @@ passed false fault rest e = (refl, e)
 pub there : {T : Type 0} (o : Option T) (fault : T → Option EditFault) → absent_or o fault ≡ None → (x : T) × (o ≡ Some x) × (fault x ≡ None)
 there None fault e = some_none IdAbsent e
 there (Some x) fault e = (x, refl, e)
+
+decided : (t : Bool) → (t ≡ true → ⊥) → t ≡ false
+decided true h = absurd (h refl)
+decided false h = refl
 
 -- ---- the member of a key
 
@@ -76,6 +81,12 @@ key_by key k x y rest false here e later = later e
 pub entry_key : {T : Type 0} (key : T → ℕ) (k : ℕ) (xs : List T) (y : T) → entry_at key k xs ≡ Some y → key y ≡ k
 entry_key key k [] y e = some_none y (sym e)
 entry_key key k (x ∷ xs) y e = key_by key k x y (entry_at key k xs) (key x == k) (eqb-true (key x) k) e (entry_key key k xs y)
+
+-- a search by places finds it
+pub has_told : {T : Type 0} (key : T → ℕ) (k : ℕ) (xs : List T) (o : Option ℕ) → IfSome o (λ p. slice_get xs p ≡ entry_at key k xs) → IfSome o (λ p. p < length xs) → IfNone o (entry_at key k xs ≡ None) → is_some o ≡ has_entry key k xs
+has_told key k xs None at within absent = sym (absent_found key k xs absent)
+has_told key k xs (Some p) at within absent =
+    elim (slice_get_cases xs p).1 [ inl some ↦ sym (present key k xs some.0 (sym at ∙ some.2)) | inr past ↦ absurd (let h = past.0 in omega (arith, within, h)) ]
 
 holds_by : {T : Type 0} (P : T → Type 0) (x y : T) (rest : Option T) (t : Bool) → P x → cond t (Some x) rest ≡ Some y → (rest ≡ Some y → P y) → P y
 holds_by P x y rest true h e later = let same : x ≡ y = cc in subst P same h
@@ -274,6 +285,13 @@ sub_room c s h named absent =
     let count = bounded sub_key more 0 64 up (each_any sub_key more) within (omega arith) in
     omega (arith, count, length_with sub_key s c.subs)
 
+-- what an insertion asks
+pub add_sub_fits : (s : Sub) (c : Configuration) → s.id < 64 → IsConfiguration c → add_sub_fault s c ≡ None → (entry_at sub_key s.id c.subs ≡ None) × (length c.subs < 64)
+add_sub_fits s c named h e =
+    let parts = passed (has_entry sub_key s.id c.subs) IdUsed (placing_fault s) e in
+    let absent = absent_told sub_key s.id c.subs parts.0 in
+    (absent, sub_room c s h named absent)
+
 pub add_sub_keeps : (s : Sub) (c : Configuration) → s.id < 64 → 1 ≤ s.protection.level → s.protection.level ≤ 4 → IsConfiguration c → add_sub_fault s c ≡ None → IsConfiguration (sub_added s c)
 add_sub_keeps s c named from to h e =
     let parts = passed (has_entry sub_key s.id c.subs) IdUsed (placing_fault s) e in
@@ -310,6 +328,12 @@ rate_sub_keeps id kbits c h e =
     (set_changed IsPlaced sub_key id (at_rate kbits) c.subs s (subs_set c h) found.1 (entry_key sub_key id c.subs s found.1) (placed (at_rate kbits s) was.named was.from_one was.to_four found.2))
 
 -- ---- services
+
+pub add_service_fits : (sid : Sid) (c : Configuration) → add_service_fault sid c ≡ None → (entry_at service_key (sid_key sid) c.services ≡ None) × (length c.services < 64)
+add_service_fits sid c e =
+    let one = passed (has_entry service_key (sid_key sid) c.services) IdUsed (cond (leb 64 (length c.services)) (Some TableFull) None) e in
+    let two = passed (leb 64 (length c.services)) TableFull None one.1 in
+    (absent_told service_key (sid_key sid) c.services one.0, leb-false 64 (length c.services) two.0)
 
 pub add_service_keeps : (sid : Sid) (c : Configuration) → IsSid sid → IsConfiguration c → add_service_fault sid c ≡ None → IsConfiguration (service_added sid c)
 add_service_keeps sid c named h e =
@@ -354,19 +378,12 @@ different_filtered test (m ∷ ms) h = different_by test m ms (test m) (each_fil
 pushed_length : {T : Type 0} (xs : List T) (x : T) → length (xs ++ x ∷ []) ≡ length xs + 1
 pushed_length xs x = length-append xs (x ∷ [])
 
--- an SId within its bits is known by its place in the order
-pub sid_told : (a b : Sid) → IsSid a → IsSid b → sid_key a ≡ sid_key b → a ≡ b
-sid_told (Short m) (Short n) h k e = ap Short e
-sid_told (Short m) (Long n) h k e = absurd (omega arith)
-sid_told (Long m) (Short n) h k e = absurd (omega arith)
-sid_told (Long m) (Long n) h k e = ap Long (omega arith)
-
-pub grown : (sid : Sid) (m : Component) (s : Service) → IsComponent m → IsService s → component_limit sid ≡ component_limit s.sid → list_any (names (carrier_of m)) s.components ≡ false → leb (component_limit sid) (length s.components) ≡ false → IsService (with_component m s)
-grown sid m s within h same free room = record {
+pub grown : (m : Component) (s : Service) → IsComponent m → IsService s → list_any (names (carrier_of m)) s.components ≡ false → leb (component_limit s.sid) (length s.components) ≡ false → IsService (with_component m s)
+grown m s within h free room = record {
   named = h.named;
   within = each_pushed IsComponent s.components m h.within within;
   carriers = different_pushed s.components m h.carriers free;
-  few = let less = leb-false (component_limit sid) (length s.components) room in omega (arith, less, same, pushed_length s.components m);
+  few = let less = leb-false (component_limit s.sid) (length s.components) room in omega (arith, less, pushed_length s.components m);
 }
 
 pub shrunk : (carrier : Carrier) (s : Service) → IsService s → IsService (without_carrier carrier s)
@@ -377,17 +394,21 @@ shrunk carrier s h = record {
   few = let shorter = length_filtered (λ m. not (names carrier m)) s.components in omega (arith, shorter, h.few);
 }
 
-pub add_component_keeps : (sid : Sid) (m : Component) (c : Configuration) → IsSid sid → IsComponent m → IsConfiguration c → add_component_fault sid m c ≡ None → IsConfiguration (component_added sid m c)
-add_component_keeps sid m c named within h e =
-    let found = there (service_at sid c) (λ s. cond (list_any (names (carrier_of m)) s.components) (Some IdUsed) (cond (leb (component_limit sid) (length s.components)) (Some TooManyComponents) None)) e in
+-- a service that takes one more component has room for it
+pub component_fits : (m : Component) (s : Service) → IsComponent m → IsService s → component_fault m s ≡ None → (length s.components < component_limit s.sid) × IsService (with_component m s)
+component_fits m s within h e =
+    let one = passed (list_any (names (carrier_of m)) s.components) IdUsed (cond (leb (component_limit s.sid) (length s.components)) (Some TooManyComponents) None) e in
+    let two = passed (leb (component_limit s.sid) (length s.components)) TooManyComponents None one.1 in
+    (leb-false (component_limit s.sid) (length s.components) two.0, grown m s within h one.0 two.0)
+
+pub add_component_keeps : (sid : Sid) (m : Component) (c : Configuration) → IsComponent m → IsConfiguration c → add_component_fault sid m c ≡ None → IsConfiguration (component_added sid m c)
+add_component_keeps sid m c within h e =
+    let found = there (service_at sid c) (component_fault m) e in
     let s = found.0 in
     let was : IsService s = entry_holds IsService service_key (sid_key sid) c.services s h.services_formed found.1 in
-    let one = passed (list_any (names (carrier_of m)) s.components) IdUsed (cond (leb (component_limit sid) (length s.components)) (Some TooManyComponents) None) found.2 in
-    let two = passed (leb (component_limit sid) (length s.components)) TooManyComponents None one.1 in
-    let key = entry_key service_key (sid_key sid) c.services s found.1 in
+    let fits = component_fits m s within was found.2 in
     services_keep c (changed_at service_key (sid_key sid) (with_component m) c.services) h
-    (set_changed IsService service_key (sid_key sid) (with_component m) c.services s (services_set c h) found.1 key
-    (grown sid m s within was (ap component_limit (sid_told sid s.sid named was.named (sym key))) one.0 two.0))
+    (set_changed IsService service_key (sid_key sid) (with_component m) c.services s (services_set c h) found.1 (entry_key service_key (sid_key sid) c.services s found.1) fits.1)
 
 pub drop_component_keeps : (sid : Sid) (carrier : Carrier) (c : Configuration) → IsConfiguration c → drop_component_fault sid carrier c ≡ None → IsConfiguration (component_dropped sid carrier c)
 drop_component_keeps sid carrier c h e =
@@ -397,6 +418,40 @@ drop_component_keeps sid carrier c h e =
     services_keep c (changed_at service_key (sid_key sid) (without_carrier carrier) c.services) h
     (set_changed IsService service_key (sid_key sid) (without_carrier carrier) c.services s (services_set c h) found.1 (entry_key service_key (sid_key sid) c.services s found.1) (shrunk carrier s was))
 
+-- a carrier told from another by the test
+pub carrier_same : (a b : Carrier) → is_same_carrier a b ≡ true → a ≡ b
+carrier_same (BySub m) (BySub n) e = ap BySub (eqb-true m n e)
+carrier_same (BySub m) (ByPacket n) e = absurd (false≢true e)
+carrier_same (ByPacket m) (BySub n) e = absurd (false≢true e)
+carrier_same (ByPacket m) (ByPacket n) e = ap ByPacket (eqb-true m n e)
+
+named_not : (carrier : Carrier) (m : Component) → (carrier_of m ≢ carrier) → names carrier m ≡ false
+named_not carrier m differ = decided (names carrier m) (λ e. differ (carrier_same (carrier_of m) carrier e))
+
+-- where no component names it, all stay
+all_stay : (carrier : Carrier) (ms : List Component) → Each (λ m. carrier_of m ≢ carrier) ms → filter (λ m. not (names carrier m)) ms ≡ ms
+all_stay carrier [] h = refl
+all_stay carrier (m ∷ ms) h = rw (named_not carrier m h.0) (ap (λ ns. m ∷ ns) (all_stay carrier ms h.1))
+
+pub stay_told : (carrier : Carrier) (ms : List Component) → list_any (names carrier) ms ≡ false → filter (λ m. not (names carrier m)) ms ≡ ms
+stay_told carrier [] e = refl
+stay_told carrier (m ∷ ms) e =
+    let parts = either (names carrier m) (list_any (names carrier) ms) e in
+    rw parts.0 (ap (λ ns. m ∷ ns) (stay_told carrier ms parts.1))
+
+-- the others close up
+pub closed_up : (carrier : Carrier) (ms : List Component) (i : ℕ) (m : Component) → AreDifferent ms → slice_get ms i ≡ Some m → carrier_of m ≡ carrier → remove ms i ≡ filter (λ n. not (names carrier n)) ms
+closed_up carrier [] i m h at is = some_none m (sym at)
+closed_up carrier (n ∷ ns) zero m h at is =
+    let same : n ≡ m = cc in
+    let here : carrier_of n ≡ carrier = ap carrier_of same ∙ is in
+    let named : names carrier n ≡ true = subst (λ (a : Carrier). is_same_carrier a carrier ≡ true) (sym here) (same_itself carrier) in
+    let stay = all_stay carrier ns (each_weaker (λ d. carrier_of n ≢ carrier_of d) (λ d. carrier_of d ≢ carrier) (λ d differ e. differ (here ∙ sym e)) ns h.0) in
+    rw named (sym stay)
+closed_up carrier (n ∷ ns) (suc i) m h at is =
+    let other : carrier_of n ≢ carrier = λ e. each_at (λ d. carrier_of n ≢ carrier_of d) ns i m h.0 at (e ∙ sym is) in
+    rw (named_not carrier n other) (ap (λ xs. n ∷ xs) (closed_up carrier ns i m h.1 at is))
+
 -- ---- packet components
 
 either_number : (p : Packet) → has_bad_address p ≡ false → (1 ≤ p.address) × (p.address ≤ 1023)
@@ -404,6 +459,13 @@ either_number p e =
     let parts = either (p.address == 0) (ltb 1023 p.address) e in
     let some = eqb-false p.address 0 parts.0 in
     (omega (arith, some), ltb-false 1023 p.address parts.1)
+
+pub add_packet_fits : (p : Packet) (c : Configuration) → add_packet_fault p c ≡ None → (entry_at packet_key p.scid c.packets ≡ None) × (length c.packets < 64)
+add_packet_fits p c e =
+    let one = passed (has_entry packet_key p.scid c.packets) IdUsed (cond (has_bad_address p) (Some BadAddress) (cond (leb 64 (length c.packets)) (Some TableFull) None)) e in
+    let two = passed (has_bad_address p) BadAddress (cond (leb 64 (length c.packets)) (Some TableFull) None) one.1 in
+    let three = passed (leb 64 (length c.packets)) TableFull None two.1 in
+    (absent_told packet_key p.scid c.packets one.0, leb-false 64 (length c.packets) three.0)
 
 pub add_packet_keeps : (p : Packet) (c : Configuration) → p.scid < 4096 → p.ty < 64 → p.sub < 64 → IsConfiguration c → add_packet_fault p c ≡ None → IsConfiguration (packet_added p c)
 add_packet_keeps p c named typed carried h e =
@@ -427,7 +489,7 @@ edits_keep (MoveSub id start) c within h e = move_sub_keeps id start c h e
 edits_keep (RateSub id kbits) c within h e = rate_sub_keeps id kbits c h e
 edits_keep (AddService sid) c within h e = add_service_keeps sid c within h e
 edits_keep (DropService sid) c within h e = drop_service_keeps sid c h
-edits_keep (AddComponent sid m) c within h e = add_component_keeps sid m c within.0 within.1 h e
+edits_keep (AddComponent sid m) c within h e = add_component_keeps sid m c within h e
 edits_keep (DropComponent sid carrier) c within h e = drop_component_keeps sid carrier c h e
 edits_keep (AddPacket p) c within h e = add_packet_keeps p c within.0 within.1 within.2 h e
 edits_keep (DropPacket scid) c within h e = drop_packet_keeps scid c h

@@ -51,6 +51,9 @@ pub list_itself : {T : Type 0} (same : T → T → Bool) → ((a : T) → same a
 list_itself same told [] = refl
 list_itself same told (x ∷ xs) = both_hold _ _ (told x) (list_itself same told xs)
 
+pub list_equal : {T : Type 0} (same : T → T → Bool) → ((a : T) → same a a ≡ true) → (xs ys : List T) → xs ≡ ys → is_same_list same xs ys ≡ true
+list_equal same told xs ys e = let P : List _ → Type 0 = λ zs. is_same_list same xs zs ≡ true in subst P e (list_itself same told xs)
+
 -- ---- the parts of a configuration
 
 set_same : (a b : EepSet) → is_same_set a b ≡ true → a ≡ b

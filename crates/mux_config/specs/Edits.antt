@@ -145,12 +145,14 @@ with_component m s = record s { components = s.components ++ m ∷ [] }
 abbrev pub without_carrier : Carrier → Service → Service
 without_carrier carrier s = record s { components = filter (λ m. not (names carrier m)) s.components }
 
-abbrev pub add_component_fault : Sid → Component → Configuration → Option EditFault
-add_component_fault sid m c =
-    absent_or (service_at sid c) (λ s.
+abbrev pub component_fault : Component → Service → Option EditFault
+component_fault m s =
     if list_any (names (carrier_of m)) s.components then Some IdUsed
-    else if nat_le (component_limit sid) (length s.components) then Some TooManyComponents
-    else None)
+    else if nat_le (component_limit s.sid) (length s.components) then Some TooManyComponents
+    else None
+
+abbrev pub add_component_fault : Sid → Component → Configuration → Option EditFault
+add_component_fault sid m c = absent_or (service_at sid c) (component_fault m)
 
 abbrev pub component_added : Sid → Component → Configuration → Configuration
 component_added sid m c = record c { services = changed_at service_key (sid_key sid) (with_component m) c.services }
@@ -243,7 +245,7 @@ IsInRange (MoveSub id start) = Unit {0}
 IsInRange (RateSub id kbits) = Unit {0}
 IsInRange (AddService sid) = IsSid sid
 IsInRange (DropService sid) = Unit {0}
-IsInRange (AddComponent sid m) = IsSid sid × IsComponent m
+IsInRange (AddComponent sid m) = IsComponent m
 IsInRange (DropComponent sid carrier) = Unit {0}
 IsInRange (AddPacket p) = (p.scid < 4096) × (p.ty < 64) × (p.sub < 64)
 IsInRange (DropPacket scid) = Unit {0}

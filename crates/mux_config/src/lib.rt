@@ -6,6 +6,7 @@
 
 pub mod config;
 pub mod edit;
+mod edits;
 pub mod entry;
 pub mod fault;
 pub mod few;

@@ -4,6 +4,7 @@ ghost use Rattle.std.specs.Prelude.{◌≡◌, ◌<◌, ◌↔◌, IsTrue, lengt
 ghost use Rattle.mux_config.specs.Configuration.{Configuration, IsConfiguration, nothing};
 ghost use Rattle.mux_config.specs.Edits.{Edits, add_sub, add_sub_fault, sub_added, drop_sub, drop_sub_fault, sub_dropped, move_sub, move_sub_fault, sub_moved, rate_sub, rate_sub_fault, sub_rated, add_service, add_service_fault, service_added, drop_service, drop_service_fault, service_dropped, add_component, add_component_fault, component_added, drop_component, drop_component_fault, component_dropped, add_packet, add_packet_fault, packet_added, drop_packet, drop_packet_fault, packet_dropped};
 
+use crate::config::Config;
 use crate::fault::EditFault;
 use crate::numbers::{ScId, Sid, SubId};
 use crate::parts::{Carrier, Component, Packet, Service, Sub};
@@ -22,6 +23,14 @@ pub trait Store: Drop {
     /// The configuration of nothing.
     fn empty() -> Self
         ensures { content result ≡ nothing };
+
+    /// Holds what a configuration in tables does.
+    fn from_config(config: &Config) -> Self
+        ensures { content result ≡ config.now };
+
+    /// What it holds, as a configuration in tables.
+    fn to_config(&self) -> Config
+        ensures { result ≡ content self.now };
 
     /// Takes over what another holds.
     fn copy_from(&mut self, other: &Self)
