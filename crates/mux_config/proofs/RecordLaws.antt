@@ -183,3 +183,7 @@ read_in_turn bytes b0 b1 b2 b3 b4 b5 b6 t0 t1 t2 t3 t4 t5 m n k c start all s1 s
     let q5 : members_at service_key (service_at (length bytes)) 0 [] n b4 ≡ Ok (c.services, b5) = subst (λ (t : ℕ). members_at service_key (service_at t) 0 [] n b4 ≡ Ok (c.services, b5)) e4 r5 in
     let q6 : members_at packet_key (packet_at (length bytes)) 0 [] k b5 ≡ Ok (c.packets, b6) = subst (λ (t : ℕ). members_at packet_key (packet_at t) 0 [] k b5 ≡ Ok (c.packets, b6)) e5 r6 in
     rw (q1, q2, q3, q4, q5, q6) refl
+
+-- what is written is read again, whatever follows it
+pub written_again : (bytes : List ℕ) (c : Configuration) (rest : List ℕ) → IsConfiguration c → bytes ≡ config_bytes c → config_at (bytes ++ rest) ≡ Ok (c, rest)
+written_again bytes c rest h e = ap (λ (b : List ℕ). config_at (b ++ rest)) e ∙ record_again (length (config_bytes c ++ rest)) c rest h

@@ -1,6 +1,6 @@
 //! A configuration held in three tables.
 
-ghost use Rattle.std.specs.Prelude.{◌≡◌};
+ghost use Rattle.std.specs.Prelude.{◌≡◌, ◌≤◌, length};
 ghost use Rattle.mux_config.specs.Configuration.{Configuration, IsConfiguration, nothing};
 
 use crate::parts::{Packet, Service, Sub};
@@ -42,6 +42,7 @@ impl Config {
     /// The sub-channels in ascending order of SubChId.
     pub fn subs(&self) -> &[Sub]
         ensures value { result.now ≡ self.now.subs }
+        ensures bound { length result.now ≤ 64 }
         ensures configuration { IsConfiguration self.now }
     {
         self.subs.as_slice()
@@ -50,6 +51,7 @@ impl Config {
     /// The services in ascending order of SId, the 16-bit ones first.
     pub fn services(&self) -> &[Service]
         ensures value { result.now ≡ self.now.services }
+        ensures bound { length result.now ≤ 64 }
         ensures configuration { IsConfiguration self.now }
     {
         self.services.as_slice()
@@ -58,6 +60,7 @@ impl Config {
     /// The packet components in ascending order of SCId.
     pub fn packets(&self) -> &[Packet]
         ensures value { result.now ≡ self.now.packets }
+        ensures bound { length result.now ≤ 64 }
         ensures configuration { IsConfiguration self.now }
     {
         self.packets.as_slice()
