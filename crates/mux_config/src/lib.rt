@@ -4,6 +4,7 @@
 //! The definitions that contracts cite stand in `specs/`: begin with `Configuration.antt` and `Facts.antt`.
 #![tactic(auto)]
 
+mod apply;
 pub mod config;
 pub mod edit;
 mod edits;

@@ -131,7 +131,7 @@ fn names_missing<S: Store>(store: &S, components: &[Component]) -> bool
     ensures { result ≡ list_any (λ m. is_missing (S.content store.now) (carrier_of m)) components.now }
 {
     for component in components {
-        if is_missing(store, carrier_of(*component)) {
+        if is_missing(store, component.carrier()) {
             return true;
         }
     }
@@ -157,17 +157,6 @@ fn is_missing<S: Store>(store: &S, carrier: Carrier) -> bool
     match carrier {
         Carrier::Sub(id) => !has_sub(store, id),
         Carrier::Packet(scid) => !has_packet(store, scid),
-    }
-}
-
-/// What a component names as its carrier.
-fn carrier_of(component: Component) -> Carrier
-    ensures { result ≡ carrier_of component }
-{
-    match component {
-        Component::Sound { sub, .. } => Carrier::Sub(sub),
-        Component::Stream { sub, .. } => Carrier::Sub(sub),
-        Component::Packet { scid } => Carrier::Packet(scid),
     }
 }
 
