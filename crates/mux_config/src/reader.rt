@@ -1,6 +1,6 @@
 //! Reading the fields of a record from the front of its bytes.
 
-ghost use Rattle.std.specs.Prelude.{◌≡◌, ◌<◌, ◌≤◌, length};
+ghost use Rattle.std.specs.Prelude.{◌≡◌, ◌<◌, ◌≤◌, length, drop};
 ghost use Rattle.std.specs.Int.{w16, w32};
 ghost use Rattle.mux_config.specs.Reading.{Unread, Takes, place, byte_at, number_at, byte_within, word_within, flag_at, protection_at, sid_at, component_at};
 
@@ -56,6 +56,15 @@ impl<'a> Reader<'a> {
         ensures bound { length result.now ≤ self.now.total }
     {
         self.rest
+    }
+
+    /// Passes over bytes, of which so many must be left.
+    pub fn skip(&mut self, count: usize)
+        requires { count ≤ length self.old.rest }
+        ensures rest { self.new.rest ≡ drop count self.old.rest }
+        ensures total { self.new.total ≡ self.old.total }
+    {
+        self.rest = &self.rest[count..];
     }
 
     /// Reads a byte.

@@ -174,6 +174,7 @@ pub fn read_config(bytes: &[u8]) -> Result<(Config, usize), RecordFault>
     ensures only { (c : Configuration) (rest : List ℕ) → IsConfiguration c → bytes.now ≡ config_bytes c ++ rest → result ≡ Ok (c, length (config_bytes c)) }
     ensures read { IfOk result (λ found. config_at bytes.now ≡ Ok (found.0, drop found.1 bytes.now)) }
     ensures first_fault { IfErr result (λ fault. config_at bytes.now ≡ Err fault) }
+    ensures within { (place : ℕ) → result ≡ Err (RecordFault.Field place) → place ≤ length bytes.now }
 {
     record(bytes)
 }
