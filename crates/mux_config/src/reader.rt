@@ -1,6 +1,6 @@
 //! Reading the fields of a record from the front of its bytes.
 
-ghost use Rattle.std.specs.Prelude.{◌≡◌, ◌<◌, ◌≤◌, length, drop};
+ghost use Rattle.std.specs.Prelude.{◌≡◌, ◌+◌, ◌^◌, ◌<◌, ◌≤◌, length, drop};
 ghost use Rattle.std.specs.Int.{w16, w32};
 ghost use Rattle.mux_config.specs.Reading.{Unread, Takes, place, byte_at, number_at, byte_within, word_within, flag_at, protection_at, sid_at, component_at};
 
@@ -45,7 +45,9 @@ impl<'a> Reader<'a> {
 
     /// The number of the byte that is next, from 0.
     pub fn place(&self) -> usize
-        ensures { result ≡ place self.now.total self.now.rest }
+        ensures value { result ≡ place self.now.total self.now.rest }
+        ensures within { result + length self.now.rest ≡ self.now.total }
+        ensures fits { self.now.total < 2 ^ 64 }
     {
         self.total - self.rest.len()
     }

@@ -12,7 +12,7 @@ returns-in_err-component-clause-read c =
 
 pub returns-then-is_named_by-clause-read : goal.returns-then-is_named_by-clause-read
 returns-then-is_named_by-clause-read c =
-    rw c.place-place.ensures (component_repeated c.loop.reader.total c.loop.components c.args.count c.loop.counter c.loop.reader.rest _ c.in_ok-component.component c.component.new.self.rest c.loop-test.true
+    rw c.place-place.ensures.value (component_repeated c.loop.reader.total c.loop.components c.args.count c.loop.counter c.loop.reader.rest _ c.in_ok-component.component c.component.new.self.rest c.loop-test.true
     c.loop.invariant.0 c.in_ok-component.ensures.read (rw (← c.carrier.ensures, ← c.as_slice.ensures.value, ← c.is_named_by.ensures) c.if-is_named_by.true))
 
 pub loop-preserved : goal.loop-preserved

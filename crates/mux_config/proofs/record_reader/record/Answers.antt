@@ -22,7 +22,7 @@ read_is c =
 
 place_is : (c : goal.After-place) → c.place.result ≡ length c.args.bytes.now - length c.members-3.new.reader.rest
 place_is c =
-    c.place.ensures
+    c.place.ensures.value
     ∙ ap (λ (t : ℕ). t - length c.members-3.new.reader.rest)
     (c.in_ok-packets.ensures.total ∙ c.in_ok-services.ensures.total ∙ c.in_ok-subs.ensures.total ∙ c.in_ok-packet_count.ensures.total
     ∙ c.in_ok-service_count.ensures.total ∙ c.in_ok-sub_count.ensures.total ∙ c.new-reader.ensures.total)
