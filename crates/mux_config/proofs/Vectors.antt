@@ -1,19 +1,28 @@
 -- Records computed by the checker from the definitions.
-use Rattle.std.proofs.Common.{◌≡◌, ℕ, List, [], ◌∷◌, Ok, refl}
-use Rattle.mux_eep.specs.declared.sizes.EepSet.TheVariants.{A}
-use Rattle.mux_config.specs.declared.parts.Component.TheVariants.{Sound}
-use Rattle.mux_config.specs.declared.numbers.Sid.TheVariants.{Short as ShortSid}
-use Rattle.mux_config.specs.Configuration.{Configuration}
+use Rattle.std.proofs.Common.{◌≡◌, ℕ, true, false, List, [], ◌∷◌, ◌++◌, Ok, Err, refl}
+use Rattle.mux_eep.specs.declared.sizes.EepSet.TheVariants.{A, B}
+use Rattle.mux_config.specs.declared.parts.Component.TheVariants.{Sound, Stream, Packet as InPackets}
+use Rattle.mux_config.specs.declared.numbers.Sid.TheVariants.{Short as ShortSid, Long as LongSid}
+use Rattle.mux_config.specs.declared.record.RecordFault.TheVariants.{Short, Field, Order}
+use Rattle.mux_config.specs.Configuration.{Configuration, nothing}
 use Rattle.mux_config.specs.Spelling.{config_bytes}
-use Rattle.mux_config.specs.Reading.{config_at, record_at, members_at, sub_at, protection_at, service_at, sid_at, components_at, component_at, component_of}
+use Rattle.mux_config.specs.Reading.{config_at, record_at, members_at, sub_at, protection_at, service_at, sid_at, components_at, component_at, component_of, packet_at}
+
+nothing-spelled : config_bytes nothing ≡ 0 ∷ 0 ∷ 0 ∷ []
+nothing-spelled = refl
+
+nothing-read : config_at (0 ∷ 0 ∷ 0 ∷ []) ≡ Ok (nothing, [])
+unfolding record_at members_at
+nothing-read = refl
 
 -- one programme of 128 kbit/s at 3-A
 abbrev one_programme : Configuration
-one_programme = record {
-  subs = record { id = 1; start = 0; protection = record { set = A; level = 3 }; kbits = 128 } ∷ [];
-  services = record { sid = ShortSid 49697; components = Sound 63 1 ∷ [] } ∷ [];
-  packets = [];
-}
+one_programme =
+    record {
+      subs = record { id = 1; start = 0; protection = record { set = A; level = 3 }; kbits = 128 } ∷ [];
+      services = record { sid = ShortSid 49697; components = Sound 63 1 ∷ [] } ∷ [];
+      packets = [];
+    }
 
 abbrev one_programme_bytes : List ℕ
 one_programme_bytes = 1 ∷ 1 ∷ 0 ∷ 1 ∷ 0 ∷ 0 ∷ 0 ∷ 3 ∷ 0 ∷ 128 ∷ 0 ∷ 194 ∷ 33 ∷ 1 ∷ 0 ∷ 63 ∷ 1 ∷ []
@@ -24,3 +33,52 @@ one_programme-spelled = refl
 one_programme-read : config_at one_programme_bytes ≡ Ok (one_programme, [])
 unfolding record_at members_at sub_at protection_at service_at sid_at components_at component_at component_of
 one_programme-read = refl
+
+-- bytes after a record are left
+one_programme-followed : config_at (one_programme_bytes ++ 255 ∷ 0 ∷ []) ≡ Ok (one_programme, 255 ∷ 0 ∷ [])
+unfolding record_at members_at sub_at protection_at service_at sid_at components_at component_at component_of
+one_programme-followed = refl
+
+-- a service of one component in packet mode
+abbrev one_packet : Configuration
+one_packet =
+    record {
+      subs = record { id = 5; start = 0; protection = record { set = A; level = 3 }; kbits = 64 } ∷ [];
+      services = record { sid = ShortSid 49697; components = InPackets 1 ∷ [] } ∷ [];
+      packets = record { scid = 1; dg = false; ty = 60; sub = 5; address = 1 } ∷ [];
+    }
+
+abbrev one_packet_bytes : List ℕ
+one_packet_bytes = 1 ∷ 1 ∷ 1 ∷ 5 ∷ 0 ∷ 0 ∷ 0 ∷ 3 ∷ 0 ∷ 64 ∷ 0 ∷ 194 ∷ 33 ∷ 1 ∷ 3 ∷ 0 ∷ 1 ∷ 0 ∷ 1 ∷ 0 ∷ 60 ∷ 5 ∷ 0 ∷ 1 ∷ []
+
+one_packet-spelled : config_bytes one_packet ≡ one_packet_bytes
+one_packet-spelled = refl
+
+one_packet-read : config_at one_packet_bytes ≡ Ok (one_packet, [])
+unfolding record_at members_at sub_at protection_at service_at sid_at components_at component_at component_of packet_at
+one_packet-read = refl
+
+-- a rate without a size is at fault where it stands, whatever the start address is
+rate-fault : config_at (1 ∷ 0 ∷ 0 ∷ 1 ∷ 255 ∷ 255 ∷ 0 ∷ 3 ∷ 0 ∷ 33 ∷ []) ≡ Err (Field 8)
+unfolding record_at members_at sub_at protection_at
+rate-fault = refl
+
+-- 96 capacity units from 769 on end past the last
+end-fault : config_at (1 ∷ 0 ∷ 0 ∷ 1 ∷ 3 ∷ 1 ∷ 0 ∷ 3 ∷ 0 ∷ 128 ∷ []) ≡ Err (Field 4)
+unfolding record_at members_at sub_at protection_at
+end-fault = refl
+
+-- a carrier that stands twice is at fault at its component
+carrier-fault : config_at (0 ∷ 1 ∷ 0 ∷ 0 ∷ 194 ∷ 33 ∷ 2 ∷ 0 ∷ 63 ∷ 1 ∷ 1 ∷ 5 ∷ 1 ∷ []) ≡ Err (Field 10)
+unfolding record_at members_at service_at sid_at components_at component_at component_of
+carrier-fault = refl
+
+-- a short SId after a long one is out of order, as soon as it is read
+order-fault : config_at (0 ∷ 2 ∷ 0 ∷ 1 ∷ 0 ∷ 0 ∷ 0 ∷ 1 ∷ 0 ∷ 0 ∷ 194 ∷ 33 ∷ []) ≡ Err Order
+unfolding record_at members_at service_at sid_at components_at
+order-fault = refl
+
+-- a record that is cut off
+short-fault : config_at (0 ∷ 0 ∷ 1 ∷ 0 ∷ 1 ∷ 0 ∷ 60 ∷ 5 ∷ 0 ∷ []) ≡ Err Short
+unfolding record_at members_at packet_at
+short-fault = refl
