@@ -2,5 +2,6 @@ pub mod Steps
 pub mod Least
 pub mod Pieces
 pub mod Walk
-pub mod Figs
+pub mod Sharing
 pub mod Sendable
+pub mod Sent

@@ -1,5 +1,5 @@
 -- The row walked entry by entry.
-use Rattle.std.proofs.Common.{◌≡◌, ℕ, ◌+◌, ◌-◌, ◌<◌, ◌≤◌, List, [], ◌∷◌, ◌++◌, length, take, drop, slice_get, get_or, Some, refl, sym, ◌∙◌, ap, subst, inl, inr, ◌⊎◌, arith, append_assoc}
+use Rattle.std.proofs.Common.{◌≡◌, ℕ, ◌+◌, ◌-◌, ◌*◌, ◌<◌, ◌≤◌, List, [], ◌∷◌, ◌++◌, length, take, drop, slice_get, get_or, Some, refl, sym, ◌∙◌, ap, subst, inl, inr, ◌⊎◌, arith, append_assoc}
 use Rattle.std.proofs.lemmas.List.{drop_more, drop_all, take_more, get_or-drop, length-drop, append-nil}
 use Rattle.std.proofs.lemmas.Option.{slice_get_within, get_or_from_slice_get}
 use Rattle.mux_config.specs.Facts.{Marked}
@@ -7,11 +7,11 @@ use Rattle.fib_codec.specs.Spelling.{head_of}
 use Rattle.fib_carousel.specs.declared.place.Place.{Place}
 use Rattle.fib_carousel.specs.declared.place.Shape.{Shape}
 use Rattle.fib_carousel.specs.declared.cursor.Cursor.{Cursor}
-use Rattle.fib_carousel.specs.Packing.{size_of, entries_in_fib, last_number, placed, numbers_from}
-use Rattle.fib_carousel.specs.Pages.{fib_entries}
+use Rattle.fib_carousel.specs.Packing.{size_of, entries_in_fib, last_number, placed, numbers_from, packing, start}
+use Rattle.fib_carousel.specs.Pages.{rounds, fib_entries}
 use Rattle.fib_carousel.specs.Row.{IsShapeAt, Stands}
 use Rattle.fib_carousel.proofs.Steps.{in_fib_same, in_fib_other, in_fib_past}
-use Rattle.fib_carousel.proofs.Least.{placed_above, numbers_rise}
+use Rattle.fib_carousel.proofs.Least.{placed_cases, placed_above, numbers_rise}
 
 -- the row from a place on begins with the entry there
 pub drop_here : {A : Type 0} (xs : List A) (i : ℕ) (x : A) → slice_get xs i ≡ Some x → drop i xs ≡ x ∷ drop (i + 1) xs
@@ -149,7 +149,7 @@ walked_before ms n from c d s at before used near inside w =
     }
 
 -- the walk is over where the next entry stands in a later FIB, or none is left
-nothing_behind : {A : Type 0} (xs ys zs : List A) → ys ≡ [] → xs ++ ys ≡ zs → xs ≡ zs
+pub nothing_behind : {A : Type 0} (xs ys zs : List A) → ys ≡ [] → xs ++ ys ≡ zs → xs ≡ zs
 nothing_behind xs ys zs e f = sym (append-nil xs) ∙ ap (λ y. xs ++ y) (sym e) ∙ f
 
 pub walked_over : (ms : List Marked) (n from : ℕ) (c : Cursor) (q : Place) → Passed ms c.at c.place q → n < q.fib → Walked ms n from c → take (c.at - from) (drop from ms) ≡ fib_entries n ms
@@ -159,3 +159,20 @@ walked_over ms n from c q s h w =
 pub walked_end : (ms : List Marked) (n from : ℕ) (c : Cursor) → length ms ≤ c.at → Walked ms n from c → take (c.at - from) (drop from ms) ≡ fib_entries n ms
 walked_end ms n from c h w =
     nothing_behind (take (c.at - from) (drop from ms)) (rest_in n ms c.at c.place) (fib_entries n ms) (rest_end n ms c.at c.place h) w.here
+
+-- an entry takes two FIBs at most, so there are no more pages than entries, but for one
+last_bound : (p : Place) (ms : List Marked) → last_number p.fib (numbers_from p ms) ≤ p.fib + 2 * length ms
+last_bound p [] = omega arith
+last_bound p (m ∷ ms) =
+    let more : last_number (placed m p).fib (numbers_from (placed m p) ms) ≤ (placed m p).fib + 2 * length ms = last_bound (placed m p) ms in
+    let near : (placed m p).fib ≤ p.fib + 2 =
+    elim (placed_cases m p) [
+      | inl c ↦ subst (λ (q : Place). q.fib ≤ p.fib + 2) (sym c.is) (omega arith)
+      | inr c ↦ subst (λ (q : Place). q.fib ≤ p.fib + 2) (sym c.is) (omega (arith, c.near))
+    ] in
+    omega (arith, more, near)
+
+pub rounds_bound : (ms : List Marked) → rounds ms ≤ length ms + 1
+rounds_bound ms =
+    let last : last_number 0 (packing ms) ≤ 0 + 2 * length ms = last_bound start ms in
+    omega (arith, last)

@@ -5,8 +5,7 @@ use Rattle.mux_config.specs.Facts.{Marked, marked}
 use Rattle.mux_config.specs.declared.entry.Entry.TheVariants.{Ensemble as EnsembleOf}
 use Rattle.mux_config.specs.declared.entry.Entry.{Entry}
 use Rattle.fib_codec.specs.declared.head.Head.{Head}
-use Rattle.fib_codec.specs.Spelling.{Written, head_of, figs_bytes, filled}
-use Rattle.fib_codec.specs.Crc.{check_bits}
+use Rattle.fib_codec.specs.Spelling.{Written, head_of, fib_bytes}
 use Rattle.fib_carousel.specs.Packing.{same_head}
 use Rattle.fib_carousel.specs.Pages.{fib_entries}
 
@@ -30,22 +29,6 @@ run_of head (m ∷ ms) = if same_head head (head_of m) then m.entry ∷ run_of h
 abbrev pub ensemble_figs : Option EnsembleInformation → List Written
 ensemble_figs None = []
 ensemble_figs (Some e) = record { head = head_of (marked false (EnsembleOf e)); entries = EnsembleOf e ∷ [] } ∷ []
-
--- the number that bits spell, the most significant one first
-abbrev pub number_of_bits : List ℕ → ℕ
-number_of_bits [] = 0
-number_of_bits (b ∷ bs) = b * 2 ^ length bs + number_of_bits bs
-
--- the check word of these bytes
-abbrev pub check_word : List ℕ → ℕ
-check_word bytes = number_of_bits (check_bits bytes)
-
--- a FIB: 30 data bytes, and their check word with its high byte first
-abbrev pub checked : List ℕ → List ℕ
-checked bytes = bytes ++ check_word bytes / 256 ∷ check_word bytes % 256 ∷ []
-
-abbrev pub fib_bytes : List Written → List ℕ
-fib_bytes figs = checked (filled (figs_bytes figs))
 
 -- the FIBs with these entries, one after another: FIG 0/0 stands first in the first one
 abbrev pub fibs_bytes : Option EnsembleInformation → List (List Marked) → List ℕ

@@ -1,13 +1,15 @@
 //! The pages of one configuration, or of two side by side.
 
-ghost use Rattle.std.specs.Prelude.{◌≡◌, ℕ, ◌≤◌, List, option_map};
+ghost use Rattle.std.specs.Prelude.{◌≡◌, ℕ, ◌<◌, ◌≤◌, List, option_map};
 ghost use Rattle.std.specs.Option.{option_copied};
 ghost use Rattle.fib_carousel.specs.Packing.{IsPacking, rounds_of};
 ghost use Rattle.fib_carousel.specs.Pages.{page_set, rounds};
+ghost use Rattle.fib_carousel.specs.Bytes.{page_bytes};
 
+use crate::figs;
 use crate::page_set::PageSet;
 use crate::row;
-use mux_config::Store;
+use mux_config::{Ensemble, Store};
 
 /// How many pages the entries of these configurations take: those of the current one and, where it is
 /// given, of the next one. It is at least 1, and no division of the entries into FIBs takes fewer.
@@ -17,4 +19,13 @@ pub fn pages<'a, S: Store>(current: &'a S, next: Option<&'a S>) -> usize
     ensures one { 1 ≤ result }
 {
     row::pages(&PageSet::new(current, next))
+}
+
+/// The three FIBs of a page, numbered from 0: FIG 0/0 first where it is given, and no other, and then the
+/// entries that the packing puts there. A FIB without entries is empty.
+pub fn page<'a, S: Store>(current: &'a S, next: Option<&'a S>, page: usize, ensemble: Option<Ensemble>) -> [u8; 96]
+    requires { page < rounds (page_set (S.content current.now) (option_map S.content (option_copied next))) }
+    ensures { result ≡ page_bytes ensemble page (page_set (S.content current.now) (option_map S.content (option_copied next.entry))) }
+{
+    figs::page(&PageSet::new(current, next), page, ensemble)
 }

@@ -1,5 +1,8 @@
 //! A walk along a row of entries, FIB by FIB.
 
+ghost use Rattle.std.specs.Prelude.{◌≡◌};
+ghost use Rattle.fib_carousel.specs.Packing.{start};
+
 use crate::place::Place;
 
 /// How far the row was walked: the number of the next entry, and the place of the one before it.
@@ -9,6 +12,19 @@ pub struct Cursor {
     pub at: u16,
     /// The place of the entry before it.
     pub place: Place,
+}
+
+impl Cursor {
+    /// Before the first entry.
+    pub(crate) fn start() -> Cursor
+        ensures at { result.at ≡ 0 }
+        ensures place { result.place ≡ start }
+    {
+        Cursor {
+            at: 0,
+            place: Place::start(),
+        }
+    }
 }
 
 /// Some successive entries of a row.

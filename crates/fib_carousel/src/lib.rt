@@ -8,10 +8,11 @@
 pub mod carousel;
 pub mod cursor;
 pub mod fact;
+pub mod figs;
 pub mod laws;
 pub mod page_set;
 pub mod place;
 pub mod row;
 
-pub use carousel::pages;
+pub use carousel::{page, pages};
 pub use place::{Place, Shape};

@@ -1,9 +1,9 @@
 //! The entries that wait to be packed, and the division of them by the packing's rule.
 
-ghost use Rattle.std.specs.Prelude.{◌≡◌, ℕ, ◌+◌, ◌-◌, ◌<◌, ◌≤◌, ◌^◌, List, length, take, drop, slice_get, Some};
+ghost use Rattle.std.specs.Prelude.{◌≡◌, ℕ, ◌+◌, ◌-◌, ◌<◌, ◌≤◌, ◌^◌, List, length, slice_get, Some};
 ghost use Rattle.mux_config.specs.Facts.{Marked};
 ghost use Rattle.fib_carousel.specs.Pages.{rounds, fib_entries};
-ghost use Rattle.fib_carousel.specs.Row.{Stands};
+ghost use Rattle.fib_carousel.specs.Row.{Stands, piece_of};
 
 use crate::cursor::{Cursor, Span};
 use crate::place::{Place, Shape};
@@ -45,15 +45,16 @@ pub(crate) fn pages<R: Row>(row: &R) -> usize
     place.fib / 3 + 1
 }
 
-/// The entries of FIB `fib` of the row of pages, from the cursor on, which then stands behind them.
-pub(crate) fn span<R: Row>(row: &R, cursor: &mut Cursor, fib: usize) -> Span
-    requires { Stands (R.entries row.now) fib cursor.old }
-    ensures entries { take (result.to - result.from) (drop result.from (R.entries row.now)) ≡ fib_entries fib (R.entries row.now) }
+/// The entries of FIB `fib` of the row of pages, from the cursor on, which then stands behind them. The row
+/// has `len` entries.
+pub(crate) fn span<R: Row>(row: &R, len: u16, cursor: &mut Cursor, fib: usize) -> Span
+    requires count { len ≡ length (R.entries row.now) }
+    requires stands { Stands (R.entries row.now) fib cursor.old }
+    ensures entries { piece_of result (R.entries row.now) ≡ fib_entries fib (R.entries row.now) }
     ensures order { result.from ≤ result.to }
     ensures end { result.to ≤ length (R.entries row.now) }
     ensures next { Stands (R.entries row.now) (fib + 1) cursor.new }
 {
-    let len = row.len();
     let mut from = cursor.at;
     'entries: while cursor.at < len {
         let place = cursor.place.then(row.shape(cursor.at));

@@ -10,33 +10,9 @@ use Rattle.mux_config.specs.declared.numbers.Sid.{Sid}
 use Rattle.mux_config.specs.declared.numbers.Sid.TheVariants.{Short, Long}
 use Rattle.fib_codec.specs.declared.head.Head.{Head}
 use Rattle.fib_codec.specs.Spelling.{Written, head_of, entry_size, entry_bytes, figs_bytes, sid_bytes, sid_size, occurrence_bytes, ca_org_bytes, components_bytes}
+use Rattle.fib_codec.proofs.Lengths.{entry_length}
 use Rattle.fib_carousel.specs.Packing.{size_of, same_flag, same_head, figs_size}
 use Rattle.fib_carousel.specs.Bytes.{joined, figs_of, run_of}
-
--- each entry has as many bytes as its size says
-length-sid_bytes : (s : Sid) → length (sid_bytes s) ≡ sid_size s
-length-sid_bytes (Short n) = refl
-length-sid_bytes (Long n) = refl
-
-with_occurrence : (o : Option ℕ) → suc (suc (suc (suc (length (occurrence_bytes o))))) ≡ (if is_some o then 5 else 4)
-with_occurrence None = refl
-with_occurrence (Some low) = refl
-
-with_ca_org : (o : Option ℕ) → suc (suc (suc (suc (suc (length (ca_org_bytes o)))))) ≡ (if is_some o then 7 else 5)
-with_ca_org None = refl
-with_ca_org (Some org) = refl
-
-length-components_bytes : (cs : List ComponentEntry) → length (components_bytes cs) ≡ 2 * length cs
-length-components_bytes [] = refl
-length-components_bytes (c ∷ cs) = omega (arith, length-components_bytes cs)
-
-pub length-entry_bytes : (e : Entry) → length (entry_bytes e) ≡ entry_size e
-length-entry_bytes (EnsembleOf e) = with_occurrence e.occurrence
-length-entry_bytes (SubOf s) = refl
-length-entry_bytes (ShortOf s) = refl
-length-entry_bytes (ServiceOf s) =
-    length-append (sid_bytes s.sid) _ ∙ omega (arith, length-sid_bytes s.sid, length-components_bytes s.components)
-length-entry_bytes (PacketOf p) = with_ca_org p.ca_org
 
 -- one head is equal to itself alone
 same_flag_is : (a b : Bool) → same_flag a b ≡ true → a ≡ b
@@ -64,40 +40,40 @@ same_head_is g h s =
     same_fields g h (same_flag_is g.next h.next one.0) (same_flag_is g.oe h.oe one.1) (same_flag_is g.long h.long two.1) (eqb-true g.ext h.ext three.1)
 
 -- the first FIG is the run at the front
-abbrev pub fig_of : Head → List Entry → Written
-fig_of h es = record { head = h; entries = es }
+abbrev pub written_of : Head → List Entry → Written
+written_of h es = record { head = h; entries = es }
 
 -- what stands behind the run at the front
 abbrev pub after_run : Head → List Marked → List Marked
 after_run head [] = []
 after_run head (m ∷ ms) = if same_head head (head_of m) then after_run head ms else m ∷ ms
 
-pub figs_front : (m : Marked) (ms : List Marked) → figs_of (m ∷ ms) ≡ fig_of (head_of m) (m.entry ∷ run_of (head_of m) ms) ∷ figs_of (after_run (head_of m) ms)
+pub figs_front : (m : Marked) (ms : List Marked) → figs_of (m ∷ ms) ≡ written_of (head_of m) (m.entry ∷ run_of (head_of m) ms) ∷ figs_of (after_run (head_of m) ms)
 figs_front m [] = refl
 figs_front m (n ∷ ns) =
     ap (λ fs. joined m fs) (figs_front n ns) ∙ front (same_head (head_of m) (head_of n)) refl (figs_front n ns)
   where
     front : (b : Bool) → same_head (head_of m) (head_of n) ≡ b
-        → figs_of (n ∷ ns) ≡ fig_of (head_of n) (n.entry ∷ run_of (head_of n) ns) ∷ figs_of (after_run (head_of n) ns)
-        → joined m (fig_of (head_of n) (n.entry ∷ run_of (head_of n) ns) ∷ figs_of (after_run (head_of n) ns))
-        ≡ fig_of (head_of m) (m.entry ∷ run_of (head_of m) (n ∷ ns)) ∷ figs_of (after_run (head_of m) (n ∷ ns))
+        → figs_of (n ∷ ns) ≡ written_of (head_of n) (n.entry ∷ run_of (head_of n) ns) ∷ figs_of (after_run (head_of n) ns)
+        → joined m (written_of (head_of n) (n.entry ∷ run_of (head_of n) ns) ∷ figs_of (after_run (head_of n) ns))
+        ≡ written_of (head_of m) (m.entry ∷ run_of (head_of m) (n ∷ ns)) ∷ figs_of (after_run (head_of m) (n ∷ ns))
     front true h again =
-        let whole : fig_of (head_of n) (m.entry ∷ n.entry ∷ run_of (head_of n) ns) ∷ figs_of (after_run (head_of n) ns)
-        ≡ fig_of (head_of m) (m.entry ∷ n.entry ∷ run_of (head_of m) ns) ∷ figs_of (after_run (head_of m) ns) =
-        ap (λ (g : Head). fig_of g (m.entry ∷ n.entry ∷ run_of g ns) ∷ figs_of (after_run g ns)) (sym (same_head_is (head_of m) (head_of n) h)) in
+        let whole : written_of (head_of n) (m.entry ∷ n.entry ∷ run_of (head_of n) ns) ∷ figs_of (after_run (head_of n) ns)
+        ≡ written_of (head_of m) (m.entry ∷ n.entry ∷ run_of (head_of m) ns) ∷ figs_of (after_run (head_of m) ns) =
+        ap (λ (g : Head). written_of g (m.entry ∷ n.entry ∷ run_of g ns) ∷ figs_of (after_run g ns)) (sym (same_head_is (head_of m) (head_of n) h)) in
         rw h whole
     front false h again =
-        let whole : fig_of (head_of m) (m.entry ∷ []) ∷ fig_of (head_of n) (n.entry ∷ run_of (head_of n) ns) ∷ figs_of (after_run (head_of n) ns)
-        ≡ fig_of (head_of m) (m.entry ∷ []) ∷ figs_of (n ∷ ns) =
-        ap (λ fs. fig_of (head_of m) (m.entry ∷ []) ∷ fs) (sym again) in
+        let whole : written_of (head_of m) (m.entry ∷ []) ∷ written_of (head_of n) (n.entry ∷ run_of (head_of n) ns) ∷ figs_of (after_run (head_of n) ns)
+        ≡ written_of (head_of m) (m.entry ∷ []) ∷ figs_of (n ∷ ns) =
+        ap (λ fs. written_of (head_of m) (m.entry ∷ []) ∷ fs) (sym again) in
         rw h whole
 
 -- the FIGs take what their entries cost
 joined_length : (b : Bool) (m : Marked) (h : Head) (es : List Entry) (fs : List Written)
-    → length (figs_bytes (if b then fig_of h (m.entry ∷ es) ∷ fs else fig_of (head_of m) (m.entry ∷ []) ∷ fig_of h es ∷ fs))
-    ≡ (if b then size_of m else 2 + size_of m) + length (figs_bytes (fig_of h es ∷ fs))
-joined_length true m h es fs = simp length-append (omega (arith, length-entry_bytes m.entry))
-joined_length false m h es fs = simp length-append (omega (arith, length-entry_bytes m.entry))
+    → length (figs_bytes (if b then written_of h (m.entry ∷ es) ∷ fs else written_of (head_of m) (m.entry ∷ []) ∷ written_of h es ∷ fs))
+    ≡ (if b then size_of m else 2 + size_of m) + length (figs_bytes (written_of h es ∷ fs))
+joined_length true m h es fs = simp length-append (omega (arith, entry_length m.entry))
+joined_length false m h es fs = simp length-append (omega (arith, entry_length m.entry))
 
 shared_cost : (b : Bool) (one other rest : ℕ) → (if b then one else 2 + one) + (2 + other + rest) ≡ 2 + one + ((if b then other else 2 + other) + rest)
 shared_cost true one other rest = omega arith
@@ -105,10 +81,10 @@ shared_cost false one other rest = omega arith
 
 pub figs_cost : (ms : List Marked) → length (figs_bytes (figs_of ms)) ≡ figs_size None ms
 figs_cost [] = refl
-figs_cost (m ∷ []) = simp length-append (omega (arith, length-entry_bytes m.entry))
+figs_cost (m ∷ []) = simp length-append (omega (arith, entry_length m.entry))
 figs_cost (m ∷ (n ∷ ns)) =
     let again : length (figs_bytes (figs_of (n ∷ ns))) ≡ 2 + size_of n + figs_size (Some (head_of n)) ns = figs_cost (n ∷ ns) in
-    let first : length (figs_bytes (fig_of (head_of n) (n.entry ∷ run_of (head_of n) ns) ∷ figs_of (after_run (head_of n) ns))) ≡ 2 + size_of n + figs_size (Some (head_of n)) ns =
+    let first : length (figs_bytes (written_of (head_of n) (n.entry ∷ run_of (head_of n) ns) ∷ figs_of (after_run (head_of n) ns))) ≡ 2 + size_of n + figs_size (Some (head_of n)) ns =
     ap (λ fs. length (figs_bytes fs)) (sym (figs_front n ns)) ∙ again in
     ap (λ fs. length (figs_bytes (joined m fs))) (figs_front n ns)
     ∙ joined_length (same_head (head_of m) (head_of n)) m (head_of n) (n.entry ∷ run_of (head_of n) ns) (figs_of (after_run (head_of n) ns))
