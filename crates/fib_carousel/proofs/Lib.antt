@@ -5,3 +5,4 @@ pub mod Walk
 pub mod Sharing
 pub mod Sendable
 pub mod Sent
+pub mod Hearing

@@ -1,13 +1,13 @@
 -- The bytes of the FIBs of a page (EN 300 401 clauses 5.2.1, 5.2.2 and 6.4).
-use Rattle.std.specs.Prelude.{ℕ, ◌+◌, ◌*◌, ◌/◌, ◌%◌, ◌^◌, false, if◌then◌else◌, Option, Some, None, List, [], ◌∷◌, ◌++◌, length}
+use Rattle.std.specs.Prelude.{◌≡◌, map, flat_map, take, drop, ℕ, ◌+◌, ◌*◌, ◌/◌, ◌%◌, ◌^◌, false, if◌then◌else◌, Option, Some, None, List, [], ◌∷◌, ◌++◌, length}
 use Rattle.mux_config.specs.Entries.{EnsembleInformation}
 use Rattle.mux_config.specs.Facts.{Marked, marked}
 use Rattle.mux_config.specs.declared.entry.Entry.TheVariants.{Ensemble as EnsembleOf}
 use Rattle.mux_config.specs.declared.entry.Entry.{Entry}
 use Rattle.fib_codec.specs.declared.head.Head.{Head}
 use Rattle.fib_codec.specs.Spelling.{Written, head_of, fib_bytes}
-use Rattle.fib_carousel.specs.Packing.{same_head}
-use Rattle.fib_carousel.specs.Pages.{fib_entries}
+use Rattle.fib_carousel.specs.Packing.{same_head, entries_in_fib, packing}
+use Rattle.fib_codec.specs.Grammar.{IsValid, fig_of}
 
 -- successive entries of one head share a FIG
 abbrev pub joined : Marked → List Written → List Written
@@ -30,15 +30,23 @@ abbrev pub ensemble_figs : Option EnsembleInformation → List Written
 ensemble_figs None = []
 ensemble_figs (Some e) = record { head = head_of (marked false (EnsembleOf e)); entries = EnsembleOf e ∷ [] } ∷ []
 
--- the FIBs with these entries, one after another: FIG 0/0 stands first in the first one
-abbrev pub fibs_bytes : Option EnsembleInformation → List (List Marked) → List ℕ
-fibs_bytes ensemble [] = []
-fibs_bytes ensemble (ms ∷ rest) = fib_bytes (ensemble_figs ensemble ++ figs_of ms) ++ fibs_bytes None rest
+-- the FIGs of the three FIBs of a page, where the entries stand in the FIBs of these numbers: FIG 0/0, where
+-- it is given, stands first in the first of them
+abbrev pub figs_by : List ℕ → Option EnsembleInformation → ℕ → List Marked → List (List Written)
+figs_by ns ensemble k ms =
+    (ensemble_figs ensemble ++ figs_of (entries_in_fib (3 * k) ms ns))
+    ∷ figs_of (entries_in_fib (3 * k + 1) ms ns)
+    ∷ figs_of (entries_in_fib (3 * k + 2) ms ns)
+    ∷ []
 
--- the entries of the three FIBs of a page
-abbrev pub page_fibs : ℕ → List Marked → List (List Marked)
-page_fibs k ms = fib_entries (3 * k) ms ∷ fib_entries (3 * k + 1) ms ∷ fib_entries (3 * k + 2) ms ∷ []
+abbrev pub page_figs : Option EnsembleInformation → ℕ → List Marked → List (List Written)
+page_figs ensemble k ms = figs_by (packing ms) ensemble k ms
 
 -- the bytes of page k of these entries, with this FIG 0/0: what goes out in one frame
 abbrev pub page_bytes : Option EnsembleInformation → ℕ → List Marked → List ℕ
-page_bytes ensemble k ms = fibs_bytes ensemble (page_fibs k ms)
+page_bytes ensemble k ms = flat_map fib_bytes (page_figs ensemble k ms)
+
+-- these bytes are valid FIBs, one after another, with exactly these FIGs
+abbrev pub AreFibs : List (List Written) → List ℕ → Type 0
+AreFibs [] bytes = bytes ≡ []
+AreFibs (figs ∷ rest) bytes = IsValid (take 32 bytes) (map fig_of figs) × AreFibs rest (drop 32 bytes)

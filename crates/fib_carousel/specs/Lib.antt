@@ -1,6 +1,7 @@
 pub mod Packing
 pub mod Pages
 pub mod Bytes
+pub mod Carried
 pub mod Row
 pub mod Items
 pub use Rattle.fib_codec.specs.Crc

@@ -2,6 +2,7 @@
 
 ghost use Rattle.fib_carousel.specs.Packing.{GreedyIsPacking, PackingIsOne, DividedAreSmall, NoFewer};
 ghost use Rattle.fib_carousel.specs.Pages.{PagesAreAll, EachInAPage, NoneBeyond, PageIsFibs};
+ghost use Rattle.fib_carousel.specs.Carried.{PageSetsArePageable, PagesAreValid, PagesAreHeard, EnsembleIsHeard};
 
 /// The greedy rule gives the packing of every list of entries that has a division, so no division takes
 /// fewer FIBs or pages. A list has at most one packing.
@@ -20,3 +21,14 @@ pub fn pages()
     ensures beyond { NoneBeyond }
     ensures fibs { PageIsFibs }
 {}
+
+/// A page is three valid FIBs, with FIG 0/0 first where it is given. What is heard of it is exactly the
+/// entries of that page, and the ensemble information given: so no entry of a page is lost, and none is
+/// added. The entries of configurations are such that this holds of them.
+pub fn carried()
+    ensures pageable { PageSetsArePageable }
+    ensures valid { PagesAreValid }
+    ensures heard { PagesAreHeard }
+    ensures ensemble { EnsembleIsHeard }
+{
+}

@@ -1,0 +1,276 @@
+-- What stands in the bytes of a page.
+use Rattle.std.proofs.Common.{◌≡◌, ◌≢◌, ℕ, ◌+◌, ◌-◌, ◌*◌, ◌<◌, ◌≤◌, ◌==◌, ◌↔◌, Bool, true, false, List, [], ◌∷◌, ◌++◌, zero, suc, length, take, drop, map, flat_map, Option, Some, None, IfSome, IsSome, Contains, ◌%◌, ◌/◌, refl, sym, ◌∙◌, ap, subst, inl, inr, ◌⊎◌, if◌then◌else◌, arith, append_assoc}
+use Rattle.std.proofs.lemmas.Bool.{cases_lt}
+use Rattle.std.proofs.lemmas.List.{length-append, take_at, drop_at, drop_all, drop-drop, append-nil}
+use Rattle.std.proofs.lemmas.List.Elements.{Contains-append_cases, Contains-append_left, Contains-append_right}
+use Rattle.mux_config.specs.Configuration.{Each, Configuration, IsConfiguration}
+use Rattle.mux_config.specs.Entries.{EnsembleInformation}
+use Rattle.mux_config.specs.Facts.{Marked, marked}
+use Rattle.mux_config.specs.declared.entry.Entry.{Entry}
+use Rattle.mux_config.specs.declared.entry.Entry.TheVariants.{Ensemble as EnsembleOf}
+use Rattle.fib_codec.specs.declared.head.Head.{Head}
+use Rattle.fib_codec.specs.Ranges.{IsWithin, IsEnsembleInformation}
+use Rattle.fib_codec.specs.Spelling.{Written, IsWritten, IsFormed, head_of, ext_of, fig_bytes, figs_bytes, fib_bytes, filled, checked, occurrence_bytes}
+use Rattle.fib_codec.specs.Grammar.{Fig, Open, Other, IsFib, IsFig, AreFigs, IsOther, IsValid, IsOurs, fig_of}
+use Rattle.fib_codec.specs.Heard.{IsInFig, IsInFib, IsHeard, IsHeardInRow, IsEnsembleHeard, IsEnsembleHeardInRow, fib_at, marked_by, marked_of}
+use Rattle.fib_codec.proofs.Lengths.{entry_length}
+use Rattle.fib_codec.proofs.Finished.{length-filled, fib_is, valid_is}
+use Rattle.fib_codec.proofs.Sent.{heard_is_written}
+use Rattle.fib_carousel.specs.Packing.{same_head, figs_size, room, entries_where, packing}
+use Rattle.fib_carousel.specs.Pages.{page_set, fib_entries, page_entries}
+use Rattle.fib_carousel.specs.Bytes.{joined, figs_of, ensemble_figs, page_figs, page_bytes, AreFibs}
+use Rattle.fib_carousel.specs.Row.{IsSendable, AreSendable}
+use Rattle.fib_carousel.specs.Carried.{IsPageable}
+use Rattle.fib_carousel.proofs.Pieces.{page_is_fibs}
+use Rattle.fib_carousel.proofs.Sharing.{same_head_is, figs_cost, written_of}
+use Rattle.fib_carousel.proofs.Sendable.{each_append, sendable_page_set}
+use Rattle.fib_carousel.proofs.Sent.{written_figs, fib_fits, fib_room}
+
+-- the FIGs of marked entries say just these entries
+joined_says : (m : Marked) (fs : List Written) → Each IsOurs fs → marked_of (joined m fs) ≡ m ∷ marked_of fs
+joined_says m [] ours = refl
+joined_says m (f ∷ fs) ours = by (same_head (head_of m) f.head) refl
+  where
+    by : (b : Bool) → same_head (head_of m) f.head ≡ b → marked_of (joined m (f ∷ fs)) ≡ m ∷ marked_of (f ∷ fs)
+    by true e =
+        let same : head_of m ≡ f.head = same_head_is (head_of m) f.head e in
+        let next : f.head.next ≡ m.next = ap (λ (g : Head). g.next) (sym same) in
+        let whole : marked_of (written_of f.head (m.entry ∷ f.entries) ∷ fs) ≡ m ∷ marked_of (f ∷ fs) =
+        rw (ours.0) (ap (λ (b : Bool). marked b m.entry ∷ (map (marked f.head.next) f.entries ++ marked_of fs)) next) in
+        rw e whole
+    by false e =
+        let whole : marked_of (written_of (head_of m) (m.entry ∷ []) ∷ f ∷ fs) ≡ m ∷ marked_of (f ∷ fs) = refl in
+        rw e whole
+
+ours_joined : (m : Marked) (fs : List Written) → Each IsOurs fs → Each IsOurs (joined m fs)
+ours_joined m [] ours = (refl, tt)
+ours_joined m (f ∷ fs) ours = by (same_head (head_of m) f.head) refl
+  where
+    by : (b : Bool) → same_head (head_of m) f.head ≡ b → Each IsOurs (joined m (f ∷ fs))
+    by true e = let all : Each IsOurs (written_of f.head (m.entry ∷ f.entries) ∷ fs) = (ours.0, ours.1) in rw e all
+    by false e = let all : Each IsOurs (written_of (head_of m) (m.entry ∷ []) ∷ f ∷ fs) = (refl, ours) in rw e all
+
+ours_figs : (ms : List Marked) → Each IsOurs (figs_of ms)
+ours_figs [] = tt
+ours_figs (m ∷ ms) = ours_joined m (figs_of ms) (ours_figs ms)
+
+figs_say : (ms : List Marked) → marked_of (figs_of ms) ≡ ms
+figs_say [] = refl
+figs_say (m ∷ ms) = joined_says m (figs_of ms) (ours_figs ms) ∙ ap (λ xs. m ∷ xs) (figs_say ms)
+
+-- entries that are picked can be sent as they could before
+pub sendable_where : (test : ℕ → Bool) (ms : List Marked) (ns : List ℕ) → AreSendable ms → AreSendable (entries_where test ms ns)
+sendable_where test [] ns h = tt
+sendable_where test (m ∷ ms) [] h = tt
+sendable_where test (m ∷ ms) (n ∷ ns) h = by (test n) (sendable_where test ms ns h.1)
+  where
+    by : (b : Bool) → AreSendable (entries_where test ms ns) → AreSendable (if b then m ∷ entries_where test ms ns else entries_where test ms ns)
+    by true again = (h.0, again)
+    by false again = again
+
+-- FIG 0/0 where it is given
+ensemble_written : (o : Option EnsembleInformation) → IfSome o IsEnsembleInformation → Each IsWritten (ensemble_figs o)
+ensemble_written None h = tt
+ensemble_written (Some e) h = (record { formed = record { some = omega arith; under = (refl, tt); alone = λ z. refl }; within = (h, tt) }, tt)
+
+ensemble_ours : (o : Option EnsembleInformation) → Each IsOurs (ensemble_figs o)
+ensemble_ours None = tt
+ensemble_ours (Some e) = (refl, tt)
+
+occurrence_low : (o : Option ℕ) → suc (suc (suc (suc (suc (suc (length (occurrence_bytes o ++ [] ++ []))))))) ≤ 7
+occurrence_low None = omega arith
+occurrence_low (Some low) = omega arith
+
+ensemble_none : (o : Option EnsembleInformation) → o ≡ None → length (figs_bytes (ensemble_figs o)) ≡ 0
+ensemble_none None h = refl
+ensemble_none (Some e) h = cc
+
+ensemble_low : (o : Option EnsembleInformation) → length (figs_bytes (ensemble_figs o)) ≤ 7
+ensemble_low None = omega arith
+ensemble_low (Some e) = occurrence_low e.occurrence
+
+-- the FIGs of a FIB of a page
+pub record Fits (figs : List Written) : Type 0 where
+  pub written : Each IsWritten figs
+  pub ours : Each IsOurs figs
+  pub short : length (figs_bytes figs) ≤ 30
+
+length-figs_bytes : (xs ys : List Written) → length (figs_bytes (xs ++ ys)) ≡ length (figs_bytes xs) + length (figs_bytes ys)
+length-figs_bytes [] ys = omega arith
+length-figs_bytes (f ∷ xs) ys =
+    length-append (fig_bytes f.head f.entries) (figs_bytes (xs ++ ys))
+      ∙ omega (arith, length-figs_bytes xs ys, length-append (fig_bytes f.head f.entries) (figs_bytes xs))
+
+fits_in : (o : Option EnsembleInformation) (n : ℕ) (ms : List Marked) → IsPageable o ms → (IsSome o → n % 3 ≡ 0) → Fits (ensemble_figs o ++ figs_of (fib_entries n ms))
+fits_in o n ms h first =
+    let here : List Marked = fib_entries n ms in
+    let cost : length (figs_bytes (figs_of here)) ≤ room n = rw (figs_cost here) (fib_fits ms n h.entries) in
+    record {
+      written = each_append IsWritten (ensemble_figs o) (figs_of here) (ensemble_written o h.ensemble_within) (written_figs here (sendable_where (λ m. m == n) ms (packing ms) h.entries));
+      ours = each_append IsOurs (ensemble_figs o) (figs_of here) (ensemble_ours o) (ours_figs here);
+      short = rw (length-figs_bytes (ensemble_figs o) (figs_of here)) (fib_room o n (length (figs_bytes (ensemble_figs o))) (length (figs_bytes (figs_of here))) (ensemble_low o) (ensemble_none o) first cost);
+    }
+
+-- the three FIBs of a page
+page_fits : (o : Option EnsembleInformation) (k : ℕ) (ms : List Marked) → IsPageable o ms → Each Fits (page_figs o k ms)
+page_fits o k ms h =
+    let plain : IsPageable None ms = record { entries = h.entries; ensemble_within = tt } in
+    let first : Fits (ensemble_figs o ++ figs_of (fib_entries (3 * k) ms)) = fits_in o (3 * k) ms h (λ _. omega arith) in
+    let second : Fits (figs_of (fib_entries (3 * k + 1) ms)) = fits_in None (3 * k + 1) ms plain (λ e. absurd (cc e)) in
+    let third : Fits (figs_of (fib_entries (3 * k + 2) ms)) = fits_in None (3 * k + 2) ms plain (λ e. absurd (cc e)) in
+    (first, (second, (third, tt)))
+
+length-fib_bytes : (figs : List Written) → Fits figs → length (fib_bytes figs) ≡ 32
+length-fib_bytes figs f =
+    length-append (filled (figs_bytes figs)) _
+      ∙ omega (arith, length-filled (figs_bytes figs) f.short)
+
+-- FIBs one after another
+are_fibs : (all : List (List Written)) → Each Fits all → AreFibs all (flat_map fib_bytes all)
+are_fibs [] f = refl
+are_fibs (figs ∷ rest) f =
+    let long = length-fib_bytes figs f.0 in (
+      subst (λ (bytes : List ℕ). IsValid bytes (map fig_of figs)) (sym (take_at (fib_bytes figs) (flat_map fib_bytes rest) 32 long)) (valid_is figs f.0.written f.0.short f.0.ours),
+      subst (λ (bytes : List ℕ). AreFibs rest bytes) (sym (drop_at (fib_bytes figs) (flat_map fib_bytes rest) 32 long)) (are_fibs rest f.1),
+    )
+
+pub pages_are_valid : (o : Option EnsembleInformation) (k : ℕ) (ms : List Marked) → IsPageable o ms → AreFibs (page_figs o k ms) (page_bytes o k ms)
+pages_are_valid o k ms h = are_fibs (page_figs o k ms) (page_fits o k ms h)
+
+-- what stands in a FIB that holds such FIGs
+fib_says : (figs : List Written) (m : Marked) → Fits figs → IsInFib (fib_bytes figs) m ↔ Contains (marked_of figs) m
+fib_says figs m f = heard_is_written (fib_bytes figs) figs f.written (fib_is figs f.written f.short) m
+
+-- no bytes hold nothing
+front_empty : (xs ys : List ℕ) → [] ≡ xs ++ ys → xs ≡ []
+front_empty [] ys h = refl
+front_empty (x ∷ xs) ys h = cc
+
+no_fig : (fig : Fig) → IsFig [] fig → ⊥
+no_fig (Open second es) h = let e = h.1 in cc
+no_fig (Other given) h = h.1
+
+nothing_said : (m : Marked) → IsInFib [] m → ⊥
+nothing_said m (figs, fig, fib, in_list, said) = by figs in_list fib.1
+  where
+    by : (fs : List Fig) → Contains fs fig → AreFigs [] fs → ⊥
+    by [] inside are = omega (arith, inside.1)
+    by (f ∷ fs) inside are = no_fig f (subst (λ (front : List ℕ). IsFig front f) (front_empty are.0 are.1 are.2) are.3)
+
+-- what stands in some FIB of a row is what their FIGs say
+fib_front : (figs : List Written) (rest : List ℕ) → Fits figs → fib_at (fib_bytes figs ++ rest) 0 ≡ fib_bytes figs
+fib_front figs rest f = take_at (fib_bytes figs) rest 32 (length-fib_bytes figs f)
+
+fib_later : (figs : List Written) (rest : List ℕ) (place : ℕ) → Fits figs → fib_at (fib_bytes figs ++ rest) (suc place) ≡ fib_at rest place
+fib_later figs rest place f =
+    let count : 32 * suc place ≡ 32 + 32 * place = omega arith in
+    ap (λ n. take 32 (drop n (fib_bytes figs ++ rest))) count
+      ∙ ap (λ xs. take 32 xs) (sym (drop-drop (32 * place) 32 (fib_bytes figs ++ rest)))
+      ∙ ap (λ xs. take 32 (drop (32 * place) xs)) (drop_at (fib_bytes figs) rest 32 (length-fib_bytes figs f))
+
+abbrev StandsIn : List ℕ → Marked → Type 0
+StandsIn bytes m = (place : ℕ) × IsInFib (fib_at bytes place) m
+
+row_heard : (all : List (List Written)) (m : Marked) → Each Fits all → (place : ℕ) → IsInFib (fib_at (flat_map fib_bytes all) place) m → Contains (flat_map marked_of all) m
+row_heard [] m f place h = absurd (nothing_said m (subst (λ (bytes : List ℕ). IsInFib bytes m) (ap (λ xs. take 32 xs) (drop_all (32 * place) [] (omega arith))) h))
+row_heard (figs ∷ rest) m f zero h =
+    Contains-append_left (marked_of figs) (flat_map marked_of rest) m
+      ((fib_says figs m f.0).0 (subst (λ (bytes : List ℕ). IsInFib bytes m) (fib_front figs (flat_map fib_bytes rest) f.0) h))
+row_heard (figs ∷ rest) m f (suc place) h =
+    Contains-append_right (marked_of figs) (flat_map marked_of rest) m
+      (row_heard rest m f.1 place (subst (λ (bytes : List ℕ). IsInFib bytes m) (fib_later figs (flat_map fib_bytes rest) place f.0) h))
+
+row_sent : (all : List (List Written)) (m : Marked) → Each Fits all → Contains (flat_map marked_of all) m → StandsIn (flat_map fib_bytes all) m
+row_sent [] m f h = absurd (omega (arith, h.1))
+row_sent (figs ∷ rest) m f h =
+    elim (Contains-append_cases (marked_of figs) (flat_map marked_of rest) m h) [
+      | inl here ↦ (0, subst (λ (bytes : List ℕ). IsInFib bytes m) (sym (fib_front figs (flat_map fib_bytes rest) f.0)) ((fib_says figs m f.0).1 here))
+      | inr later ↦
+          let found : StandsIn (flat_map fib_bytes rest) m = row_sent rest m f.1 later in
+          (suc found.0, subst (λ (bytes : List ℕ). IsInFib bytes m) (sym (fib_later figs (flat_map fib_bytes rest) found.0 f.0)) found.1)
+    ]
+
+-- the FIGs of a page say the ensemble information given and the entries of the page
+abbrev ensemble_marked : Option EnsembleInformation → List Marked
+ensemble_marked None = []
+ensemble_marked (Some e) = marked false (EnsembleOf e) ∷ []
+
+first_says : (o : Option EnsembleInformation) (ms : List Marked) → marked_of (ensemble_figs o ++ figs_of ms) ≡ ensemble_marked o ++ ms
+first_says None ms = figs_say ms
+first_says (Some e) ms = ap (λ xs. marked false (EnsembleOf e) ∷ xs) (figs_say ms)
+
+page_says : (o : Option EnsembleInformation) (k : ℕ) (ms : List Marked) → flat_map marked_of (page_figs o k ms) ≡ ensemble_marked o ++ page_entries k ms
+page_says o k ms =
+    let a : List Marked = fib_entries (3 * k) ms in
+    let b : List Marked = fib_entries (3 * k + 1) ms in
+    let c : List Marked = fib_entries (3 * k + 2) ms in
+    ap (λ xs. xs ++ (marked_of (figs_of b) ++ (marked_of (figs_of c) ++ []))) (first_says o a)
+      ∙ ap (λ xs. (ensemble_marked o ++ a) ++ (xs ++ (marked_of (figs_of c) ++ []))) (figs_say b)
+      ∙ ap (λ xs. (ensemble_marked o ++ a) ++ (b ++ (xs ++ []))) (figs_say c)
+      ∙ ap (λ xs. (ensemble_marked o ++ a) ++ (b ++ xs)) (append-nil c)
+      ∙ append_assoc (ensemble_marked o) a (b ++ c)
+      ∙ ap (λ xs. ensemble_marked o ++ xs) (sym (append_assoc a b c) ∙ sym (page_is_fibs ms k))
+
+in_page : (o : Option EnsembleInformation) (k : ℕ) (ms : List Marked) (m : Marked) → IsPageable o ms → StandsIn (page_bytes o k ms) m → Contains (ensemble_marked o) m ⊎ Contains (page_entries k ms) m
+in_page o k ms m h (place, inside) =
+    Contains-append_cases (ensemble_marked o) (page_entries k ms) m
+      (subst (λ (xs : List Marked). Contains xs m) (page_says o k ms) (row_heard (page_figs o k ms) m (page_fits o k ms h) place inside))
+
+of_page : (o : Option EnsembleInformation) (k : ℕ) (ms : List Marked) (m : Marked) → IsPageable o ms → Contains (ensemble_marked o ++ page_entries k ms) m → StandsIn (page_bytes o k ms) m
+of_page o k ms m h inside =
+    row_sent (page_figs o k ms) m (page_fits o k ms h) (subst (λ (xs : List Marked). Contains xs m) (sym (page_says o k ms)) inside)
+
+-- entries of a page are of FIG 0/1 to 0/3, and ensemble information is not
+each_contains : {A : Type 0} (P : A → Type 0) (xs : List A) (x : A) → Each P xs → Contains xs x → P x
+each_contains P [] x h inside = absurd (omega (arith, inside.1))
+each_contains P (y ∷ xs) x h (zero, lt, is) = subst P is h.0
+each_contains P (y ∷ xs) x h (suc i, lt, is) = each_contains P xs x h.1 (i, omega (arith, lt), is)
+
+organized : (k : ℕ) (ms : List Marked) (m : Marked) → AreSendable ms → Contains (page_entries k ms) m → 1 ≤ ext_of m.entry
+organized k ms m h inside =
+    let s : IsSendable m = each_contains IsSendable (page_entries k ms) m (sendable_where (λ n. n / 3 == k) ms (packing ms) h) inside in
+    s.organization
+
+ensemble_is : (o : Option EnsembleInformation) (m : Marked) → Contains (ensemble_marked o) m → (e : EnsembleInformation) × (o ≡ Some e) × (m ≡ marked false (EnsembleOf e))
+ensemble_is None m inside = absurd (omega (arith, inside.1))
+ensemble_is (Some e) m (zero, lt, is) = (e, refl, sym is)
+ensemble_is (Some e) m (suc i, lt, is) = absurd (omega (arith, lt))
+
+pub pages_are_heard : (o : Option EnsembleInformation) (k : ℕ) (ms : List Marked) → IsPageable o ms → (m : Marked) → IsHeardInRow (page_bytes o k ms) m ↔ Contains (page_entries k ms) m
+pages_are_heard o k ms h m = (
+  λ heard.
+    elim (in_page o k ms m h (heard.0, heard.1.inside)) [
+      | inl first ↦
+          let e = ensemble_is o m first in
+          let none : ext_of m.entry ≡ 0 = ap (λ (n : Marked). ext_of n.entry) e.2 in
+          absurd (omega (arith, none, heard.1.organization))
+      | inr here ↦ here
+    ],
+  λ here.
+    let found = of_page o k ms m h (Contains-append_right (ensemble_marked o) (page_entries k ms) m here) in
+    (found.0, record { organization = organized k ms m h.entries here; inside = found.1 }),
+)
+
+pub ensemble_is_heard : (o : Option EnsembleInformation) (k : ℕ) (ms : List Marked) → IsPageable o ms → (next : Bool) (e : EnsembleInformation) → IsEnsembleHeardInRow (page_bytes o k ms) next e ↔ ((next ≡ false) × (o ≡ Some e))
+ensemble_is_heard o k ms h next e = (
+  λ heard.
+    elim (in_page o k ms (marked next (EnsembleOf e)) h (heard.0, heard.1)) [
+      | inl first ↦
+          let found = ensemble_is o (marked next (EnsembleOf e)) first in
+          let flag : next ≡ false = ap (λ (n : Marked). n.next) found.2 in
+          let entry : EnsembleOf e ≡ EnsembleOf found.0 = ap (λ (n : Marked). n.entry) found.2 in
+          let same : e ≡ found.0 = cc entry in
+          (flag, found.1 ∙ ap (λ (x : EnsembleInformation). Some x) (sym same))
+      | inr here ↦ absurd (omega (arith, organized k ms (marked next (EnsembleOf e)) h.entries here))
+    ],
+  λ told.
+    let marks : ensemble_marked o ≡ marked next (EnsembleOf e) ∷ [] =
+    ap (λ (x : Option EnsembleInformation). ensemble_marked x) told.1 ∙ ap (λ (b : Bool). marked b (EnsembleOf e) ∷ []) (sym told.0) in
+    let inside : Contains (ensemble_marked o) (marked next (EnsembleOf e)) =
+    subst (λ (xs : List Marked). Contains xs (marked next (EnsembleOf e))) (sym marks) (0, omega arith, refl) in
+    let found = of_page o k ms (marked next (EnsembleOf e)) h (Contains-append_left (ensemble_marked o) (page_entries k ms) (marked next (EnsembleOf e)) inside) in
+    (found.0, found.1),
+)
+
+pub page_sets_are_pageable : (c : Configuration) (n : Option Configuration) (o : Option EnsembleInformation) → IsConfiguration c → IfSome n IsConfiguration → IfSome o IsEnsembleInformation → IsPageable o (page_set c n)
+page_sets_are_pageable c n o h next e = record { entries = sendable_page_set c n h next; ensemble_within = e }
