@@ -1,26 +1,24 @@
 -- What stands in the bytes of a page.
-use Rattle.std.proofs.Common.{◌≡◌, ◌≢◌, ℕ, ◌+◌, ◌-◌, ◌*◌, ◌<◌, ◌≤◌, ◌==◌, ◌↔◌, Bool, true, false, List, [], ◌∷◌, ◌++◌, zero, suc, length, take, drop, map, flat_map, Option, Some, None, IfSome, IsSome, Contains, ◌%◌, ◌/◌, refl, sym, ◌∙◌, ap, subst, inl, inr, ◌⊎◌, if◌then◌else◌, arith, append_assoc}
-use Rattle.std.proofs.lemmas.Bool.{cases_lt}
+use Rattle.std.proofs.Common.{◌≡◌, ℕ, ◌+◌, ◌*◌, ◌≤◌, ◌==◌, ◌↔◌, Bool, true, false, List, [], ◌∷◌, ◌++◌, zero, suc, length, take, drop, map, flat_map, Option, Some, None, IfSome, IsSome, Contains, ◌%◌, ◌/◌, refl, sym, ◌∙◌, ap, subst, inl, inr, ◌⊎◌, if◌then◌else◌, arith, append_assoc}
 use Rattle.std.proofs.lemmas.List.{length-append, take_at, drop_at, drop_all, drop-drop, append-nil}
 use Rattle.std.proofs.lemmas.List.Elements.{Contains-append_cases, Contains-append_left, Contains-append_right}
 use Rattle.mux_config.specs.Configuration.{Each, Configuration, IsConfiguration}
 use Rattle.mux_config.specs.Entries.{EnsembleInformation}
 use Rattle.mux_config.specs.Facts.{Marked, marked}
-use Rattle.mux_config.specs.declared.entry.Entry.{Entry}
 use Rattle.mux_config.specs.declared.entry.Entry.TheVariants.{Ensemble as EnsembleOf}
 use Rattle.fib_codec.specs.declared.head.Head.{Head}
-use Rattle.fib_codec.specs.Ranges.{IsWithin, IsEnsembleInformation}
-use Rattle.fib_codec.specs.Spelling.{Written, IsWritten, IsFormed, head_of, ext_of, fig_bytes, figs_bytes, fib_bytes, filled, checked, occurrence_bytes}
-use Rattle.fib_codec.specs.Grammar.{Fig, Open, Other, IsFib, IsFig, AreFigs, IsOther, IsValid, IsOurs, fig_of}
-use Rattle.fib_codec.specs.Heard.{IsInFig, IsInFib, IsHeard, IsHeardInRow, IsEnsembleHeard, IsEnsembleHeardInRow, fib_at, marked_by, marked_of}
-use Rattle.fib_codec.proofs.Lengths.{entry_length}
+use Rattle.fib_codec.specs.Ranges.{IsEnsembleInformation}
+use Rattle.fib_codec.specs.Spelling.{Written, IsWritten, head_of, ext_of, fig_bytes, figs_bytes, fib_bytes, filled, occurrence_bytes}
+use Rattle.fib_codec.specs.Grammar.{Fig, Open, Other, IsFig, AreFigs, IsValid, IsOurs, fig_of}
+use Rattle.fib_codec.specs.Heard.{IsInFib, IsHeardInRow, IsEnsembleHeardInRow, fib_at, marked_of}
 use Rattle.fib_codec.proofs.Finished.{length-filled, fib_is, valid_is}
 use Rattle.fib_codec.proofs.Sent.{heard_is_written}
-use Rattle.fib_carousel.specs.Packing.{same_head, figs_size, room, entries_where, packing}
+use Rattle.fib_carousel.specs.Packing.{same_head, room, entries_where, packing, IsPacking}
 use Rattle.fib_carousel.specs.Pages.{page_set, fib_entries, page_entries}
-use Rattle.fib_carousel.specs.Bytes.{joined, figs_of, ensemble_figs, page_figs, page_bytes, AreFibs}
+use Rattle.fib_carousel.specs.Bytes.{joined, figs_of, ensemble_figs, page_figs, page_bytes, figs_by, AreFibs}
 use Rattle.fib_carousel.specs.Row.{IsSendable, AreSendable}
 use Rattle.fib_carousel.specs.Carried.{IsPageable}
+use Rattle.fib_carousel.proofs.Least.{of_packing}
 use Rattle.fib_carousel.proofs.Pieces.{page_is_fibs}
 use Rattle.fib_carousel.proofs.Sharing.{same_head_is, figs_cost, written_of}
 use Rattle.fib_carousel.proofs.Sendable.{each_append, sendable_page_set}
@@ -99,7 +97,7 @@ length-figs_bytes : (xs ys : List Written) → length (figs_bytes (xs ++ ys)) �
 length-figs_bytes [] ys = omega arith
 length-figs_bytes (f ∷ xs) ys =
     length-append (fig_bytes f.head f.entries) (figs_bytes (xs ++ ys))
-      ∙ omega (arith, length-figs_bytes xs ys, length-append (fig_bytes f.head f.entries) (figs_bytes xs))
+    ∙ omega (arith, length-figs_bytes xs ys, length-append (fig_bytes f.head f.entries) (figs_bytes xs))
 
 fits_in : (o : Option EnsembleInformation) (n : ℕ) (ms : List Marked) → IsPageable o ms → (IsSome o → n % 3 ≡ 0) → Fits (ensemble_figs o ++ figs_of (fib_entries n ms))
 fits_in o n ms h first =
@@ -123,7 +121,7 @@ page_fits o k ms h =
 length-fib_bytes : (figs : List Written) → Fits figs → length (fib_bytes figs) ≡ 32
 length-fib_bytes figs f =
     length-append (filled (figs_bytes figs)) _
-      ∙ omega (arith, length-filled (figs_bytes figs) f.short)
+    ∙ omega (arith, length-filled (figs_bytes figs) f.short)
 
 -- FIBs one after another
 are_fibs : (all : List (List Written)) → Each Fits all → AreFibs all (flat_map fib_bytes all)
@@ -165,8 +163,8 @@ fib_later : (figs : List Written) (rest : List ℕ) (place : ℕ) → Fits figs 
 fib_later figs rest place f =
     let count : 32 * suc place ≡ 32 + 32 * place = omega arith in
     ap (λ n. take 32 (drop n (fib_bytes figs ++ rest))) count
-      ∙ ap (λ xs. take 32 xs) (sym (drop-drop (32 * place) 32 (fib_bytes figs ++ rest)))
-      ∙ ap (λ xs. take 32 (drop (32 * place) xs)) (drop_at (fib_bytes figs) rest 32 (length-fib_bytes figs f))
+    ∙ ap (λ xs. take 32 xs) (sym (drop-drop (32 * place) 32 (fib_bytes figs ++ rest)))
+    ∙ ap (λ xs. take 32 (drop (32 * place) xs)) (drop_at (fib_bytes figs) rest 32 (length-fib_bytes figs f))
 
 abbrev StandsIn : List ℕ → Marked → Type 0
 StandsIn bytes m = (place : ℕ) × IsInFib (fib_at bytes place) m
@@ -175,10 +173,10 @@ row_heard : (all : List (List Written)) (m : Marked) → Each Fits all → (plac
 row_heard [] m f place h = absurd (nothing_said m (subst (λ (bytes : List ℕ). IsInFib bytes m) (ap (λ xs. take 32 xs) (drop_all (32 * place) [] (omega arith))) h))
 row_heard (figs ∷ rest) m f zero h =
     Contains-append_left (marked_of figs) (flat_map marked_of rest) m
-      ((fib_says figs m f.0).0 (subst (λ (bytes : List ℕ). IsInFib bytes m) (fib_front figs (flat_map fib_bytes rest) f.0) h))
+    ((fib_says figs m f.0).0 (subst (λ (bytes : List ℕ). IsInFib bytes m) (fib_front figs (flat_map fib_bytes rest) f.0) h))
 row_heard (figs ∷ rest) m f (suc place) h =
     Contains-append_right (marked_of figs) (flat_map marked_of rest) m
-      (row_heard rest m f.1 place (subst (λ (bytes : List ℕ). IsInFib bytes m) (fib_later figs (flat_map fib_bytes rest) place f.0) h))
+    (row_heard rest m f.1 place (subst (λ (bytes : List ℕ). IsInFib bytes m) (fib_later figs (flat_map fib_bytes rest) place f.0) h))
 
 row_sent : (all : List (List Written)) (m : Marked) → Each Fits all → Contains (flat_map marked_of all) m → StandsIn (flat_map fib_bytes all) m
 row_sent [] m f h = absurd (omega (arith, h.1))
@@ -205,16 +203,16 @@ page_says o k ms =
     let b : List Marked = fib_entries (3 * k + 1) ms in
     let c : List Marked = fib_entries (3 * k + 2) ms in
     ap (λ xs. xs ++ (marked_of (figs_of b) ++ (marked_of (figs_of c) ++ []))) (first_says o a)
-      ∙ ap (λ xs. (ensemble_marked o ++ a) ++ (xs ++ (marked_of (figs_of c) ++ []))) (figs_say b)
-      ∙ ap (λ xs. (ensemble_marked o ++ a) ++ (b ++ (xs ++ []))) (figs_say c)
-      ∙ ap (λ xs. (ensemble_marked o ++ a) ++ (b ++ xs)) (append-nil c)
-      ∙ append_assoc (ensemble_marked o) a (b ++ c)
-      ∙ ap (λ xs. ensemble_marked o ++ xs) (sym (append_assoc a b c) ∙ sym (page_is_fibs ms k))
+    ∙ ap (λ xs. (ensemble_marked o ++ a) ++ (xs ++ (marked_of (figs_of c) ++ []))) (figs_say b)
+    ∙ ap (λ xs. (ensemble_marked o ++ a) ++ (b ++ (xs ++ []))) (figs_say c)
+    ∙ ap (λ xs. (ensemble_marked o ++ a) ++ (b ++ xs)) (append-nil c)
+    ∙ append_assoc (ensemble_marked o) a (b ++ c)
+    ∙ ap (λ xs. ensemble_marked o ++ xs) (sym (append_assoc a b c) ∙ sym (page_is_fibs ms k))
 
 in_page : (o : Option EnsembleInformation) (k : ℕ) (ms : List Marked) (m : Marked) → IsPageable o ms → StandsIn (page_bytes o k ms) m → Contains (ensemble_marked o) m ⊎ Contains (page_entries k ms) m
 in_page o k ms m h (place, inside) =
     Contains-append_cases (ensemble_marked o) (page_entries k ms) m
-      (subst (λ (xs : List Marked). Contains xs m) (page_says o k ms) (row_heard (page_figs o k ms) m (page_fits o k ms h) place inside))
+    (subst (λ (xs : List Marked). Contains xs m) (page_says o k ms) (row_heard (page_figs o k ms) m (page_fits o k ms h) place inside))
 
 of_page : (o : Option EnsembleInformation) (k : ℕ) (ms : List Marked) (m : Marked) → IsPageable o ms → Contains (ensemble_marked o ++ page_entries k ms) m → StandsIn (page_bytes o k ms) m
 of_page o k ms m h inside =
@@ -239,38 +237,47 @@ ensemble_is (Some e) m (suc i, lt, is) = absurd (omega (arith, lt))
 pub pages_are_heard : (o : Option EnsembleInformation) (k : ℕ) (ms : List Marked) → IsPageable o ms → (m : Marked) → IsHeardInRow (page_bytes o k ms) m ↔ Contains (page_entries k ms) m
 pages_are_heard o k ms h m = (
   λ heard.
-    elim (in_page o k ms m h (heard.0, heard.1.inside)) [
-      | inl first ↦
-          let e = ensemble_is o m first in
-          let none : ext_of m.entry ≡ 0 = ap (λ (n : Marked). ext_of n.entry) e.2 in
-          absurd (omega (arith, none, heard.1.organization))
-      | inr here ↦ here
-    ],
+      elim (in_page o k ms m h (heard.0, heard.1.inside)) [
+        | inl first ↦
+            let e = ensemble_is o m first in
+            let none : ext_of m.entry ≡ 0 = ap (λ (n : Marked). ext_of n.entry) e.2 in
+            absurd (omega (arith, none, heard.1.organization))
+        | inr here ↦ here
+      ],
   λ here.
-    let found = of_page o k ms m h (Contains-append_right (ensemble_marked o) (page_entries k ms) m here) in
-    (found.0, record { organization = organized k ms m h.entries here; inside = found.1 }),
+      let found = of_page o k ms m h (Contains-append_right (ensemble_marked o) (page_entries k ms) m here) in
+      (found.0, record { organization = organized k ms m h.entries here; inside = found.1 }),
 )
 
 pub ensemble_is_heard : (o : Option EnsembleInformation) (k : ℕ) (ms : List Marked) → IsPageable o ms → (next : Bool) (e : EnsembleInformation) → IsEnsembleHeardInRow (page_bytes o k ms) next e ↔ ((next ≡ false) × (o ≡ Some e))
 ensemble_is_heard o k ms h next e = (
   λ heard.
-    elim (in_page o k ms (marked next (EnsembleOf e)) h (heard.0, heard.1)) [
-      | inl first ↦
-          let found = ensemble_is o (marked next (EnsembleOf e)) first in
-          let flag : next ≡ false = ap (λ (n : Marked). n.next) found.2 in
-          let entry : EnsembleOf e ≡ EnsembleOf found.0 = ap (λ (n : Marked). n.entry) found.2 in
-          let same : e ≡ found.0 = cc entry in
-          (flag, found.1 ∙ ap (λ (x : EnsembleInformation). Some x) (sym same))
-      | inr here ↦ absurd (omega (arith, organized k ms (marked next (EnsembleOf e)) h.entries here))
-    ],
+      elim (in_page o k ms (marked next (EnsembleOf e)) h (heard.0, heard.1)) [
+        | inl first ↦
+            let found = ensemble_is o (marked next (EnsembleOf e)) first in
+            let flag : next ≡ false = ap (λ (n : Marked). n.next) found.2 in
+            let entry : EnsembleOf e ≡ EnsembleOf found.0 = ap (λ (n : Marked). n.entry) found.2 in
+            let same : e ≡ found.0 = cc entry in
+            (flag, found.1 ∙ ap (λ (x : EnsembleInformation). Some x) (sym same))
+        | inr here ↦ absurd (omega (arith, organized k ms (marked next (EnsembleOf e)) h.entries here))
+      ],
   λ told.
-    let marks : ensemble_marked o ≡ marked next (EnsembleOf e) ∷ [] =
-    ap (λ (x : Option EnsembleInformation). ensemble_marked x) told.1 ∙ ap (λ (b : Bool). marked b (EnsembleOf e) ∷ []) (sym told.0) in
-    let inside : Contains (ensemble_marked o) (marked next (EnsembleOf e)) =
-    subst (λ (xs : List Marked). Contains xs (marked next (EnsembleOf e))) (sym marks) (0, omega arith, refl) in
-    let found = of_page o k ms (marked next (EnsembleOf e)) h (Contains-append_left (ensemble_marked o) (page_entries k ms) (marked next (EnsembleOf e)) inside) in
-    (found.0, found.1),
+      let marks : ensemble_marked o ≡ marked next (EnsembleOf e) ∷ [] =
+      ap (λ (x : Option EnsembleInformation). ensemble_marked x) told.1 ∙ ap (λ (b : Bool). marked b (EnsembleOf e) ∷ []) (sym told.0) in
+      let inside : Contains (ensemble_marked o) (marked next (EnsembleOf e)) =
+      subst (λ (xs : List Marked). Contains xs (marked next (EnsembleOf e))) (sym marks) (0, omega arith, refl) in
+      let found = of_page o k ms (marked next (EnsembleOf e)) h (Contains-append_left (ensemble_marked o) (page_entries k ms) (marked next (EnsembleOf e)) inside) in
+      (found.0, found.1),
 )
 
 pub page_sets_are_pageable : (c : Configuration) (n : Option Configuration) (o : Option EnsembleInformation) → IsConfiguration c → IfSome n IsConfiguration → IfSome o IsEnsembleInformation → IsPageable o (page_set c n)
 page_sets_are_pageable c n o h next e = record { entries = sendable_page_set c n h next; ensemble_within = e }
+
+-- the bytes of a page, whose entries are known by another name
+pub valid_page : (o : Option EnsembleInformation) (k : ℕ) (ms known : List Marked) (bytes : List ℕ) → known ≡ ms → IsPageable o known → bytes ≡ page_bytes o k known → AreFibs (page_figs o k ms) bytes
+valid_page o k ms known bytes e h b =
+    subst (λ (xs : List Marked). AreFibs (page_figs o k xs) bytes) e
+    (subst (λ (xs : List ℕ). AreFibs (page_figs o k known) xs) (sym b) (pages_are_valid o k known h))
+
+pub packed_page : (o : Option EnsembleInformation) (k : ℕ) (ms : List Marked) (bytes : List ℕ) → AreFibs (page_figs o k ms) bytes → (ns : List ℕ) → IsPacking ms ns → AreFibs (figs_by ns o k ms) bytes
+packed_page o k ms bytes valid ns p = subst (λ (numbers : List ℕ). AreFibs (figs_by numbers o k ms) bytes) (of_packing (λ (numbers : List ℕ). numbers) ms ns p) valid

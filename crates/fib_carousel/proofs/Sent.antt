@@ -1,6 +1,5 @@
 -- A piece of the row sent as FIGs.
-use Rattle.std.proofs.Common.{◌≡◌, ℕ, ◌+◌, ◌-◌, ◌*◌, ◌<◌, ◌≤◌, ◌==◌, Bool, true, false, ◌&&◌, List, [], ◌∷◌, ◌++◌, zero, suc, length, take, drop, flat_map, slice_get, min, Option, Some, None, is_some, IsTrue, IsSome, ◌%◌, refl, sym, ◌∙◌, ap, subst, inl, inr, ◌⊎◌, if◌then◌else◌, arith, eq-eqb, append_assoc}
-use Rattle.std.proofs.lemmas.Bool.{ne_eqb, cases_lt}
+use Rattle.std.proofs.Common.{◌≡◌, ℕ, ◌+◌, ◌-◌, ◌*◌, ◌<◌, ◌≤◌, Bool, true, false, List, [], ◌∷◌, ◌++◌, zero, suc, length, take, drop, slice_get, Option, Some, None, is_some, IsTrue, IsSome, ◌%◌, refl, sym, ◌∙◌, ap, subst, inl, inr, if◌then◌else◌, arith, eq-eqb, append_assoc}
 use Rattle.std.proofs.lemmas.List.{length-append, length-take-le, length-drop, drop-take, drop-drop, take_at, drop_at, drop_all}
 use Rattle.mux_config.specs.Configuration.{Each}
 use Rattle.mux_config.specs.Entries.{EnsembleInformation}
@@ -10,11 +9,10 @@ use Rattle.mux_config.specs.declared.entry.Entry.TheVariants.{Ensemble as Ensemb
 use Rattle.mux_config.specs.declared.numbers.Sid.{Sid}
 use Rattle.mux_config.specs.declared.numbers.Sid.TheVariants.{Short, Long}
 use Rattle.fib_codec.specs.declared.head.Head.{Head}
-use Rattle.fib_codec.specs.Ranges.{IsWithin}
 use Rattle.fib_codec.specs.Spelling.{Written, IsWritten, IsFormed, IsUnder, head_of, ext_of, entry_size, sid_size, fig_bytes, figs_bytes, FitsFig}
 use Rattle.fib_carousel.specs.declared.cursor.Span.{Span}
 use Rattle.fib_carousel.specs.declared.place.Shape.{Shape}
-use Rattle.fib_carousel.specs.Packing.{size_of, same_flag, same_head, cost, figs_size, room, packing, AreSmall}
+use Rattle.fib_carousel.specs.Packing.{size_of, same_flag, same_head, cost, figs_size, room, AreSmall}
 use Rattle.fib_carousel.specs.Pages.{fib_entries}
 use Rattle.fib_carousel.specs.Bytes.{joined, figs_of, run_of}
 use Rattle.fib_carousel.specs.Row.{IsSendable, AreSendable, IsShapeAt, piece_of}
@@ -81,8 +79,8 @@ pub piece_behind : (ms : List Marked) (at to n : ℕ) → at + n ≤ to → drop
 piece_behind ms at to n h =
     let count : to - at ≡ n + (to - (at + n)) = omega (arith, h) in
     ap (λ k. drop n (take k (drop at ms))) count
-      ∙ drop-take n (to - (at + n)) (drop at ms)
-      ∙ ap (λ xs. take (to - (at + n)) xs) (drop-drop n at ms)
+    ∙ drop-take n (to - (at + n)) (drop at ms)
+    ∙ ap (λ xs. take (to - (at + n)) xs) (drop-drop n at ms)
 
 -- a head is the same as itself
 same_flag_own : (b : Bool) → same_flag b b ≡ true
@@ -169,15 +167,15 @@ fronted ms at to m head es lt end here own run =
     let after_own : after_run (head_of m) (m ∷ rest) ≡ after_run (head_of m) rest = rw (same_head_own (head_of m)) refl in
     let behind : after_run (head_of m) rest ≡ take (to - (at + length es)) (drop (at + length es) ms) =
     sym after_own
-      ∙ after_run-drop (head_of m) (m ∷ rest)
-      ∙ ap (λ (xs : List Entry). drop (length xs) (m ∷ rest)) (own_front ∙ sym whole)
-      ∙ ap (λ xs. drop (length es) xs) (sym front)
-      ∙ piece_behind ms at to (length es) within in
+    ∙ after_run-drop (head_of m) (m ∷ rest)
+    ∙ ap (λ (xs : List Entry). drop (length xs) (m ∷ rest)) (own_front ∙ sym whole)
+    ∙ ap (λ xs. drop (length es) xs) (sym front)
+    ∙ piece_behind ms at to (length es) within in
     record {
       some = rw whole (omega arith);
       within = within;
       figs =
-        ap (λ xs. figs_of xs) front
+          ap (λ xs. figs_of xs) front
           ∙ figs_front m rest
           ∙ ap (λ (xs : List Entry). written_of (head_of m) xs ∷ figs_of (after_run (head_of m) rest)) (sym whole)
           ∙ ap (λ (h : Head). written_of h es ∷ figs_of (after_run (head_of m) rest)) (sym own)
@@ -192,29 +190,29 @@ front_formed ms at to head es h f =
     written.0.formed
 
 pub front_size : (ms : List Marked) (at to : ℕ) (head : Head) (es : List Entry) → Fronted ms at to head es
-  → figs_size None (take (to - at) (drop at ms)) ≡ length (fig_bytes head es) + figs_size None (take (to - (at + length es)) (drop (at + length es) ms))
+    → figs_size None (take (to - at) (drop at ms)) ≡ length (fig_bytes head es) + figs_size None (take (to - (at + length es)) (drop (at + length es) ms))
 front_size ms at to head es f =
     let rest : List Marked = take (to - (at + length es)) (drop (at + length es) ms) in
     sym (figs_cost (take (to - at) (drop at ms)))
-      ∙ ap (λ fs. length (figs_bytes fs)) f.figs
-      ∙ length-append (fig_bytes head es) (figs_bytes (figs_of rest))
-      ∙ ap (λ n. length (fig_bytes head es) + n) (figs_cost rest)
+    ∙ ap (λ fs. length (figs_bytes fs)) f.figs
+    ∙ length-append (fig_bytes head es) (figs_bytes (figs_of rest))
+    ∙ ap (λ n. length (fig_bytes head es) + n) (figs_cost rest)
 
 pub front_bytes : (ms : List Marked) (at to : ℕ) (head : Head) (es : List Entry) (before : List ℕ) → Fronted ms at to head es
-  → (before ++ fig_bytes head es) ++ figs_bytes (figs_of (take (to - (at + length es)) (drop (at + length es) ms))) ≡ before ++ figs_bytes (figs_of (take (to - at) (drop at ms)))
+    → (before ++ fig_bytes head es) ++ figs_bytes (figs_of (take (to - (at + length es)) (drop (at + length es) ms))) ≡ before ++ figs_bytes (figs_of (take (to - at) (drop at ms)))
 front_bytes ms at to head es before f =
     append_assoc before (fig_bytes head es) (figs_bytes (figs_of (take (to - (at + length es)) (drop (at + length es) ms))))
-      ∙ ap (λ fs. before ++ figs_bytes fs) (sym f.figs)
+    ∙ ap (λ fs. before ++ figs_bytes fs) (sym f.figs)
 
 -- the loop over a run
 pub run_step : (ms : List Marked) (at to : ℕ) (m : Marked) (head other : Head) → at < to → slice_get ms at ≡ Some m → other ≡ head_of m → same_head head other ≡ true
-  → run_of head (take (to - at) (drop at ms)) ≡ m.entry ∷ run_of head (take (to - (at + 1)) (drop (at + 1) ms))
+    → run_of head (take (to - at) (drop at ms)) ≡ m.entry ∷ run_of head (take (to - (at + 1)) (drop (at + 1) ms))
 run_step ms at to m head other lt here own same =
     let same' : same_head head (head_of m) ≡ true = subst (λ (h : Head). same_head head h ≡ true) own same in
     ap (λ xs. run_of head xs) (piece_front ms at to m lt here) ∙ rw same' refl
 
 pub run_stop : (ms : List Marked) (at to : ℕ) (m : Marked) (head other : Head) → at < to → slice_get ms at ≡ Some m → other ≡ head_of m → same_head head other ≡ false
-  → run_of head (take (to - at) (drop at ms)) ≡ []
+    → run_of head (take (to - at) (drop at ms)) ≡ []
 run_stop ms at to m head other lt here own differ =
     let differ' : same_head head (head_of m) ≡ false = subst (λ (h : Head). same_head head h ≡ false) own differ in
     ap (λ xs. run_of head xs) (piece_front ms at to m lt here) ∙ rw differ' refl
@@ -223,19 +221,19 @@ same_entry : {A : Type 0} (xs : List A) (i : ℕ) (x y : A) → slice_get xs i �
 same_entry xs i x y h k = cc
 
 pub run_ends : (ms : List Marked) (at to : ℕ) (shape : Shape) (head : Head) (before whole : List Entry) → IsShapeAt ms at shape → at < to → same_head head shape.head ≡ false
-  → before ++ run_of head (take (to - at) (drop at ms)) ≡ whole → before ≡ whole
+    → before ++ run_of head (take (to - at) (drop at ms)) ≡ whole → before ≡ whole
 run_ends ms at to shape head before whole s lt differ h =
     nothing_behind before (run_of head (take (to - at) (drop at ms))) whole (run_stop ms at to s.entry head shape.head lt s.here s.head differ) h
 
 pub run_grows : (ms : List Marked) (at to : ℕ) (shape : Shape) (m : Marked) (head : Head) (before after whole : List Entry) → IsShapeAt ms at shape → slice_get ms at ≡ Some m → at < to → same_head head shape.head ≡ true
-  → after ≡ before ++ m.entry ∷ [] → before ++ run_of head (take (to - at) (drop at ms)) ≡ whole → after ++ run_of head (take (to - (at + 1)) (drop (at + 1) ms)) ≡ whole
+    → after ≡ before ++ m.entry ∷ [] → before ++ run_of head (take (to - at) (drop at ms)) ≡ whole → after ++ run_of head (take (to - (at + 1)) (drop (at + 1) ms)) ≡ whole
 run_grows ms at to shape m head before after whole s here lt same grown h =
     let own : shape.head ≡ head_of m = s.head ∙ ap (λ (n : Marked). head_of n) (same_entry ms at s.entry m s.here here) in
     let rest : List Entry = run_of head (take (to - (at + 1)) (drop (at + 1) ms)) in
     ap (λ xs. xs ++ rest) grown
-      ∙ append_assoc before (m.entry ∷ []) rest
-      ∙ ap (λ xs. before ++ xs) (sym (run_step ms at to m head shape.head lt here own same))
-      ∙ h
+    ∙ append_assoc before (m.entry ∷ []) rest
+    ∙ ap (λ xs. before ++ xs) (sym (run_step ms at to m head shape.head lt here own same))
+    ∙ h
 
 -- a step over one FIG
 pub record Stepped (ms : List Marked) (at to : ℕ) (head : Head) (es : List Entry) (before : List ℕ) : Type 0 where
@@ -245,7 +243,7 @@ pub record Stepped (ms : List Marked) (at to : ℕ) (head : Head) (es : List Ent
   pub bytes : (before ++ fig_bytes head es) ++ figs_bytes (figs_of (take (to - (at + length es)) (drop (at + length es) ms))) ≡ before ++ figs_bytes (figs_of (take (to - at) (drop at ms)))
 
 pub stepped : (ms : List Marked) (at to : ℕ) (shape : Shape) (es : List Entry) (before : List ℕ) → AreSendable ms → IsShapeAt ms at shape → at < to → to ≤ length ms
-  → es ≡ run_of shape.head (take (to - at) (drop at ms)) → length before + figs_size None (take (to - at) (drop at ms)) ≤ 30 → Stepped ms at to shape.head es before
+    → es ≡ run_of shape.head (take (to - at) (drop at ms)) → length before + figs_size None (take (to - at) (drop at ms)) ≤ 30 → Stepped ms at to shape.head es before
 stepped ms at to shape es before h s lt end run room =
     let f : Fronted ms at to shape.head es = fronted ms at to s.entry shape.head es lt end s.here s.head run in
     let size : figs_size None (take (to - at) (drop at ms)) ≡ length (fig_bytes shape.head es) + figs_size None (take (to - (at + length es)) (drop (at + length es) ms)) = front_size ms at to shape.head es f in
@@ -270,9 +268,9 @@ pub record Filling (ms : List Marked) (at to : ℕ) (bytes whole : List ℕ) : T
   pub same : bytes ++ figs_bytes (figs_of (take (to - at) (drop at ms))) ≡ whole
 
 pub filling_step : (ms : List Marked) (at to n : ℕ) (shape : Shape) (es sent : List Entry) (answer : Bool) (before after whole : List ℕ)
-  → Stepped ms at to shape.head es before → sent ≡ es → n ≡ length es
-  → (FitsFig before shape.head sent → IsTrue answer) → (IsTrue answer → after ≡ before ++ fig_bytes shape.head sent)
-  → before ++ figs_bytes (figs_of (take (to - at) (drop at ms))) ≡ whole → Filling ms (at + n) to after whole
+    → Stepped ms at to shape.head es before → sent ≡ es → n ≡ length es
+    → (FitsFig before shape.head sent → IsTrue answer) → (IsTrue answer → after ≡ before ++ fig_bytes shape.head sent)
+    → before ++ figs_bytes (figs_of (take (to - at) (drop at ms))) ≡ whole → Filling ms (at + n) to after whole
 filling_step ms at to n shape es sent answer before after whole s lent count fits added h =
     let told : IsTrue answer = fits (subst (λ (xs : List Entry). FitsFig before shape.head xs) (sym lent) s.fits) in
     let grown : after ≡ before ++ fig_bytes shape.head es = added told ∙ ap (λ (xs : List Entry). before ++ fig_bytes shape.head xs) lent in
@@ -291,8 +289,8 @@ fib_room (Some e) number used size low none first fits =
 
 -- three FIBs written over 96 bytes, one after another
 pub three_fibs : (zeros one two three a b c : List ℕ) → length zeros ≡ 96 → length a ≡ 32 → length b ≡ 32 → length c ≡ 32
-  → one ≡ take 0 zeros ++ (a ++ drop (0 + 32) zeros) → two ≡ take 32 one ++ (b ++ drop (32 + 32) one) → three ≡ take 64 two ++ (c ++ drop (64 + 32) two)
-  → (x y w : List ℕ) → a ≡ x → b ≡ y → c ≡ w → three ≡ x ++ (y ++ (w ++ []))
+    → one ≡ take 0 zeros ++ (a ++ drop (0 + 32) zeros) → two ≡ take 32 one ++ (b ++ drop (32 + 32) one) → three ≡ take 64 two ++ (c ++ drop (64 + 32) two)
+    → (x y w : List ℕ) → a ≡ x → b ≡ y → c ≡ w → three ≡ x ++ (y ++ (w ++ []))
 three_fibs zeros one two three a b c z la lb lc e f h x y w i j k =
     let first : one ≡ a ++ drop 32 zeros = e in
     let taken : take 32 one ≡ a = ap (λ xs. take 32 xs) first ∙ take_at a (drop 32 zeros) 32 la in
@@ -305,4 +303,4 @@ three_fibs zeros one two three a b c z la lb lc e f h x y w i j k =
     let none : drop 96 two ≡ [] =
     ap (λ xs. drop 96 xs) second ∙ sym (drop-drop 32 64 ((a ++ b) ++ drop 64 zeros)) ∙ ap (λ xs. drop 32 xs) (drop_at (a ++ b) (drop 64 zeros) 64 both) ∙ drop-drop 32 64 zeros ∙ drop_all 96 zeros (omega (arith, z)) in
     h ∙ ap (λ xs. xs ++ (c ++ drop 96 two)) taken_both ∙ ap (λ xs. (a ++ b) ++ (c ++ xs)) none ∙ append_assoc a b (c ++ [])
-      ∙ ap (λ t. t ++ (b ++ (c ++ []))) i ∙ ap (λ t. x ++ (t ++ (c ++ []))) j ∙ ap (λ t. x ++ (y ++ (t ++ []))) k
+    ∙ ap (λ t. t ++ (b ++ (c ++ []))) i ∙ ap (λ t. x ++ (t ++ (c ++ []))) j ∙ ap (λ t. x ++ (y ++ (t ++ []))) k

@@ -1,15 +1,11 @@
 -- Successive entries of one head in one FIG, from the front on.
-use Rattle.std.proofs.Common.{◌≡◌, ℕ, ◌+◌, ◌*◌, ◌==◌, Bool, true, false, ◌&&◌, List, [], ◌∷◌, suc, length, Option, Some, None, is_some, refl, sym, ◌∙◌, ap, if◌then◌else◌, arith}
+use Rattle.std.proofs.Common.{◌≡◌, ℕ, ◌+◌, ◌==◌, Bool, true, false, ◌&&◌, List, [], ◌∷◌, length, Some, None, refl, sym, ◌∙◌, ap, if◌then◌else◌, arith}
 use Rattle.std.proofs.lemmas.Bool.{eqb-true}
 use Rattle.std.proofs.lemmas.List.{length-append}
 use Rattle.mux_config.specs.Facts.{Marked}
 use Rattle.mux_config.specs.declared.entry.Entry.{Entry}
-use Rattle.mux_config.specs.declared.entry.Entry.TheVariants.{Ensemble as EnsembleOf, Sub as SubOf, Short as ShortOf, Service as ServiceOf, Packet as PacketOf}
-use Rattle.mux_config.specs.declared.entry.ComponentEntry.{ComponentEntry}
-use Rattle.mux_config.specs.declared.numbers.Sid.{Sid}
-use Rattle.mux_config.specs.declared.numbers.Sid.TheVariants.{Short, Long}
 use Rattle.fib_codec.specs.declared.head.Head.{Head}
-use Rattle.fib_codec.specs.Spelling.{Written, head_of, entry_size, entry_bytes, figs_bytes, sid_bytes, sid_size, occurrence_bytes, ca_org_bytes, components_bytes}
+use Rattle.fib_codec.specs.Spelling.{Written, head_of, figs_bytes}
 use Rattle.fib_codec.proofs.Lengths.{entry_length}
 use Rattle.fib_carousel.specs.Packing.{size_of, same_flag, same_head, figs_size}
 use Rattle.fib_carousel.specs.Bytes.{joined, figs_of, run_of}

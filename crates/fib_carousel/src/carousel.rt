@@ -4,11 +4,10 @@ ghost use Rattle.std.specs.Prelude.{◌≡◌, ℕ, ◌<◌, ◌≤◌, List, op
 ghost use Rattle.std.specs.Option.{option_copied};
 ghost use Rattle.fib_carousel.specs.Packing.{IsPacking, rounds_of};
 ghost use Rattle.fib_carousel.specs.Pages.{page_set, rounds};
-ghost use Rattle.fib_carousel.specs.Bytes.{page_bytes};
+ghost use Rattle.fib_carousel.specs.Bytes.{page_bytes, page_figs, figs_by, AreFibs};
 
-use crate::figs;
 use crate::page_set::PageSet;
-use crate::row;
+use crate::{figs, row};
 use mux_config::{Ensemble, Store};
 
 /// How many pages the entries of these configurations take: those of the current one and, where it is
@@ -23,9 +22,16 @@ pub fn pages<'a, S: Store>(current: &'a S, next: Option<&'a S>) -> usize
 
 /// The three FIBs of a page, numbered from 0: FIG 0/0 first where it is given, and no other, and then the
 /// entries that the packing puts there. A FIB without entries is empty.
-pub fn page<'a, S: Store>(current: &'a S, next: Option<&'a S>, page: usize, ensemble: Option<Ensemble>) -> [u8; 96]
+pub fn page<'a, S: Store>(
+    current: &'a S,
+    next: Option<&'a S>,
+    page: usize,
+    ensemble: Option<Ensemble>,
+) -> [u8; 96]
     requires { page < rounds (page_set (S.content current.now) (option_map S.content (option_copied next))) }
-    ensures { result ≡ page_bytes ensemble page (page_set (S.content current.now) (option_map S.content (option_copied next.entry))) }
+    ensures bytes { result ≡ page_bytes ensemble page (page_set (S.content current.now) (option_map S.content (option_copied next.entry))) }
+    ensures valid { AreFibs (page_figs ensemble page (page_set (S.content current.now) (option_map S.content (option_copied next.entry)))) result }
+    ensures packing { (ns : List ℕ) → IsPacking (page_set (S.content current.now) (option_map S.content (option_copied next.entry))) ns → AreFibs (figs_by ns ensemble page (page_set (S.content current.now) (option_map S.content (option_copied next.entry)))) result }
 {
     figs::page(&PageSet::new(current, next), page, ensemble)
 }

@@ -1,21 +1,20 @@
 //! The entries of a FIB put into FIGs, and the FIBs of a page written one after another.
 
-ghost use Rattle.std.specs.Prelude.{◌≡◌, ℕ, ◌+◌, ◌-◌, ◌%◌, ◌<◌, ◌≤◌, ◌++◌, List, length, take, drop, map, IsSome, Option, None};
-ghost use Rattle.mux_config.specs.Configuration.{Each};
-ghost use Rattle.fib_codec.specs.Spelling.{figs_bytes, IsWritten, fib_bytes};
-ghost use Rattle.fib_codec.specs.Grammar.{IsValid, fig_of};
+ghost use Rattle.std.specs.Prelude.{◌≡◌, ◌+◌, ◌-◌, ◌%◌, ◌<◌, ◌≤◌, ◌++◌, List, length, take, drop, IsSome, IfSome, Option, None};
+ghost use Rattle.fib_codec.specs.Spelling.{figs_bytes, fib_bytes};
+ghost use Rattle.fib_codec.specs.Ranges.{IsEnsembleInformation};
 ghost use Rattle.fib_carousel.specs.Packing.{figs_size};
 ghost use Rattle.fib_carousel.specs.Pages.{fib_entries, rounds};
 ghost use Rattle.fib_carousel.specs.Bytes.{figs_of, run_of, ensemble_figs, page_bytes};
 ghost use Rattle.fib_carousel.specs.Row.{piece_of, AreSendable, Stands};
-
-use arrayvec::ArrayVec;
-use fib_codec::{Fib, Head};
-use mux_config::{Ensemble, Entry};
+ghost use Rattle.fib_carousel.specs.Carried.{IsPageable};
 
 use crate::cursor::{Cursor, Span};
 use crate::place::same_head;
-use crate::row::{span, Row};
+use crate::row::{Row, span};
+use arrayvec::ArrayVec;
+use fib_codec::{Fib, Head};
+use mux_config::{Ensemble, Entry};
 
 /// The entries of one head at the front of a span: they share a FIG.
 fn run<R: Row>(row: &R, piece: Span, head: Head) -> ArrayVec<Entry, 10>
@@ -58,7 +57,7 @@ fn put_figs<R: Row>(row: &R, piece: Span, fib: &mut Fib)
 /// A FIB that begins with FIG 0/0, where it is given.
 fn begun(ensemble: Option<Ensemble>) -> Fib
     ensures bytes { result ≡ figs_bytes (ensemble_figs ensemble) }
-    ensures written { Each IsWritten (ensemble_figs ensemble) }
+    ensures within { IfSome ensemble IsEnsembleInformation }
     ensures bound { length result ≤ 7 }
     ensures none { ensemble ≡ None → length result ≡ 0 }
 {
@@ -77,12 +76,19 @@ fn begun(ensemble: Option<Ensemble>) -> Fib
 
 /// The FIB of this number of the row of pages, with FIG 0/0 first where it is given. The cursor stands
 /// before it, and then behind it. The row has `len` entries.
-fn fib<R: Row>(row: &R, len: u16, cursor: &mut Cursor, number: usize, ensemble: Option<Ensemble>) -> [u8; 32]
+fn fib<R: Row>(
+    row: &R,
+    len: u16,
+    cursor: &mut Cursor,
+    number: usize,
+    ensemble: Option<Ensemble>,
+) -> [u8; 32]
     requires count { len ≡ length (R.entries row.now) }
     requires sendable { AreSendable (R.entries row.now) }
     requires stands { Stands (R.entries row.now) number cursor.old }
     requires first { IsSome ensemble → number % 3 ≡ 0 }
     ensures bytes { result ≡ fib_bytes (ensemble_figs ensemble ++ figs_of (fib_entries number (R.entries row.now))) }
+    ensures within { IfSome ensemble IsEnsembleInformation }
     ensures next { Stands (R.entries row.now) (number + 1) cursor.new }
 {
     let piece = span(row, len, cursor, number);
@@ -102,14 +108,23 @@ fn put_fib(bytes: &mut [u8], at: usize, fib: &[u8; 32])
 /// The three FIBs of a page, with FIG 0/0 first where it is given.
 pub(crate) fn page<R: Row>(row: &R, page: usize, ensemble: Option<Ensemble>) -> [u8; 96]
     requires { page < rounds (R.entries row.now) }
-    ensures { result ≡ page_bytes ensemble page (R.entries row.now) }
+    ensures bytes { result ≡ page_bytes ensemble page (R.entries row.now) }
+    ensures pageable { IsPageable ensemble (R.entries row.now) }
 {
     let len = row.len();
     let number = 3 * page;
     let mut cursor = Cursor::start();
     let mut bytes = [0u8; 96];
     put_fib(&mut bytes, 0, &fib(row, len, &mut cursor, number, ensemble));
-    put_fib(&mut bytes, 32, &fib(row, len, &mut cursor, number + 1, None));
-    put_fib(&mut bytes, 64, &fib(row, len, &mut cursor, number + 2, None));
+    put_fib(
+        &mut bytes,
+        32,
+        &fib(row, len, &mut cursor, number + 1, None),
+    );
+    put_fib(
+        &mut bytes,
+        64,
+        &fib(row, len, &mut cursor, number + 2, None),
+    );
     bytes
 }

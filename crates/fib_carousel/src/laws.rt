@@ -30,5 +30,4 @@ pub fn carried()
     ensures valid { PagesAreValid }
     ensures heard { PagesAreHeard }
     ensures ensemble { EnsembleIsHeard }
-{
-}
+{}

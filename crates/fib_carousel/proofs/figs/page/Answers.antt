@@ -12,8 +12,8 @@ overflow_add-number g c = omega (arith, rounds_bound (g.R.Row.entries c.args.row
 pub overflow_add-number-2 : goal.overflow_add-number-2
 overflow_add-number-2 g c = omega (arith, rounds_bound (g.R.Row.entries c.args.row.now), c.len-len.ensures.count, c.requires)
 
-pub returns : goal.returns
-returns g c =
+pub returns-clause-bytes : goal.returns-clause-bytes
+returns-clause-bytes g c =
     let one : length c.fib.result ≡ 32 = omega arith in
     let two : length c.fib-2.result ≡ 32 = omega arith in
     let three : length c.fib-3.result ≡ 32 = omega arith in
