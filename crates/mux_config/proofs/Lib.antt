@@ -12,4 +12,5 @@ pub mod ReadingLoops
 pub mod RecordLaws
 pub mod Tables
 pub mod Keeping
+mod EditVectors
 mod Vectors

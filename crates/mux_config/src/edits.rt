@@ -152,10 +152,8 @@ fn add_component_fault(config: &Config, sid: Sid, component: &Component) -> Opti
 fn component_fault(service: &Service, component: &Component) -> Option<EditFault>
     ensures { result ≡ component_fault component.now service.now }
 {
-    if component
-        .carrier()
-        .is_named_by(service.components.as_slice())
-    {
+    let named = component.carrier();
+    if named.is_named_by(service.components.as_slice()) {
         return Some(EditFault::IdUsed);
     }
     if service.components.len() >= service.limit() {

@@ -1,2 +1,5 @@
+mod edits;
 mod numbers;
+mod parts;
 mod records;
+mod soundness;
