@@ -1,0 +1,239 @@
+//! FIBs that are known from outside, built FIG by FIG.
+
+use super::begins;
+use crate::{
+    Bits, ComponentEntry, Ensemble, Entry, Few, Fib, Head, PacketEntry, ScId, ScTy, ServiceEntry,
+    Sid, SubEntry, SubId,
+};
+use std::test::Fail;
+
+/// A FIG, or why there is none.
+type Made = Result<Entry, &'static str>;
+
+/// The head of this extension for the current configuration, or for the next one.
+fn head(next: bool, ext: u8) -> Head {
+    Head {
+        next,
+        oe: false,
+        long: false,
+        ext,
+    }
+}
+
+fn information(change: u8, count: u16, occurrence: Option<u8>) -> Made {
+    let ensemble = Ensemble::new(0xe1c5, change, false, count, occurrence).ok_or(
+        "ensemble information",
+    )?;
+    Ok(Entry::Ensemble(ensemble))
+}
+
+/// A sub-channel of set A; level 0 is the standard's level 1.
+fn sub(id: u8, start: u16, level: u16, size: u16) -> Made {
+    Ok(Entry::Sub(SubEntry {
+        id: SubId::new(id).ok_or("a SubChId")?,
+        start: Bits::new(start).ok_or("a start address")?,
+        option: Bits::new(0).ok_or("an option")?,
+        level: Bits::new(level).ok_or("a level")?,
+        size: Bits::new(size).ok_or("a size")?,
+    }))
+}
+
+/// The service C221 with these components.
+fn service(components: Few<ComponentEntry, 15>) -> Made {
+    let ca_id = Bits::new(0).ok_or("a CAId")?;
+    Ok(Entry::Service(ServiceEntry {
+        sid: Sid::Short(0xc221),
+        rfa: false,
+        ca_id,
+        components,
+    }))
+}
+
+/// The service C221 with audio of type 63 in the sub-channels from 1 to this one.
+fn audio(last: u8) -> Made {
+    let ty = ScTy::new(63).ok_or("a type")?;
+    let mut components = Few::new();
+    for before in 0..last.min(63) {
+        let sub = SubId::new(before + 1).ok_or("a SubChId")?;
+        if !components.is_full() {
+            components.push(ComponentEntry::Sound {
+                ty,
+                sub,
+                primary: before == 0,
+                ca: false,
+            });
+        }
+    }
+    service(components)
+}
+
+/// Appends a FIG with one entry.
+fn put(fib: &mut Fib, head: Head, entry: Made) -> Result<(), &'static str> {
+    let entries = [entry?];
+    if !fib.try_fig(head, &entries) {
+        return Err("a FIG that fits");
+    }
+    Ok(())
+}
+
+#[test]
+fn one_audio_service(rt: HostRuntime) -> Result<(), Fail> {
+    let mut fib = Fib::new();
+    put(&mut fib, head(false, 0), information(0, 0, None))?;
+    put(&mut fib, head(false, 1), sub(1, 0, 2, 96))?;
+    put(&mut fib, head(false, 2), audio(1))?;
+    assert_eq!(rt;
+        fib.finish(),
+        [
+            0x05, 0x00, 0xe1, 0xc5, 0x00, 0x00, 0x05, 0x01, 0x04, 0x00, 0x88, 0x60, 0x06, 0x02,
+            0xc2, 0x21, 0x01, 0x3f, 0x06, 0xff, 0, 0, 0, 0, 0, 0, 0, 0, 0, 0, 0x23, 0x69,
+        ]
+    );
+    Ok(())
+}
+
+/// The service C221 with the packet component 1.
+fn carried() -> Made {
+    let scid = ScId::new(1).ok_or("an SCId")?;
+    let mut components = Few::new();
+    components.push(ComponentEntry::Packet {
+        scid,
+        primary: true,
+        ca: false,
+    });
+    service(components)
+}
+
+fn packet() -> Made {
+    Ok(Entry::Packet(PacketEntry {
+        scid: ScId::new(1).ok_or("an SCId")?,
+        rfa: Bits::new(0).ok_or("an Rfa")?,
+        dg: false,
+        rfu: false,
+        ty: ScTy::new(60).ok_or("a type")?,
+        sub: SubId::new(5).ok_or("a SubChId")?,
+        address: Bits::new(1).ok_or("an address")?,
+        ca_org: None,
+    }))
+}
+
+#[test]
+fn one_packet_service(rt: HostRuntime) -> Result<(), Fail> {
+    let mut fib = Fib::new();
+    put(&mut fib, head(false, 1), sub(5, 0, 2, 48))?;
+    put(&mut fib, head(false, 2), carried())?;
+    put(&mut fib, head(false, 3), packet())?;
+    assert!(rt;
+        begins(
+            &fib.finish(),
+            &[
+                0x05, 0x01, 0x14, 0x00, 0x88, 0x30, 0x06, 0x02, 0xc2, 0x21, 0x01, 0xc0, 0x06, 0x06,
+                0x03, 0x00, 0x10, 0x3c, 0x14, 0x01, 0xff, 0, 0, 0, 0, 0, 0, 0, 0, 0,
+            ]
+        )
+    );
+    Ok(())
+}
+
+#[test]
+fn a_next_configuration_in_two_fibs(rt: HostRuntime) -> Result<(), Fail> {
+    let mut first = Fib::new();
+    put(&mut first, head(false, 0), information(1, 4, Some(28)))?;
+    put(&mut first, head(false, 1), sub(1, 0, 2, 96))?;
+    put(&mut first, head(false, 2), audio(1))?;
+    put(&mut first, head(true, 1), sub(1, 0, 2, 72))?;
+    assert!(rt; put(&mut first, head(true, 2), audio(1)).is_err());
+    assert!(rt;
+        begins(
+            &first.finish(),
+            &[
+                0x06, 0x00, 0xe1, 0xc5, 0x40, 0x04, 0x1c, 0x05, 0x01, 0x04, 0x00, 0x88, 0x60, 0x06,
+                0x02, 0xc2, 0x21, 0x01, 0x3f, 0x06, 0x05, 0x81, 0x04, 0x00, 0x88, 0x48, 0xff, 0, 0,
+                0,
+            ]
+        )
+    );
+    let mut second = Fib::new();
+    put(&mut second, head(true, 2), audio(1))?;
+    assert!(rt;
+        begins(
+            &second.finish(),
+            &[0x06, 0x82, 0xc2, 0x21, 0x01, 0x3f, 0x06, 0xff, 0]
+        )
+    );
+    Ok(())
+}
+
+/// Sub-channels of 4-A and 8 kbit/s from this number up to the other one, which stand one behind the other.
+fn row(first: u8, end: u8) -> Result<Few<Entry, 8>, &'static str> {
+    let mut entries = Few::new();
+    for number in first..end {
+        let entry = sub(number, (u16::from(number) * 4).saturating_sub(4), 3, 4)?;
+        if !entries.is_full() {
+            entries.push(entry);
+        }
+    }
+    Ok(entries)
+}
+
+#[test]
+fn thirteen_sub_channels_in_three_fibs(rt: HostRuntime) -> Result<(), Fail> {
+    let mut first = Fib::new();
+    put(&mut first, head(false, 0), information(0, 0, None))?;
+    assert!(rt; first.try_fig(head(false, 1), row(1, 6)?.as_slice()));
+    let bytes = first.finish();
+    assert!(rt;
+        begins(
+            &bytes,
+            &[
+                0x05, 0x00, 0xe1, 0xc5, 0x00, 0x00, 0x15, 0x01, 0x04, 0x00, 0x8c, 0x04
+            ]
+        )
+    );
+    assert_eq!(rt; (bytes[28], bytes[29]), (0xff, 0x00));
+    let mut second = Fib::new();
+    assert!(rt; second.try_fig(head(false, 1), row(6, 13)?.as_slice()));
+    let bytes = second.finish();
+    assert!(rt; begins(&bytes, &[0x1d, 0x01, 0x18, 0x14, 0x8c, 0x04]));
+    assert_eq!(rt; (bytes[28], bytes[29]), (0x8c, 0x04));
+    let mut third = Fib::new();
+    assert!(rt; third.try_fig(head(false, 1), row(13, 14)?.as_slice()));
+    assert!(rt;
+        begins(
+            &third.finish(),
+            &[0x05, 0x01, 0x34, 0x30, 0x8c, 0x04, 0xff, 0]
+        )
+    );
+    Ok(())
+}
+
+#[test]
+fn twelve_components_leave_room_for_the_end_marker(rt: HostRuntime) -> Result<(), Fail> {
+    let mut fib = Fib::new();
+    put(&mut fib, head(false, 2), audio(12))?;
+    let bytes = fib.finish();
+    assert!(rt; begins(&bytes, &[0x1c, 0x02, 0xc2, 0x21, 0x0c, 0x3f, 0x06]));
+    assert_eq!(rt; bytes[29], 0xff);
+    Ok(())
+}
+
+#[test]
+fn figs_that_do_not_belong_together(rt: HostRuntime) -> Result<(), Fail> {
+    let mut fib = Fib::new();
+    assert!(rt; !fib.try_fig(head(false, 1), row(1, 1)?.as_slice()));
+    assert!(rt;
+        !fib.try_fig(
+            head(false, 0),
+            &[information(0, 0, None)?, information(0, 0, None)?]
+        )
+    );
+    assert!(rt; !fib.try_fig(head(false, 1), &[sub(1, 0, 2, 96)?, audio(1)?]));
+    assert!(rt; !fib.try_fig(head(false, 4), &[sub(1, 0, 2, 96)?]));
+    let long = Head {
+        long: true,
+        ..head(false, 2)
+    };
+    assert!(rt; !fib.try_fig(long, &[audio(1)?]));
+    assert_eq!(rt; fib.finish(), Fib::new().finish());
+    Ok(())
+}
