@@ -6,3 +6,4 @@ pub mod Sharing
 pub mod Sendable
 pub mod Sent
 pub mod Hearing
+pub mod Sides

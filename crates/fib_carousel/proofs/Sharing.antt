@@ -21,7 +21,7 @@ both_true : (a b : Bool) → (a && b) ≡ true → (a ≡ true) × (b ≡ true)
 both_true true b h = (refl, h)
 both_true false b h = absurd (cc h)
 
-same_fields : (g h : Head) → g.next ≡ h.next → g.oe ≡ h.oe → g.long ≡ h.long → g.ext ≡ h.ext → g ≡ h
+pub same_fields : (g h : Head) → g.next ≡ h.next → g.oe ≡ h.oe → g.long ≡ h.long → g.ext ≡ h.ext → g ≡ h
 same_fields g h next oe long ext =
     ap (λ (x : Bool). let r : Head = record { next = x; oe = g.oe; long = g.long; ext = g.ext } in r) next
     ∙ ap (λ (x : Bool). let r : Head = record { next = h.next; oe = x; long = g.long; ext = g.ext } in r) oe

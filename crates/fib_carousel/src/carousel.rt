@@ -12,7 +12,7 @@ use mux_config::{Ensemble, Store};
 
 /// How many pages the entries of these configurations take: those of the current one and, where it is
 /// given, of the next one. It is at least 1, and no division of the entries into FIBs takes fewer.
-pub fn pages<'a, S: Store>(current: &'a S, next: Option<&'a S>) -> usize
+pub fn pages<'a, 'b, S: Store>(current: &'a S, next: Option<&'b S>) -> usize
     ensures value { result ≡ rounds (page_set (S.content current.now) (option_map S.content (option_copied next.entry))) }
     ensures packing { (ns : List ℕ) → IsPacking (page_set (S.content current.now) (option_map S.content (option_copied next.entry))) ns → result ≡ rounds_of ns }
     ensures one { 1 ≤ result }
@@ -22,9 +22,9 @@ pub fn pages<'a, S: Store>(current: &'a S, next: Option<&'a S>) -> usize
 
 /// The three FIBs of a page, numbered from 0: FIG 0/0 first where it is given, and no other, and then the
 /// entries that the packing puts there. A FIB without entries is empty.
-pub fn page<'a, S: Store>(
+pub fn page<'a, 'b, S: Store>(
     current: &'a S,
-    next: Option<&'a S>,
+    next: Option<&'b S>,
     page: usize,
     ensemble: Option<Ensemble>,
 ) -> [u8; 96]

@@ -16,3 +16,6 @@ pub mod row;
 
 pub use carousel::{page, pages};
 pub use place::{Place, Shape};
+
+#[cfg(test)]
+mod tests;

@@ -5,7 +5,7 @@ ghost use Rattle.std.specs.Option.{option_copied};
 ghost use Rattle.mux_config.specs.Facts.{marked, facts_of};
 ghost use Rattle.fib_carousel.specs.Pages.{page_set};
 ghost use Rattle.fib_codec.specs.Spelling.{entry_size, ext_of, is_long_entry};
-ghost use Rattle.fib_carousel.specs.Row.{AreSendable};
+ghost use Rattle.fib_carousel.specs.Row.{AreSendable, IsShapeAt};
 ghost use Rattle.fib_carousel.specs.Items.{item_entry, IsFormedItem, config_entries, IsItemAt};
 
 use crate::fact::{packet_entry, service_entry, sub_entry};
@@ -99,40 +99,41 @@ fn item_at<S: Store>(store: &S, place: u16) -> Item<'_>
     Item::Packet(store.packet_at(place - subs - services))
 }
 
+/// The head and the size of the entry at a place of a store's configuration, marked with this C/N flag.
+fn shape_at<S: Store>(store: &S, next: bool, place: u16) -> Shape
+    requires { place < length (config_entries (S.content store.now)) }
+    ensures value { IsShapeAt (facts_of (S.content store.now) next) place result }
+    ensures small { result.size ≤ 28 }
+{
+    item_at(store, place).shape(next)
+}
+
+/// The entry at a place of a store's configuration.
+fn entry_at<S: Store>(store: &S, place: u16) -> Entry
+    requires { place < length (config_entries (S.content store.now)) }
+    ensures { (next : Bool) → slice_get (facts_of (S.content store.now) next) place ≡ Some (marked next result) }
+{
+    item_at(store, place).entry()
+}
+
 /// The entries of the pages: those of the current configuration, marked with C/N 0, and then those of the
 /// next one, marked with C/N 1.
 #[derive(Drop)]
-pub(crate) struct PageSet<'a, S: Store> {
+pub(crate) struct PageSet<'a, 'b, S: Store> {
     current: &'a S,
-    next: Option<&'a S>,
+    next: Option<&'b S>,
 }
 
-impl<'a, S: Store> PageSet<'a, S> {
+impl<'a, 'b, S: Store> PageSet<'a, 'b, S> {
     /// The page set of these configurations.
-    pub(crate) fn new(current: &'a S, next: Option<&'a S>) -> PageSet<'a, S>
-        ensures { ⟦<PageSet<'a, S> as Row>⟧.entries result ≡ page_set (S.content current.now) (option_map S.content (option_copied next.entry)) }
+    pub(crate) fn new(current: &'a S, next: Option<&'b S>) -> PageSet<'a, 'b, S>
+        ensures { ⟦<PageSet<'a, 'b, S> as Row>⟧.entries result ≡ page_set (S.content current.now) (option_map S.content (option_copied next.entry)) }
     {
         PageSet { current, next }
     }
-
-    /// The member at a place, counted through both configurations, and whether it is the next one's.
-    fn member(&self, place: u16) -> (bool, Item<'a>)
-        requires { place < length (⟦<PageSet<'a, S> as Row>⟧.entries self.now) }
-        ensures here { slice_get (⟦<PageSet<'a, S> as Row>⟧.entries self.now) place ≡ Some (marked result.0 (item_entry result.1)) }
-        ensures formed { IsFormedItem result.1 }
-    {
-        let current = entry_count(self.current);
-        if place < current {
-            return (false, item_at(self.current, place));
-        }
-        match self.next {
-            Some(next) => (true, item_at(next, place - current)),
-            None => (false, item_at(self.current, place)),
-        }
-    }
 }
 
-impl<'a, S: Store> Row for PageSet<'a, S> {
+impl<'a, 'b, S: Store> Row for PageSet<'a, 'b, S> {
     ghost use Rattle.std.specs.Prelude.{option_map};
     ghost use Rattle.std.specs.Option.{option_copied};
     ghost use Rattle.fib_carousel.specs.Pages.{page_set};
@@ -148,12 +149,24 @@ impl<'a, S: Store> Row for PageSet<'a, S> {
     }
 
     fn shape(&self, place: u16) -> Shape {
-        let (next, item) = self.member(place);
-        item.shape(next)
+        let current = entry_count(self.current);
+        if place < current {
+            return shape_at(self.current, false, place);
+        }
+        match self.next {
+            Some(next) => shape_at(next, true, place - current),
+            None => shape_at(self.current, false, place),
+        }
     }
 
     fn entry(&self, place: u16) -> Entry {
-        let (_, item) = self.member(place);
-        item.entry()
+        let current = entry_count(self.current);
+        if place < current {
+            return entry_at(self.current, place);
+        }
+        match self.next {
+            Some(next) => entry_at(next, place - current),
+            None => entry_at(self.current, place),
+        }
     }
 }
