@@ -1,6 +1,7 @@
 //! Reads fast information blocks (EN 300 401 clauses 5.2.1 and 5.2.2) from bytes that anyone may have made.
 #![tactic(auto)]
 
+
 mod bytes;
 pub mod checking;
 pub mod entries;
@@ -12,9 +13,13 @@ pub mod listener;
 pub mod picture;
 mod value;
 
+
 pub use checking::check;
 pub use entries::{Entries, RawEntry};
 pub use fault::{FibFault, ListenFault};
 pub use figs::{Fig, Figs};
 pub use listener::Listener;
 pub use picture::{Picture, PictureEntries};
+
+#[cfg(test)]
+mod tests;
