@@ -39,6 +39,18 @@ impl Config {
         }
     }
 
+    /// The configuration of these three sets, which must be one.
+    pub fn of(subs: Table<Sub, 64>, services: Table<Service, 64>, packets: Table<Packet, 64>) -> Config
+        requires { IsConfiguration (record { subs = subs; services = services; packets = packets }) }
+        ensures { result ≡ record { subs = subs; services = services; packets = packets } }
+    {
+        Config {
+            subs,
+            services,
+            packets,
+        }
+    }
+
     /// The sub-channels in ascending order of SubChId.
     pub fn subs(&self) -> &[Sub]
         ensures value { result.now ≡ self.now.subs }
