@@ -4,3 +4,6 @@ pub mod EntryLists
 pub mod FigLists
 pub mod Keeping
 pub mod Room
+pub mod Components
+pub mod SaidMembers
+pub mod Shown

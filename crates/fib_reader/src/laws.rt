@@ -1,11 +1,21 @@
-//! What holds of all FIBs, whatever reads them.
+//! What holds of all FIBs, whatever reads them. Each law is a function that does nothing; its contract is
+//! the law.
 
-ghost use Rattle.fib_reader.specs.Laws.{OneList, FaultOrFigs, OneFault};
+ghost use Rattle.fib_reader.specs.Laws.{FaultOrFigs, OneFault, WrittenIsGood, WrittenIsRead};
 
-/// The law of reading: 32 bytes have at most one list of FIGs; where they have one they have no fault, and else
-/// at most one is the first. The function does nothing; its contract is the law.
+/// The law of reading: what is a FIB has no fault, and what is none has one that is the first.
 pub fn reading()
-    ensures one_list { OneList }
     ensures apart { FaultOrFigs }
     ensures one_fault { OneFault }
 {}
+
+/// The law of writer and reader: a FIB that is written is read without a fault, and with the FIGs that were
+/// written, of which those with OE 1 are not looked into.
+pub fn written_is_read()
+    ensures good { WrittenIsGood }
+    ensures read { WrittenIsRead }
+{
+    fib_codec::laws::written();
+    fib_codec::laws::one_list();
+    reading();
+}

@@ -1,7 +1,6 @@
 //! Reads fast information blocks (EN 300 401 clauses 5.2.1 and 5.2.2) from bytes that anyone may have made.
 #![tactic(auto)]
 
-
 mod bytes;
 pub mod checking;
 pub mod entries;
@@ -10,9 +9,10 @@ pub mod figs;
 mod kept;
 pub mod laws;
 pub mod listener;
+mod members;
 pub mod picture;
+mod said;
 mod value;
-
 
 pub use checking::check;
 pub use entries::{Entries, RawEntry};

@@ -6,7 +6,8 @@ ghost use Rattle.fib_reader.specs.Listening.{has_room, kept, identifier_of};
 
 use crate::entries::RawEntry;
 use crate::kept::Kept;
-use mux_config::Table;
+use crate::members::members;
+use mux_config::{Config, Packet, Service, Sub, Table};
 use std::marker::Model;
 
 /// Puts an entry in place of the one with the same identifier, or beside the others where there is room.
@@ -51,9 +52,10 @@ impl Model for Picture {
 }
 
 impl Picture {
-    ghost use Rattle.std.specs.Prelude.{◌≡◌, ◌≢◌, true, false, Some, None};
+    ghost use Rattle.std.specs.Prelude.{◌≡◌, ◌≢◌, true, false, Some, None, IfSome};
+    ghost use Rattle.mux_config.specs.Configuration.{Configuration, IsConfiguration};
     ghost use Rattle.fib_reader.specs.Listening.{blank, pictured, all_entries};
-    ghost use Rattle.fib_reader.specs.Picture.{HasRoom};
+    ghost use Rattle.fib_reader.specs.Picture.{HasRoom, Shows};
 
     /// The picture of nothing.
     pub(crate) fn new() -> Self
@@ -96,6 +98,28 @@ impl Picture {
         ensures { result ≡ true → HasRoom 54 self.now }
     {
         self.services.len() <= 54 && self.packets.len() <= 54
+    }
+
+    /// The configuration that it shows: Some where its entries are exactly those of one configuration of this
+    /// profile. So it is None where a sub-channel is in the short form, has an option above 1 or a size that no
+    /// rate has, where a field that is sent as 0 is set, or a component is of another TMId.
+    pub fn config(&self) -> Option<Config>
+        ensures configuration { IfSome result IsConfiguration }
+        ensures shown { IfSome result (Shows self.now) }
+        ensures every { (c : Configuration) → IsConfiguration c → Shows self.now c → result ≡ Some c }
+    {
+        fib_codec::laws::spelling();
+        mux_config::laws::facts();
+        let Some(subs) = members::<Sub>(self.subs.as_slice()) else {
+            return None;
+        };
+        let Some(services) = members::<Service>(self.services.as_slice()) else {
+            return None;
+        };
+        let Some(packets) = members::<Packet>(self.packets.as_slice()) else {
+            return None;
+        };
+        Some(Config::of(subs, services, packets))
     }
 
     /// Its entries in ascending order of extension and identifier: FIG 0/1 by SubChId, FIG 0/2 by SId with the

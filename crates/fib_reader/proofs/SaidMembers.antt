@@ -1,0 +1,131 @@
+-- What holds of the entries that say members of a configuration.
+use Rattle.std.proofs.Common.{◌≡◌, ℕ, zero, suc, ◌+◌, ◌*◌, ◌-◌, ◌/◌, ◌%◌, ◌<◌, ◌≤◌, Bool, true, false, List, [], ◌∷◌, ◌++◌, length, map, take, drop, get_or, refl, ap, sym, ◌∙◌, subst, arith}
+use Rattle.std.proofs.lemmas.List.{length-map}
+use Rattle.mux_eep.specs.declared.sizes.EepSet.{EepSet}
+use Rattle.mux_eep.specs.declared.sizes.EepSet.TheVariants.{A, B}
+use Rattle.mux_config.specs.declared.parts.Sub.{Sub}
+use Rattle.mux_config.specs.declared.parts.Service.{Service}
+use Rattle.mux_config.specs.declared.parts.Packet.{Packet}
+use Rattle.mux_config.specs.declared.parts.Component.{Component}
+use Rattle.mux_config.specs.declared.parts.Component.TheVariants.{Sound, Stream, Packet as InPackets}
+use Rattle.mux_config.specs.declared.entry.Entry.{Entry}
+use Rattle.mux_config.specs.declared.numbers.Sid.{Sid}
+use Rattle.mux_config.specs.declared.numbers.Sid.TheVariants.{Short, Long}
+use Rattle.mux_config.specs.Configuration.{Each, IsAscending, IsPlaced, IsService, IsAddressed, IsComponent, IsSid, sub_key, sid_key, service_key, packet_key, component_limit}
+use Rattle.mux_config.specs.Facts.{sub_entry, service_entry, packet_entry, component_entry, component_entries, option_of}
+use Rattle.fib_codec.specs.Ranges.{IsWithin, IsComponentEntry}
+use Rattle.fib_codec.specs.Spelling.{SpellingTells, entry_bytes, ext_of, is_long_entry}
+use Rattle.fib_reader.specs.Raw.{Raw, raw_entry}
+use Rattle.fib_reader.specs.Listening.{identifier_of}
+use Rattle.fib_reader.proofs.Components.{length_component_entries}
+
+few_options : (s : EepSet) → option_of s < 8
+few_options A = omega arith
+few_options B = omega arith
+
+pub sub_within : (s : Sub) → IsPlaced s → IsWithin (sub_entry s)
+sub_within s h =
+    let named = h.named in
+    let ends = h.ends in
+    let four = h.to_four in
+    record { id = named; start = omega arith; option = few_options s.protection.set; level = omega arith; size = omega arith }
+
+pub sub_identified : (s : Sub) → IsPlaced s → identifier_of (raw_entry (sub_entry s)) ≡ sub_key s
+sub_identified s h =
+    let named = h.named in
+    let ends = h.ends in
+    omega arith
+
+component_within : (primary : Bool) (c : Component) → IsComponent c → IsComponentEntry (component_entry primary c)
+component_within primary (Sound ty sub) h = h
+component_within primary (Stream ty sub) h = h
+component_within primary (InPackets scid) h = h
+
+others_within : (cs : List Component) → Each IsComponent cs → Each IsComponentEntry (map (component_entry false) cs)
+others_within [] h = tt
+others_within (c ∷ cs) h = (component_within false c h.0, others_within cs h.1)
+
+components_within : (cs : List Component) → Each IsComponent cs → Each IsComponentEntry (component_entries cs)
+components_within [] h = tt
+components_within (c ∷ cs) h = (component_within true c h.0, others_within cs h.1)
+
+few_components : (sid : Sid) (n : ℕ) → n ≤ component_limit sid → n ≤ 15
+few_components (Short k) n h = omega arith
+few_components (Long k) n h = omega arith
+
+pub service_within : (s : Service) → IsService s → IsWithin (service_entry s)
+service_within s h =
+    let few : length s.components ≤ 15 = few_components s.sid (length s.components) h.few in
+    let same : length (component_entries s.components) ≡ length s.components = length_component_entries s.components in
+    record { sid = h.named; ca_id = omega arith; few = omega arith; components = components_within s.components h.within }
+
+identified : (sid : Sid) (components : List Component) → IsSid sid
+    → identifier_of (raw_entry (service_entry (record { sid = sid; components = components }))) ≡ sid_key sid
+identified (Short n) components h = omega arith
+identified (Long n) components h = omega arith
+
+pub service_identified : (s : Service) → IsService s → identifier_of (raw_entry (service_entry s)) ≡ service_key s
+service_identified s h = identified s.sid s.components h.named
+
+pub packet_within : (p : Packet) → IsAddressed p → IsWithin (packet_entry p)
+packet_within p h =
+    let last = h.to_last in
+    record { scid = h.named; rfa = omega arith; ty = h.typed; sub = h.carried; address = omega arith; ca_org = tt }
+
+pub packet_identified : (p : Packet) → IsAddressed p → identifier_of (raw_entry (packet_entry p)) ≡ packet_key p
+packet_identified p h = let named = h.named in omega arith
+
+-- ---- members in the order of their entries
+
+each_at : (P : Raw → Type 0) (xs : List Raw) (i : ℕ) (d : Raw) → Each P xs → i < length xs → P (get_or xs i d)
+each_at P [] i d all inside = absurd (omega arith)
+each_at P (x ∷ xs) zero d all inside = all.0
+each_at P (x ∷ xs) (suc j) d all inside = each_at P xs j d all.1 (omega arith)
+
+ascending_front :
+    (kept : List Raw) (i : ℕ) (d : Raw) → IsAscending identifier_of kept → i < length kept
+    → Each (λ raw. identifier_of raw < identifier_of (get_or kept i d)) (take i kept)
+ascending_front [] i d up inside = absurd (omega arith)
+ascending_front (k ∷ ks) zero d up inside = tt
+ascending_front (k ∷ ks) (suc j) d up inside =
+    (each_at (λ raw. identifier_of k < identifier_of raw) ks j d up.0 (omega arith), ascending_front ks j d up.1 (omega arith))
+
+keys_below :
+    {T : Type 0} (key : T → ℕ) (f : T → Raw) (P : T → Type 0) (table : List T) (n : ℕ)
+    → ((y : T) → P y → identifier_of (f y) ≡ key y) → Each P table → Each (λ raw. identifier_of raw < n) (map f table)
+    → Each (λ y. key y < n) table
+keys_below key f P [] n same all below = tt
+keys_below key f P (y ∷ ys) n same all below =
+    (subst (λ (k : ℕ). k < n) (same y all.0) below.0, keys_below key f P ys n same all.1 below.1)
+
+pub above_all :
+    {T : Type 0} (key : T → ℕ) (f : T → Raw) (P : T → Type 0) (table : List T) (kept : List Raw) (i : ℕ) (x : T) (raw : Raw)
+    → ((y : T) → P y → identifier_of (f y) ≡ key y) → Each P table → P x → map f table ≡ take i kept → i < length kept
+    → raw ≡ get_or kept i raw → f x ≡ raw → IsAscending identifier_of kept → Each (λ y. key y < key x) table
+above_all key f P table kept i x raw same all one so_far inside is says up =
+    let front : Each (λ r. identifier_of r < identifier_of (get_or kept i raw)) (map f table) =
+    subst (Each (λ r. identifier_of r < identifier_of (get_or kept i raw))) (sym so_far) (ascending_front kept i raw up inside) in
+    let top : identifier_of (get_or kept i raw) ≡ key x = ap identifier_of (sym (says ∙ is)) ∙ same x one in
+    keys_below key f P table (key x) same all
+    (subst (λ (n : ℕ). Each (λ r. identifier_of r < n) (map f table)) top front)
+
+-- where members say all entries, one says each
+member_at :
+    {T : Type 0} (f : T → Raw) (P : T → Type 0) (xs : List T) (i : ℕ) (d : Raw) → Each P xs → i < length xs
+    → (x : T) × P x × (f x ≡ get_or (map f xs) i d)
+member_at f P [] i d all inside = absurd (omega arith)
+member_at f P (x ∷ xs) zero d all inside = (x, all.0, refl)
+member_at f P (x ∷ xs) (suc j) d all inside = member_at f P xs j d all.1 (omega arith)
+
+pub none_says :
+    {T : Type 0} (entry_of : T → Entry) (P : T → Type 0) (xs : List T) (kept : List Raw) (i : ℕ) (raw : Raw) (e : Entry)
+    → SpellingTells → ((x : T) → P x → IsWithin (entry_of x)) → ((x : T) → P x → entry_of x ≡ e → ⊥)
+    → Each P xs → map (λ x. raw_entry (entry_of x)) xs ≡ kept → i < length kept → raw ≡ get_or kept i raw
+    → raw ≡ raw_entry e → IsWithin e → ⊥
+none_says entry_of P xs kept i raw e tells within none all says inside is spelled fits =
+    let size : length xs ≡ length kept = sym (length-map xs (λ x. raw_entry (entry_of x))) ∙ ap length says in
+    let one = member_at (λ x. raw_entry (entry_of x)) P xs i raw all (omega arith) in
+    let same : raw_entry (entry_of one.0) ≡ raw_entry e =
+    one.2 ∙ ap (λ rs. get_or rs i raw) says ∙ sym is ∙ spelled in
+    none one.0 one.1
+    (tells (entry_of one.0) e (within one.0 one.1) fits (ap (λ r. r.ext) same) (ap (λ r. r.long) same) (ap (λ r. r.bytes) same))

@@ -1,0 +1,112 @@
+//! Lists of entries as the members of a configuration that they say.
+
+ghost use Rattle.std.specs.Prelude.{◌≡◌, ◌≤◌, IfSome, IfNone, List, map, length};
+ghost use Rattle.mux_config.specs.Configuration.{Each, IsAscending};
+ghost use Rattle.fib_reader.specs.Raw.{raw_entry};
+ghost use Rattle.fib_reader.specs.Listening.{identifier_of};
+
+use crate::kept::Kept;
+use crate::said::{packet_said, service_said, sub_said};
+use mux_config::{Entry, Keyed, Packet, Service, Sub, Table};
+
+/// A member of a configuration that an entry can say: a sub-channel, a service or a packet component.
+pub(crate) trait Said: Keyed {
+    ghost use Rattle.std.specs.Prelude.{◌≡◌, IfSome, IfNone};
+    ghost use Rattle.mux_config.specs.declared.entry.Entry.{Entry};
+    ghost use Rattle.fib_codec.specs.Ranges.{IsWithin};
+    ghost use Rattle.fib_reader.specs.Raw.{raw_entry};
+    ghost use Rattle.fib_reader.specs.Listening.{identifier_of};
+
+    /// The entry that says it.
+    ghost entry_of: { Self → Entry };
+
+    /// It may be in a configuration.
+    ghost is_member: { Self → Type 0 };
+
+    /// The member that an entry says; None where it says none.
+    fn said(entry: &Entry) -> Option<Self>
+        requires { IsWithin entry.now }
+        ensures member { IfSome result is_member }
+        ensures value { IfSome result (λ x. entry_of x ≡ entry.now) }
+        ensures none { IfNone result ((x : Self) → is_member x → entry_of x ≡ entry.now → ⊥) };
+
+    /// What holds of every member's entry: its fields are within their bits, and it has the member's key as its
+    /// identifier. The function does nothing; its contract is the law.
+    fn laws()
+        ensures within { (x : Self) → is_member x → IsWithin (entry_of x) }
+        ensures identified { (x : Self) → is_member x → identifier_of (raw_entry (entry_of x)) ≡ Self.key x };
+}
+
+impl Said for Sub {
+    ghost use Rattle.mux_config.specs.Configuration.{IsPlaced};
+    ghost use Rattle.mux_config.specs.Facts.{sub_entry};
+
+    ghost entry_of = { sub_entry };
+
+    ghost is_member = { IsPlaced };
+
+    fn said(entry: &Entry) -> Option<Sub> {
+        match entry {
+            Entry::Sub(entry) => sub_said(entry),
+            _ => None,
+        }
+    }
+
+    fn laws() {}
+}
+
+impl Said for Service {
+    ghost use Rattle.mux_config.specs.Configuration.{IsService};
+    ghost use Rattle.mux_config.specs.Facts.{service_entry};
+
+    ghost entry_of = { service_entry };
+
+    ghost is_member = { IsService };
+
+    fn said(entry: &Entry) -> Option<Service> {
+        match entry {
+            Entry::Service(entry) => service_said(entry),
+            _ => None,
+        }
+    }
+
+    fn laws() {}
+}
+
+impl Said for Packet {
+    ghost use Rattle.mux_config.specs.Configuration.{IsAddressed};
+    ghost use Rattle.mux_config.specs.Facts.{packet_entry};
+
+    ghost entry_of = { packet_entry };
+
+    ghost is_member = { IsAddressed };
+
+    fn said(entry: &Entry) -> Option<Packet> {
+        match entry {
+            Entry::Packet(entry) => packet_said(entry),
+            _ => None,
+        }
+    }
+
+    fn laws() {}
+}
+
+/// The set of members that entries say, which stand in ascending order; None where one of them says none.
+pub(crate) fn members<T: Said>(kept: &[Kept]) -> Option<Table<T, 64>>
+    requires ascending { IsAscending identifier_of kept.now }
+    requires few { length kept.now ≤ 64 }
+    ensures said { IfSome result (λ xs. map (λ x. raw_entry (T.entry_of x)) xs ≡ kept.now) }
+    ensures members { IfSome result (Each T.is_member) }
+    ensures none { IfNone result ((xs : List T) → Each T.is_member xs → map (λ x. raw_entry (T.entry_of x)) xs ≡ kept.now → ⊥) }
+{
+    fib_codec::laws::spelling();
+    T::laws();
+    let mut table = Table::new();
+    for entry in kept {
+        let Some(member) = T::said(&entry.lent().value()) else {
+            return None;
+        };
+        table.append(member);
+    }
+    Some(table)
+}
