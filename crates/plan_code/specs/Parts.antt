@@ -262,10 +262,3 @@ line_at total bytes = do
   opcode ← byte_at number.1
   instr ← instr_of total (place total number.1) opcode.0 opcode.1
   Ok (record { number = number.0; instr = instr.0 }, instr.1)
-
--- so many lines after those that were read before
-unfoldable pub lines_at : (total : ℕ) → (before : List Line) → (count : ℕ) → List ℕ → Reads (List Line)
-lines_at total before zero bytes = Ok (before, bytes)
-lines_at total before (suc count) bytes = do
-  line ← line_at total bytes
-  lines_at total (before ++ line.0 ∷ []) count line.1

@@ -1,17 +1,19 @@
 -- Reading a code file from left to right, with the first fault that is met.
 use Rattle.std.specs.Prelude.{◌≡◌, ℕ, zero, suc, ◌+◌, ◌==◌, nat_lt, if◌then◌else◌, List, [], ◌∷◌, ◌++◌, length, take, drop, Bool, not, Result, Ok, Err, nat_eq}
 use Rattle.std.specs.List.{starts_with}
-use Rattle.std.specs.Int.{w16}
+use Rattle.std.specs.Int.{w16, w32}
 use Rattle.mux_config.specs.Configuration.{Configuration}
-use Rattle.mux_config.specs.Reading.{place, byte_at, number_at, byte_within, config_at, members_at}
+use Rattle.mux_config.specs.Reading.{Unread, place, byte_at, number_at, byte_within, config_at, members_at}
 use Rattle.mux_config.specs.declared.record.RecordFault.{RecordFault}
 use Rattle.mux_config.specs.declared.record.RecordFault.TheVariants.{Short, Field as FieldOfRecord, Order}
 use Rattle.plan_code.specs.declared.fault.CodeFault.{CodeFault}
 use Rattle.plan_code.specs.declared.fault.CodeFault.TheVariants.{Magic, Version, Truncated, Field, Limit, Trailing, Memory}
+use Rattle.plan_code.specs.declared.instr.Line.{Line}
+use Rattle.plan_code.specs.declared.label.Label.{Label}
 use Rattle.plan_code.specs.declared.plan.Plan.{Plan}
 use Rattle.plan_code.specs.Program.{Program, label_key}
 use Rattle.plan_code.specs.Spelling.{magic, version}
-use Rattle.plan_code.specs.Parts.{label_at, lines_at}
+use Rattle.plan_code.specs.Parts.{label_at, line_at}
 
 -- what is read, and the bytes after it; or the first fault
 abbrev pub Parses : Type 0 → Type 0
@@ -26,17 +28,8 @@ abbrev pub ◌>>=◌ : {A B : Type 0} → Result A CodeFault → (A → Result B
 abbrev pub refuse : Bool → CodeFault → Result (Unit {0}) CodeFault
 refuse test fault = if test then Err fault else Ok tt
 
--- what a function returned, seen by view, is what reading gives, unless memory ran out
-abbrev pub Fails : {Y : Type 0} → CodeFault → Result Y CodeFault → Type 0
-Fails Memory read = Unit {0}
-Fails fault read = read ≡ Err fault
-
-abbrev pub Gives : {X Y : Type 0} → (X → Y) → Result X CodeFault → Result Y CodeFault → Type 0
-Gives view (Ok x) read = read ≡ Ok (view x)
-Gives view (Err e) read = Fails e read
-
--- the fault of a part whose places are counted from `start` on; an identifier out of order is a fault of the
--- whole record
+-- the fault of a part that begins at `start`: the places of its fields are counted from there, and an
+-- identifier out of order is a fault of the whole part
 abbrev pub fault_from : (start : ℕ) → RecordFault → CodeFault
 fault_from start Short = Truncated
 fault_from start (FieldOfRecord at) = Field (start + at)
@@ -46,57 +39,103 @@ abbrev pub read_from : {T : Type 0} → (start : ℕ) → Result T RecordFault �
 read_from start (Ok x) = Ok x
 read_from start (Err e) = Err (fault_from start e)
 
+-- fields whose places are counted from the first byte of the file
+abbrev pub in_file : {T : Type 0} → Result T RecordFault → Result T CodeFault
+in_file read = read_from 0 read
+
+-- ---- what calls answer
+
+-- want of memory may be answered at any point; every other fault is the one that reading meets
+abbrev pub Fails : {Y : Type 0} → CodeFault → Result Y CodeFault → Type 0
+Fails Memory read = Unit {0}
+Fails fault read = read ≡ Err fault
+
+-- an answer, seen by view, is what reading gives
+abbrev pub Gives : {X Y : Type 0} → (X → Y) → Result X CodeFault → Result Y CodeFault → Type 0
+Gives view (Ok x) read = read ≡ Ok (view x)
+Gives view (Err fault) read = Fails fault read
+
+-- an answer, seen by view, and the bytes that are left are what reading gives
+abbrev pub GivesNext : {X Y : Type 0} → (X → Y) → Result X CodeFault → Unread → Parses Y → Type 0
+GivesNext view (Ok x) left read = read ≡ Ok (view x, left.rest)
+GivesNext view (Err fault) left read = Fails fault read
+
 -- ---- the header
 
-abbrev pub magic_at : List ℕ → Parses (Unit {0})
-magic_at bytes =
-    if nat_lt (length bytes) 4 then Err Truncated
-    else if starts_with nat_eq bytes magic then Ok (tt, drop 4 bytes)
-    else Err Magic
+abbrev pub magic_at : List ℕ → Parses ℕ
+magic_at bytes = do
+  letters ← in_file (number_at w32 bytes)
+  known ← refuse (not (letters.0 == magic)) Magic
+  Ok letters
 
 abbrev pub version_at : List ℕ → Parses ℕ
 version_at bytes = do
-  number ← read_from 0 (byte_at bytes)
+  number ← in_file (byte_at bytes)
   known ← refuse (not (number.0 == version)) Version
   Ok number
 
 unfoldable pub plan_at : (total : ℕ) → List ℕ → Parses Plan
 plan_at total bytes = do
-  eid ← read_from 0 (number_at w16 bytes)
-  period ← read_from 0 (byte_within total 1 60 eid.1)
-  notice ← read_from 0 (byte_within total 12 248 period.1)
-  budget ← read_from 0 (byte_within total 1 255 notice.1)
+  eid ← in_file (number_at w16 bytes)
+  period ← in_file (byte_within total 1 60 eid.1)
+  notice ← in_file (byte_within total 12 248 period.1)
+  budget ← in_file (byte_within total 1 255 notice.1)
   Ok (record { eid = eid.0; period = period.0; notice = notice.0; budget = budget.0 }, budget.1)
 
 -- how many of a kind follow: at least one, at most `limit`
 abbrev pub count_at : (total limit : ℕ) → List ℕ → Parses ℕ
 count_at total limit bytes = do
-  number ← read_from 0 (number_at w16 bytes)
+  number ← in_file (number_at w16 bytes)
   some ← refuse (number.0 == 0) (Field (place total bytes))
   few ← refuse (nat_lt limit number.0) Limit
   Ok number
 
+pub record Header : Type 0 where
+  pub plan : Plan
+  -- how many of each follow
+  pub configurations : ℕ
+  pub labels : ℕ
+  pub lines : ℕ
+
+unfoldable pub header_at : (total : ℕ) → List ℕ → Parses Header
+header_at total bytes = do
+  letters ← magic_at bytes
+  number ← version_at letters.1
+  plan ← plan_at total number.1
+  configurations ← count_at total 256 plan.1
+  labels ← count_at total 1024 configurations.1
+  lines ← count_at total 4096 labels.1
+  Ok (record { plan = plan.0; configurations = configurations.0; labels = labels.0; lines = lines.0 }, lines.1)
+
 -- ---- the tables
 
--- so many configurations after those that were read before
-unfoldable pub configurations_at : (total : ℕ) → (before : List Configuration) → (count : ℕ) → List ℕ → Parses (List Configuration)
-configurations_at total before zero bytes = Ok (before, bytes)
-configurations_at total before (suc count) bytes = do
-  c ← read_from (place total bytes) (config_at bytes)
-  configurations_at total (before ++ c.0 ∷ []) count c.1
+abbrev pub config_in : (total : ℕ) → List ℕ → Parses Configuration
+config_in total bytes = read_from (place total bytes) (config_at bytes)
+
+abbrev pub line_in : (total : ℕ) → List ℕ → Parses Line
+line_in total bytes = in_file (line_at total bytes)
+
+-- so many items after those that were read before
+unfoldable pub items_at : {T : Type 0} → (item_at : List ℕ → Parses T) → (before : List T) → (count : ℕ) → List ℕ → Parses (List T)
+items_at item_at before zero bytes = Ok (before, bytes)
+items_at item_at before (suc count) bytes = do
+  item ← item_at bytes
+  items_at item_at (before ++ item.0 ∷ []) count item.1
+
+abbrev pub labels_in : (total configurations count : ℕ) → List ℕ → Parses (List Label)
+labels_in total configurations count bytes = in_file (members_at label_key (label_at total configurations) 0 [] count bytes)
+
+unfoldable pub program_at : (total : ℕ) → Header → List ℕ → Parses Program
+program_at total header bytes = do
+  configurations ← items_at (config_in total) [] header.configurations bytes
+  labels ← labels_in total header.configurations header.labels configurations.1
+  lines ← items_at (line_in total) [] header.lines labels.1
+  Ok (record { plan = header.plan; configurations = configurations.0; labels = labels.0; lines = lines.0 }, lines.1)
 
 -- all of these bytes
 unfoldable pub code_of : List ℕ → Result Program CodeFault
-code_of bytes =
-    let total = length bytes in do
-      letters ← magic_at bytes
-      number ← version_at letters.1
-      plan ← plan_at total number.1
-      configuration_count ← count_at total 256 plan.1
-      label_count ← count_at total 1024 configuration_count.1
-      line_count ← count_at total 4096 label_count.1
-      configurations ← configurations_at total [] configuration_count.0 line_count.1
-      labels ← read_from 0 (members_at label_key (label_at total configuration_count.0) 0 [] label_count.0 configurations.1)
-      lines ← read_from 0 (lines_at total [] line_count.0 labels.1)
-      ended ← refuse (not (length lines.1 == 0)) Trailing
-      Ok (record { plan = plan.0; configurations = configurations.0; labels = labels.0; lines = lines.0 })
+code_of bytes = do
+  header ← header_at (length bytes) bytes
+  program ← program_at (length bytes) header.0 header.1
+  ended ← refuse (not (length program.1 == 0)) Trailing
+  Ok program.0

@@ -14,9 +14,9 @@ use Rattle.plan_code.specs.declared.instr.Instr.TheVariants.{Wait, Until, WaitCo
 use Rattle.plan_code.specs.declared.instr.Line.{Line}
 use Rattle.plan_code.specs.Program.{Program}
 
--- the letters DABP, and the version of the format
-abbrev pub magic : List ℕ
-magic = 0x44 ∷ 0x41 ∷ 0x42 ∷ 0x50 ∷ []
+-- the letters DABP as a number of four bytes, and the version of the format
+abbrev pub magic : ℕ
+magic = 0x44414250
 
 abbrev pub version : ℕ
 version = 1
@@ -24,9 +24,11 @@ version = 1
 abbrev pub plan_bytes : Plan → List ℕ
 plan_bytes p = word_bytes p.eid ++ p.period ∷ p.notice ∷ p.budget ∷ []
 
--- the three numbers of configurations, labels and instructions
-abbrev pub counts_bytes : Program → List ℕ
-counts_bytes p = word_bytes (length p.configurations) ++ word_bytes (length p.labels) ++ word_bytes (length p.lines)
+-- with the numbers of configurations, labels and instructions
+abbrev pub header_bytes : Plan → (configurations labels lines : ℕ) → List ℕ
+header_bytes plan configurations labels lines =
+    to_be_bytes w32 magic ++ version ∷ plan_bytes plan
+    ++ word_bytes configurations ++ word_bytes labels ++ word_bytes lines
 
 -- a flag and the bounds of the swap that is pending; zeros where none is
 abbrev pub pending_bytes : Option (ℕ × ℕ) → List ℕ
@@ -74,7 +76,7 @@ line_bytes l = word_bytes l.number ++ instr_bytes l.instr
 
 abbrev pub code_bytes : Program → List ℕ
 code_bytes p =
-    magic ++ version ∷ plan_bytes p.plan ++ counts_bytes p
+    header_bytes p.plan (length p.configurations) (length p.labels) (length p.lines)
     ++ flat_map config_bytes p.configurations
     ++ flat_map label_bytes p.labels
     ++ flat_map line_bytes p.lines

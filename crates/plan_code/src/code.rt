@@ -115,6 +115,24 @@ impl Code {
         })
     }
 
+    /// The code of parts that are known to be within their limits.
+    pub(crate) fn from_parts(
+        plan: Plan,
+        configs: Vec<Config>,
+        labels: Vec<Label>,
+        lines: Vec<Line>,
+    ) -> Code
+        requires { IsProgram (record { plan = plan; configurations = configs.items; labels = labels.items; lines = lines.items }) }
+        ensures { result ≡ record { plan = plan; configurations = configs.items; labels = labels.items; lines = lines.items } }
+    {
+        Code {
+            plan,
+            configs,
+            labels,
+            lines,
+        }
+    }
+
     /// The plan.
     pub fn plan(&self) -> Plan
         ensures value { result ≡ self.now.plan }

@@ -1,8 +1,10 @@
 //! Why bytes are no code.
 
-ghost use Rattle.std.specs.Prelude.{◌≡◌};
+ghost use Rattle.std.specs.Prelude.{◌≡◌, ℕ, ◌+◌, ◌<◌, ◌^◌};
+ghost use Rattle.plan_code.specs.Reading.{fault_from as fault_of_part};
 ghost use Rattle.plan_code.specs.declared.fault.CodeFault.TheVariants.{Memory};
 
+use mux_config::RecordFault;
 use std::alloc::{AllocError, AllocFailed};
 use thiserror::Error;
 
@@ -30,6 +32,30 @@ pub enum CodeFault {
     /// There was no memory for the code.
     #[error("Memory")]
     Memory,
+}
+
+/// The fault of a part of a file that begins at `start`, where places in it are counted from there.
+pub(crate) fn fault_from(start: usize, fault: RecordFault) -> CodeFault
+    requires { (place : ℕ) → fault ≡ RecordFault.Field place → start + place < 2 ^ 64 }
+    ensures { result ≡ fault_of_part start fault }
+{
+    match fault {
+        RecordFault::Short => CodeFault::Truncated,
+        RecordFault::Field(place) => CodeFault::Field(start + place),
+        RecordFault::Order => CodeFault::Field(start),
+    }
+}
+
+/// A fault of a part that begins with the file.
+impl From<RecordFault> for CodeFault {
+    ghost use Rattle.std.specs.Prelude.{◌≡◌};
+    ghost use Rattle.plan_code.specs.Reading.{fault_from};
+
+    ghost from_gives = { λ f e. e ≡ fault_from 0 f };
+
+    fn from(fault: RecordFault) -> CodeFault {
+        fault_from(0, fault)
+    }
 }
 
 impl From<AllocError> for CodeFault {

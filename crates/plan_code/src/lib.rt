@@ -7,6 +7,7 @@
 #![tactic(auto)]
 
 pub mod code;
+mod code_reader;
 pub mod fault;
 pub mod flags;
 pub mod hold;
@@ -22,6 +23,7 @@ mod read_label;
 mod read_line;
 
 pub use code::Code;
+pub use code_reader::decode;
 pub use fault::CodeFault;
 pub use flags::{Contacts, Counters};
 pub use hold::Hold;

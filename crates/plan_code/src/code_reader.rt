@@ -1,0 +1,209 @@
+//! Reading a code file.
+
+ghost use Rattle.std.specs.Prelude.{◌≡◌, ◌≤◌, ◌<◌, ◌^◌, [], length, IfOk, Ok, Err};
+ghost use Rattle.plan_code.specs.Program.{Program, IsProgram};
+ghost use Rattle.plan_code.specs.Spelling.{code_bytes};
+ghost use Rattle.plan_code.specs.Reading.{Gives, GivesNext, magic_at, version_at, plan_at, count_at, header_at, config_in, line_in, items_at, labels_in, code_of};
+
+use crate::code::Code;
+use crate::fault::{CodeFault, fault_from};
+use crate::instr::Line;
+use crate::label::Label;
+use crate::plan::Plan;
+use crate::read_label::label;
+use crate::read_line::line;
+use mux_config::{Config, Reader, read_config};
+use std::alloc::Global;
+
+/// The letters DABP.
+const MAGIC: u32 = 0x4441_4250;
+
+/// The version of the format.
+const VERSION: u8 = 1;
+
+fn magic(reader: &mut Reader) -> Result<u32, CodeFault>
+    ensures read { GivesNext (λ n. n) result reader.new (magic_at reader.old.rest) }
+    ensures total { reader.new.total ≡ reader.old.total }
+{
+    let letters = reader.long()?;
+    if letters != MAGIC {
+        return Err(CodeFault::Magic);
+    }
+    Ok(letters)
+}
+
+fn version(reader: &mut Reader) -> Result<u8, CodeFault>
+    ensures read { GivesNext (λ n. n) result reader.new (version_at reader.old.rest) }
+    ensures total { reader.new.total ≡ reader.old.total }
+{
+    let number = reader.byte()?;
+    if number != VERSION {
+        return Err(CodeFault::Version);
+    }
+    Ok(number)
+}
+
+#[tactic(auto, unfolding(crate::specs::Reading::plan_at))]
+fn plan(reader: &mut Reader) -> Result<Plan, CodeFault>
+    ensures read { GivesNext (λ p. p) result reader.new (plan_at reader.old.total reader.old.rest) }
+    ensures total { reader.new.total ≡ reader.old.total }
+{
+    let eid = reader.word()?;
+    let period = reader.byte_within(1, 60)?;
+    let notice = reader.byte_within(12, 248)?;
+    let budget = reader.byte_within(1, 255)?;
+    Ok(Plan {
+        eid,
+        period,
+        notice,
+        budget,
+    })
+}
+
+/// Reads how many of a kind follow, at most this.
+fn count(reader: &mut Reader, limit: u16) -> Result<u16, CodeFault>
+    ensures read { GivesNext (λ n. n) result reader.new (count_at reader.old.total limit reader.old.rest) }
+    ensures total { reader.new.total ≡ reader.old.total }
+    ensures some { IfOk result (λ n. 1 ≤ n) }
+{
+    let place = reader.place();
+    let number = reader.word()?;
+    if number == 0 {
+        return Err(CodeFault::Field(place));
+    }
+    if number > limit {
+        return Err(CodeFault::Limit);
+    }
+    Ok(number)
+}
+
+/// What a file says before its tables: the plan, and how many configurations, labels and instructions follow.
+#[derive(Clone, Copy)]
+struct Opening {
+    plan: Plan,
+    configs: u16,
+    labels: u16,
+    lines: u16,
+}
+
+#[tactic(auto, unfolding(crate::specs::Reading::header_at))]
+fn header(reader: &mut Reader) -> Result<Opening, CodeFault>
+    ensures read { GivesNext (λ h. record { plan = h.plan; configurations = h.configs; labels = h.labels; lines = h.lines }) result reader.new (header_at reader.old.total reader.old.rest) }
+    ensures total { reader.new.total ≡ reader.old.total }
+    ensures configs { IfOk result (λ h. 1 ≤ h.configs) }
+{
+    magic(reader)?;
+    version(reader)?;
+    let plan = plan(reader)?;
+    let configs = count(reader, 256)?;
+    let labels = count(reader, 1024)?;
+    let lines = count(reader, 4096)?;
+    Ok(Opening {
+        plan,
+        configs,
+        labels,
+        lines,
+    })
+}
+
+/// What stands in a row of its kind.
+trait Item: Drop {
+    ghost use Rattle.std.specs.Prelude.{ℕ, List};
+    ghost use Rattle.plan_code.specs.Reading.{Parses};
+
+    ghost item_at: { ℕ → List ℕ → Parses Self };
+
+    fn read(reader: &mut Reader) -> Result<Self, CodeFault>
+        ensures read { GivesNext (λ x. x) result reader.new (item_at reader.old.total reader.old.rest) }
+        ensures total { reader.new.total ≡ reader.old.total };
+}
+
+impl Item for Config {
+    ghost item_at = { config_in };
+
+    fn read(reader: &mut Reader) -> Result<Self, CodeFault> {
+        let start = reader.place();
+        match read_config(reader.rest()) {
+            Ok((config, length)) => {
+                reader.skip(length);
+                Ok(config)
+            }
+            Err(fault) => Err(fault_from(start, fault)),
+        }
+    }
+}
+
+impl Item for Line {
+    ghost item_at = { line_in };
+
+    fn read(reader: &mut Reader) -> Result<Self, CodeFault> {
+        Ok(line(reader)?)
+    }
+}
+
+/// Reads so many items.
+fn items<T: Item>(alloc: Global, reader: &mut Reader, count: u16) -> Result<Vec<T>, CodeFault>
+    ensures read { GivesNext (λ v. v.items) result reader.new (items_at (T.item_at reader.old.total) [] count reader.old.rest) }
+    ensures total { reader.new.total ≡ reader.old.total }
+{
+    let mut items = Vec::new(alloc);
+    for _ in 0..count {
+        let item = T::read(reader)?;
+        items.push(item)?;
+    }
+    Ok(items)
+}
+
+/// Reads so many labels, where the table has so many configurations.
+fn labels(
+    alloc: Global,
+    reader: &mut Reader,
+    configs: u16,
+    count: u16,
+) -> Result<Vec<Label>, CodeFault>
+    requires { 1 ≤ configs }
+    ensures read { GivesNext (λ v. v.items) result reader.new (labels_in reader.old.total configs count reader.old.rest) }
+    ensures total { reader.new.total ≡ reader.old.total }
+{
+    let mut labels = Vec::new(alloc);
+    let mut low = 0;
+    for _ in 0..count {
+        let label = label(reader, configs, low)?;
+        low = u32::from(label.pc) + 1;
+        labels.push(label)?;
+    }
+    Ok(labels)
+}
+
+#[tactic(auto, unfolding(crate::specs::Reading::code_of, crate::specs::Reading::program_at))]
+fn whole(alloc: Global, bytes: &[u8]) -> Result<Code, CodeFault>
+    ensures { Gives (λ c. c) result (code_of bytes.now) }
+{
+    let mut reader = Reader::new(bytes);
+    let header = header(&mut reader)?;
+    let configs = items(alloc, &mut reader, header.configs)?;
+    let labels = labels(alloc, &mut reader, header.configs, header.labels)?;
+    let lines = items(alloc, &mut reader, header.lines)?;
+    if !reader.rest().is_empty() {
+        return Err(CodeFault::Trailing);
+    }
+    Ok(Code::from_parts(header.plan, configs, labels, lines))
+}
+
+/// The code whose file the bytes are.
+///
+/// A refusal is the first fault in the order of the bytes, as soon as its field is read: `Truncated` where a
+/// field's bytes are missing; `Magic` and `Version` where these are others; `Limit` where one of the three
+/// numbers of the header is above its limit; `Field` with the place of the first byte of a field that is out
+/// of its range; `Trailing` where bytes stand after the last instruction. `Memory` may come at any point.
+pub fn decode(alloc: Global, bytes: &[u8]) -> Result<Code, CodeFault>
+    // What is read is within the limits of codes, and the bytes are its file.
+    ensures formed { IfOk result (λ c. IsProgram c) }
+    ensures found { IfOk result (λ c. bytes.now ≡ code_bytes c) }
+    // The file of a code is read as this code, unless memory runs out.
+    ensures only { (p : Program) → IsProgram p → bytes.now ≡ code_bytes p → Gives (λ c. c) result (Ok p) }
+    // Which fault it is.
+    ensures first_fault { Gives (λ c. c) result (code_of bytes.now) }
+{
+    whole(alloc, bytes)
+}
