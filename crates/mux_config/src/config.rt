@@ -40,7 +40,11 @@ impl Config {
     }
 
     /// The configuration of these three sets, which must be one.
-    pub fn of(subs: Table<Sub, 64>, services: Table<Service, 64>, packets: Table<Packet, 64>) -> Config
+    pub fn of(
+        subs: Table<Sub, 64>,
+        services: Table<Service, 64>,
+        packets: Table<Packet, 64>,
+    ) -> Config
         requires { IsConfiguration (record { subs = subs; services = services; packets = packets }) }
         ensures { result ≡ record { subs = subs; services = services; packets = packets } }
     {
