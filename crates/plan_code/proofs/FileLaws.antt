@@ -435,3 +435,7 @@ formed_so bytes (Err e) fits given = tt
 
 pub read_so : (bytes : List ℕ) (r : Result Program CodeFault) (p : Program) → IsProgram p → bytes ≡ code_bytes p → Gives (λ (q : Program). q) r (code_of bytes) → Gives (λ (q : Program). q) r (Ok p)
 read_so bytes r p is e given = subst (λ (f : Result Program CodeFault). Gives (λ (q : Program). q) r f) (ap code_of e ∙ code_again p is) given
+
+pub written_again : {V E : Type 0} (items : V → List ℕ) (r : Result V E) (p : Program) → IsProgram p → IfOk r (λ v. items v ≡ code_bytes p) → IfOk r (λ v. code_of (items v) ≡ Ok p)
+written_again items (Ok v) p is spelled = ap code_of spelled ∙ code_again p is
+written_again items (Err e) p is spelled = tt

@@ -16,10 +16,10 @@ use mux_config::{Config, Reader, read_config};
 use std::alloc::Global;
 
 /// The letters DABP.
-const MAGIC: u32 = 0x4441_4250;
+pub(crate) const MAGIC: u32 = 0x4441_4250;
 
 /// The version of the format.
-const VERSION: u8 = 1;
+pub(crate) const VERSION: u8 = 1;
 
 fn magic(reader: &mut Reader) -> Result<u32, CodeFault>
     ensures read { GivesNext (λ n. n) result reader.new (magic_at reader.old.rest) }

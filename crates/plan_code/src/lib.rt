@@ -8,6 +8,7 @@
 
 pub mod code;
 mod code_reader;
+mod code_writer;
 pub mod fault;
 pub mod flags;
 pub mod hold;
@@ -24,6 +25,7 @@ mod read_line;
 
 pub use code::Code;
 pub use code_reader::decode;
+pub use code_writer::encode;
 pub use fault::CodeFault;
 pub use flags::{Contacts, Counters};
 pub use hold::Hold;

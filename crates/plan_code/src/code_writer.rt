@@ -1,0 +1,233 @@
+//! Writing a code file.
+
+ghost use Rattle.std.specs.Prelude.{◌≡◌, ℕ, ◌++◌, ◌∷◌, [], List, length, Ok, OnOk, IfOk};
+ghost use Rattle.std.specs.List.{flat_map};
+ghost use Rattle.mux_config.specs.Spelling.{sub_bytes, packet_bytes, config_bytes};
+ghost use Rattle.plan_code.specs.Program.{IsProgram};
+ghost use Rattle.plan_code.specs.Spelling.{plan_bytes, header_bytes, pending_bytes, label_bytes, carrier_bytes, edit_bytes, instr_bytes, line_bytes, code_bytes};
+ghost use Rattle.plan_code.specs.Reading.{code_of};
+
+use crate::code::Code;
+use crate::code_reader::{MAGIC, VERSION};
+use crate::flags::Counters;
+use crate::instr::{Instr, Line};
+use crate::label::Label;
+use crate::plan::Plan;
+use mux_config::record_writer::{
+    put_component, put_config, put_long, put_protection, put_sid, put_word,
+};
+use mux_config::{Carrier, Config, Edit, NewSub, Packet};
+use std::alloc::{AllocError, Global};
+
+fn put_plan(out: &mut Vec<u8>, plan: Plan) -> Result<(), AllocError>
+    ensures { OnOk result (out.new.items ≡ out.old.items ++ plan_bytes plan) }
+{
+    put_word(out, plan.eid)?;
+    out.extend_from_slice(&[plan.period, plan.notice, plan.budget])
+}
+
+fn put_pending(out: &mut Vec<u8>, pending: Option<(u16, u16)>) -> Result<(), AllocError>
+    ensures { OnOk result (out.new.items ≡ out.old.items ++ pending_bytes pending) }
+{
+    match pending {
+        None => {
+            out.push(0)?;
+            put_word(out, 0)?;
+            put_word(out, 0)
+        }
+        Some((low, high)) => {
+            out.push(1)?;
+            put_word(out, low)?;
+            put_word(out, high)
+        }
+    }
+}
+
+fn put_new_sub(out: &mut Vec<u8>, new_sub: NewSub) -> Result<(), AllocError>
+    ensures { OnOk result (out.new.items ≡ out.old.items ++ sub_bytes new_sub) }
+{
+    let sub = new_sub.get();
+    out.push(sub.id.get())?;
+    put_word(out, sub.start)?;
+    put_protection(out, sub.protection)?;
+    put_word(out, sub.kbits)
+}
+
+fn put_new_packet(out: &mut Vec<u8>, packet: Packet) -> Result<(), AllocError>
+    ensures { OnOk result (out.new.items ≡ out.old.items ++ packet_bytes packet) }
+{
+    put_word(out, packet.scid.get())?;
+    out.extend_from_slice(&[u8::from(packet.dg), packet.ty.get(), packet.sub.get()])?;
+    put_word(out, packet.address)
+}
+
+fn put_carrier(out: &mut Vec<u8>, carrier: Carrier) -> Result<(), AllocError>
+    ensures { OnOk result (out.new.items ≡ out.old.items ++ carrier_bytes carrier) }
+{
+    match carrier {
+        Carrier::Sub(id) => {
+            out.push(0)?;
+            put_word(out, u16::from(id.get()))
+        }
+        Carrier::Packet(scid) => {
+            out.push(1)?;
+            put_word(out, scid.get())
+        }
+    }
+}
+
+fn put_edit(out: &mut Vec<u8>, edit: Edit) -> Result<(), AllocError>
+    ensures { OnOk result (out.new.items ≡ out.old.items ++ edit_bytes edit) }
+{
+    match edit {
+        Edit::AddSub(sub) => {
+            out.push(0x10)?;
+            put_new_sub(out, sub)
+        }
+        Edit::DropSub(id) => out.extend_from_slice(&[0x11, id.get()]),
+        Edit::MoveSub { id, start } => {
+            out.extend_from_slice(&[0x12, id.get()])?;
+            put_word(out, start.get())
+        }
+        Edit::RateSub { id, kbits } => {
+            out.extend_from_slice(&[0x13, id.get()])?;
+            put_word(out, kbits)
+        }
+        Edit::AddService(sid) => {
+            out.push(0x14)?;
+            put_sid(out, sid)
+        }
+        Edit::DropService(sid) => {
+            out.push(0x15)?;
+            put_sid(out, sid)
+        }
+        Edit::AddComponent { sid, component } => {
+            out.push(0x16)?;
+            put_sid(out, sid)?;
+            put_component(out, &component)
+        }
+        Edit::DropComponent { sid, carrier } => {
+            out.push(0x17)?;
+            put_sid(out, sid)?;
+            put_carrier(out, carrier)
+        }
+        Edit::AddPacket(packet) => {
+            out.push(0x18)?;
+            put_new_packet(out, packet)
+        }
+        Edit::DropPacket(scid) => {
+            out.push(0x19)?;
+            put_word(out, scid.get())
+        }
+    }
+}
+
+fn put_instr(out: &mut Vec<u8>, instr: Instr) -> Result<(), AllocError>
+    ensures { OnOk result (out.new.items ≡ out.old.items ++ instr_bytes instr) }
+{
+    match instr {
+        Instr::Wait(frames) => {
+            out.push(0x01)?;
+            put_word(out, frames.get())
+        }
+        Instr::Until(frame) => {
+            out.push(0x02)?;
+            put_long(out, frame.get())
+        }
+        Instr::WaitContact { contact, closed } => {
+            out.extend_from_slice(&[0x03, contact.get(), u8::from(closed)])
+        }
+        Instr::CommitIn(delay) => {
+            out.push(0x04)?;
+            put_word(out, delay.get())
+        }
+        Instr::CommitAt(count) => {
+            out.push(0x05)?;
+            put_word(out, count)
+        }
+        Instr::Join => out.extend_from_slice(&[0x06]),
+        Instr::End => out.extend_from_slice(&[0x07]),
+        Instr::Edit(edit) => put_edit(out, edit),
+        Instr::Test { contact, target } => {
+            out.extend_from_slice(&[0x20, contact.get()])?;
+            put_word(out, target)
+        }
+        Instr::Jump(target) => {
+            out.push(0x21)?;
+            put_word(out, target)
+        }
+        Instr::Set { counter, times } => {
+            out.extend_from_slice(&[0x22, counter.get()])?;
+            put_word(out, times.get())
+        }
+        Instr::Loop { counter, target } => {
+            out.extend_from_slice(&[0x23, counter.get()])?;
+            put_word(out, target)
+        }
+    }
+}
+
+fn put_configs(out: &mut Vec<u8>, configs: &[Config]) -> Result<(), AllocError>
+    ensures { OnOk result (out.new.items ≡ out.old.items ++ flat_map config_bytes configs.now) }
+{
+    for config in configs {
+        put_config(out, config)?;
+    }
+    Ok(())
+}
+
+fn put_labels(out: &mut Vec<u8>, labels: &[Label]) -> Result<(), AllocError>
+    ensures { OnOk result (out.new.items ≡ out.old.items ++ flat_map label_bytes labels.now) }
+{
+    for label in labels {
+        put_label(out, *label)?;
+    }
+    Ok(())
+}
+
+fn put_lines(out: &mut Vec<u8>, lines: &[Line]) -> Result<(), AllocError>
+    ensures { OnOk result (out.new.items ≡ out.old.items ++ flat_map line_bytes lines.now) }
+{
+    for line in lines {
+        put_word(out, line.number)?;
+        put_instr(out, line.instr)?;
+    }
+    Ok(())
+}
+
+fn put_label(out: &mut Vec<u8>, label: Label) -> Result<(), AllocError>
+    ensures { OnOk result (out.new.items ≡ out.old.items ++ label_bytes label) }
+{
+    put_word(out, label.pc)?;
+    put_word(out, label.cur)?;
+    put_word(out, label.next)?;
+    put_pending(out, label.pending)?;
+    let Counters(counters) = label.counters;
+    out.extend_from_slice(&[counters, label.cost])
+}
+
+fn file(alloc: Global, code: &Code) -> Result<Vec<u8>, AllocError>
+    ensures spelled { IfOk result (λ v. v.items ≡ code_bytes code.now) }
+    ensures formed { IsProgram code.now }
+{
+    let plan = code.plan();
+    let mut out = Vec::new(alloc);
+    put_long(&mut out, MAGIC)?;
+    out.push(VERSION)?;
+    put_plan(&mut out, plan)?;
+    put_word(&mut out, code.configs().len() as u16)?;
+    put_word(&mut out, code.labels().len() as u16)?;
+    put_word(&mut out, code.lines().len() as u16)?;
+    put_configs(&mut out, code.configs())?;
+    put_labels(&mut out, code.labels())?;
+    put_lines(&mut out, code.lines())?;
+    Ok(out)
+}
+
+/// The file of a code. Reading it gives the code again.
+pub fn encode(alloc: Global, code: &Code) -> Result<Vec<u8>, AllocError>
+    ensures spelled { IfOk result (λ v. v.items ≡ code_bytes code.now) }
+    ensures again { IfOk result (λ v. code_of v.items ≡ Ok code.now) }
+{
+    file(alloc, code)
+}
