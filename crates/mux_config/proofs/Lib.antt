@@ -12,5 +12,6 @@ pub mod ReadingLoops
 pub mod RecordLaws
 pub mod Tables
 pub mod Keeping
+pub mod Members
 mod EditVectors
 mod Vectors

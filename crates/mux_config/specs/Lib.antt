@@ -4,6 +4,7 @@ pub mod Edits
 pub mod Entries
 pub mod Facts
 pub mod Reading
+pub mod Sets
 pub mod Sound
 pub mod Spelling
 pub mod Tables

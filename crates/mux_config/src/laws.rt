@@ -3,6 +3,9 @@
 ghost use Rattle.mux_config.specs.Change.{ChangeTells};
 ghost use Rattle.mux_config.specs.Edits.{EditsKeep};
 ghost use Rattle.mux_config.specs.Facts.{FactsTell};
+ghost use Rattle.mux_config.specs.Sets.{HasOneList, WithAdds, WithoutTakes, ChangedReplaces};
+
+use crate::table::Keyed;
 
 /// The law of facts: the entries of FIG 0/1 to 0/3 tell configurations apart, so that what is heard of
 /// one names it (EN 300 401 clauses 6.2.1, 6.3.1 and 6.3.2). The function does nothing; its contract is
@@ -26,4 +29,14 @@ pub fn changes()
 /// nothing; its contract is the law.
 pub fn edits()
     ensures { EditsKeep }
+{}
+
+/// The laws of sets: a list in ascending order of its keys is a finite set, and the words in which edits are
+/// defined add a member to it, take one away and replace one. The function does nothing; its contract is the
+/// laws.
+pub fn sets<T: Keyed>()
+    ensures one_list { HasOneList T.key }
+    ensures adds { WithAdds T.key }
+    ensures takes { WithoutTakes T.key }
+    ensures replaces { ChangedReplaces T.key }
 {}

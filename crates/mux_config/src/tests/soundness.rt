@@ -125,3 +125,10 @@ fn changes_of_the_two_organizations(rt: HostRuntime) -> Result<(), Fail> {
     }
     Ok(())
 }
+
+#[test]
+fn laws_of_sets_hold_of_each_of_the_three() {
+    laws::sets::<Sub>();
+    laws::sets::<Service>();
+    laws::sets::<Packet>();
+}
