@@ -1,11 +1,10 @@
 -- Lists in ascending order as sets.
-use Rattle.std.proofs.Common.{◌≡◌, ◌≢◌, ℕ, zero, suc, ◌+◌, ◌<◌, ◌≤◌, ◌==◌, Bool, true, false, not, cond, ltb, eqb, List, [], ◌∷◌, length, map, Contains, Option, None, refl, sym, ap, ◌∙◌, subst, ◌⊎◌, ◌↔◌, inl, inr, arith}
+use Rattle.std.proofs.Common.{◌≡◌, ◌≢◌, ℕ, ◌<◌, ◌==◌, Bool, true, false, not, cond, ltb, eqb, List, [], ◌∷◌, map, Contains, refl, sym, ap, ◌∙◌, subst, ◌⊎◌, inl, inr, arith}
 use Rattle.std.specs.List.{filter}
 use Rattle.std.proofs.lemmas.Bool.{false≢true, eqb-true, eqb-false, eq-eqb, ne_eqb}
 use Rattle.mux_config.specs.Configuration.{Each, IsAscending}
-use Rattle.mux_config.specs.Tables.{entry_at, with_entry, without_entry}
-use Rattle.mux_config.specs.Edits.{changed_at}
-use Rattle.mux_config.specs.Sets.{HasOneList, IsSetOf, WithAdds, WithoutTakes, ChangedReplaces}
+use Rattle.mux_config.specs.Tables.{with_entry}
+use Rattle.mux_config.specs.Sets.{HasOneList, WithAdds, WithoutTakes, ChangedReplaces}
 use Rattle.mux_config.proofs.Sounding.{contains_cases, contains_first, contains_later, contains_none, each_contains}
 use Rattle.mux_config.proofs.Tables.{each_weaker, ascends_with, ascends_without}
 

@@ -1,6 +1,6 @@
 -- That the lists in ascending order are finite sets, and that the words of the tables add a member, take one
 -- away and replace one.
-use Rattle.std.specs.Prelude.{◌≡◌, ◌≢◌, ℕ, ◌⊎◌, ◌↔◌, List, Option, None, Contains}
+use Rattle.std.specs.Prelude.{◌≡◌, ◌≢◌, ℕ, ◌⊎◌, ◌↔◌, List, None, Contains}
 use Rattle.mux_config.specs.Configuration.{IsAscending}
 use Rattle.mux_config.specs.Tables.{entry_at, with_entry, without_entry}
 use Rattle.mux_config.specs.Edits.{changed_at}

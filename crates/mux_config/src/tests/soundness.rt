@@ -3,7 +3,10 @@
 use super::parts::{
     add_component, carried, drop_component, move_sub, packet, rate_sub, sc_id, sound, sub, sub_id,
 };
-use crate::{Carrier, Change, Config, ConfigFault, Edit, Sid, Store, Sub, change, soundness};
+use crate::{
+    Carrier, Change, Config, ConfigFault, Edit, Packet, Service, Sid, Store, Sub, change, laws,
+    soundness,
+};
 use std::test::Fail;
 
 /// Only these sub-channels.
