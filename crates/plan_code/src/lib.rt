@@ -33,3 +33,6 @@ pub use instr::{Instr, Line};
 pub use label::Label;
 pub use numbers::{ContactId, CounterId, DayFrame, Delay, Frames, Times};
 pub use plan::Plan;
+
+#[cfg(test)]
+mod tests;
