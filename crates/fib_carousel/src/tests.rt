@@ -1,2 +1,4 @@
+mod divisions;
 mod fixtures;
+mod largest;
 mod vectors;
