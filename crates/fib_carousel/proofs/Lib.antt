@@ -7,3 +7,4 @@ pub mod Sendable
 pub mod Sent
 pub mod Hearing
 pub mod Sides
+pub mod Most

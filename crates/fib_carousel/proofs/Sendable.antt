@@ -56,7 +56,7 @@ pub length-component_entries : (cs : List Component) → length (component_entri
 length-component_entries [] = refl
 length-component_entries (c ∷ cs) = ap suc (length-map cs (component_entry false))
 
-service_small : (sid : Sid) (n : ℕ) → n ≤ component_limit sid → (n ≤ 12) × (sid_size sid + 1 + 2 * n ≤ 28)
+pub service_small : (sid : Sid) (n : ℕ) → n ≤ component_limit sid → (n ≤ 12) × (sid_size sid + 1 + 2 * n ≤ 27)
 service_small (Short k) n h = (h, omega (arith, h))
 service_small (Long k) n h = (omega (arith, h), omega (arith, h))
 

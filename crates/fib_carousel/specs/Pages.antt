@@ -1,7 +1,7 @@
 -- Which entries each page has.
 use Rattle.std.specs.Prelude.{◌≡◌, ℕ, ◌+◌, ◌*◌, ◌<◌, ◌≤◌, zero, suc, true, false, List, [], ◌++◌, Option, Some, None, Contains}
 use Rattle.mux_config.specs.Facts.{Marked, facts_of}
-use Rattle.mux_config.specs.Configuration.{Configuration}
+use Rattle.mux_config.specs.Configuration.{Configuration, IsConfiguration}
 use Rattle.fib_carousel.specs.Packing.{packing, rounds_of, entries_in_fib, entries_in_page}
 
 -- the entries of a page set, in the packing's order: those of the current configuration, marked as current,
@@ -42,3 +42,9 @@ abbrev pub PageIsFibs : Type 0
 PageIsFibs =
     (es : List Marked) (k : ℕ)
     → page_entries k es ≡ fib_entries (3 * k) es ++ fib_entries (3 * k + 1) es ++ fib_entries (3 * k + 2) es
+
+-- the most pages that a configuration needs, and that two side by side need
+abbrev pub MostPages : Type 0
+MostPages =
+    (c d : Configuration) → IsConfiguration c → IsConfiguration d
+    → (rounds (page_set c None) ≤ 41) × (rounds (page_set c (Some d)) ≤ 81)

@@ -7,7 +7,7 @@ use crate::place::Place;
 
 /// How far the row was walked: the number of the next entry, and the place of the one before it.
 #[derive(Clone, Copy, Debug, PartialEq, Eq)]
-pub struct Cursor {
+pub(crate) struct Cursor {
     /// The number of the next entry, from 0.
     pub at: u16,
     /// The place of the entry before it.
@@ -29,7 +29,7 @@ impl Cursor {
 
 /// Some successive entries of a row.
 #[derive(Clone, Copy, Debug, PartialEq, Eq)]
-pub struct Span {
+pub(crate) struct Span {
     /// The number of the first one.
     pub from: u16,
     /// The number after that of the last one.

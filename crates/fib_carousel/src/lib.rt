@@ -6,16 +6,15 @@
 #![tactic(auto)]
 
 pub mod carousel;
-pub mod cursor;
-pub mod fact;
-pub mod figs;
+mod cursor;
+mod fact;
+mod figs;
 pub mod laws;
-pub mod page_set;
-pub mod place;
-pub mod row;
+mod page_set;
+mod place;
+mod row;
 
 pub use carousel::{page, pages};
-pub use place::{Place, Shape};
 
 #[cfg(test)]
 mod tests;

@@ -16,7 +16,7 @@ use mux_config::{Entry, Packet, Service, Sid, Store, Sub};
 
 /// A member of one of the three sets of a configuration.
 #[derive(Drop)]
-pub enum Item<'a> {
+enum Item<'a> {
     /// A sub-channel.
     Sub(Sub),
     /// A service.

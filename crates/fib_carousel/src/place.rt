@@ -9,7 +9,7 @@ use fib_codec::Head;
 
 /// What the packing needs to know of an entry: the head of the FIG that it goes into, and its bytes.
 #[derive(Clone, Copy, Debug, PartialEq, Eq)]
-pub struct Shape {
+pub(crate) struct Shape {
     /// The head that its FIG has.
     pub head: Head,
     /// How many bytes it takes.
@@ -19,7 +19,7 @@ pub struct Shape {
 /// Where the entry before stands: the number of its FIB in the row of pages, the bytes of that FIB that are
 /// taken so far, and the head of its FIG. No head stands at the start, before the first entry.
 #[derive(Clone, Copy, Debug, PartialEq, Eq)]
-pub struct Place {
+pub(crate) struct Place {
     /// The number of the FIB, from 0.
     pub fib: usize,
     /// The bytes taken by the FIGs of this FIB so far, FIG 0/0 apart: at most 30.

@@ -10,7 +10,7 @@ use crate::place::{Place, Shape};
 use mux_config::Entry;
 
 /// A row of entries in the order in which they are packed.
-pub trait Row {
+pub(crate) trait Row {
     ghost use Rattle.std.specs.Prelude.{List};
     ghost use Rattle.mux_config.specs.Facts.{Marked};
     ghost use Rattle.fib_carousel.specs.Row.{AreSendable, IsShapeAt};

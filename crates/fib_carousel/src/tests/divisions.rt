@@ -26,7 +26,11 @@ type Ends = [u32; FIBS];
 
 /// The bits of the numbers of bytes that a FIB has room for.
 fn fitting(fib: usize) -> u32 {
-    if fib % 3 == 0 { (1 << 24) - 1 } else { (1 << 31) - 1 }
+    if fib % 3 == 0 {
+        (1 << 24) - 1
+    } else {
+        (1 << 31) - 1
+    }
 }
 
 /// The ends of all divisions with one entry more. `first` says that it is the first of all.
@@ -80,7 +84,9 @@ fn taken_in(fib: &[u8]) -> usize {
 
 /// Adds an entry at the end of the list of the slow program.
 fn list_entry(list: &mut List, size: u8, alike: bool) -> Result<(), Fail> {
-    list.try_push(Listed { size, alike }).ok().ok_or("a short list")?;
+    list.try_push(Listed { size, alike })
+        .ok()
+        .ok_or("a short list")?;
     Ok(())
 }
 
@@ -118,7 +124,10 @@ fn compare(rt: &impl std::process::Abort, current: &Config, next: &Config, list:
     for k in 0..count {
         let bytes = page(current, Some(next), k, None);
         for place in 0..3 {
-            let want = sizes.get(k.saturating_mul(3).saturating_add(place)).copied().unwrap_or(0);
+            let want = sizes
+                .get(k.saturating_mul(3).saturating_add(place))
+                .copied()
+                .unwrap_or(0);
             let fib = &bytes[32 * place..32 * place + 32];
             assert_eq!(rt; taken_in(fib), want as usize, "page {k}, FIB {place}");
         }
@@ -130,8 +139,20 @@ fn pages_are_those_of_the_least_division(rt: HostRuntime) -> Result<(), Fail> {
     for few in 0..13 {
         for many in 0..13 {
             let mut list = List::new();
-            let current = small((few + 2 * many) % 9, few, many, u16::from(3 * few + many) % 7, &mut list)?;
-            let next = small((3 * few + many) % 8, many, few, u16::from(few) % 4, &mut list)?;
+            let current = small(
+                (few + 2 * many) % 9,
+                few,
+                many,
+                u16::from(3 * few + many) % 7,
+                &mut list,
+            )?;
+            let next = small(
+                (3 * few + many) % 8,
+                many,
+                few,
+                u16::from(few) % 4,
+                &mut list,
+            )?;
             compare(&rt, &current, &next, list.as_slice());
         }
     }

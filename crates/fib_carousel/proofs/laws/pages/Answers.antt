@@ -1,4 +1,5 @@
 use Rattle.fib_carousel.proofs.Pieces.{pages_are_all, each_in_a_page, none_beyond, page_is_fibs}
+use Rattle.fib_carousel.proofs.Most.{most_pages}
 use Rattle.fib_carousel.proofs.laws.pages.Goals as goal
 
 pub returns-clause-all : goal.returns-clause-all
@@ -12,3 +13,6 @@ returns-clause-beyond c = none_beyond
 
 pub returns-clause-fibs : goal.returns-clause-fibs
 returns-clause-fibs c = page_is_fibs
+
+pub returns-clause-most : goal.returns-clause-most
+returns-clause-most c = most_pages
