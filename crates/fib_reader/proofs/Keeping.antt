@@ -6,7 +6,7 @@ use Rattle.std.proofs.lemmas.Bool.{ltb-false, ltb-true, cases_lt, eq-eqb, ne_eqb
 use Rattle.mux_config.specs.Configuration.{Each, IsAscending}
 use Rattle.mux_config.specs.Tables.{entry_at, with_entry, with_entry_changed}
 use Rattle.mux_config.specs.Edits.{has_entry}
-use Rattle.std.specs.Prelude.{option_copied}
+use Rattle.std.specs.Prelude.{option_copied, slice_get}
 use Rattle.std.proofs.Common.{Bor, take}
 use Rattle.std.proofs.Math.Seq.{take-append_seam}
 use Rattle.fib_reader.specs.Raw.{Raw, IsRaw}
@@ -157,3 +157,44 @@ pub each_after :
     → (b ≡ false → new ≡ old) → Each P new
 each_after P raw old new true one all taken refused = subst (Each P) (sym (taken refl)) (each_kept P raw old one all)
 each_after P raw old new false one all taken refused = subst (Each P) (sym (refused refl)) all
+
+-- ---- an entry that is there already
+
+unchanged_above : (raw : Raw) (raws : List Raw) → Each (λ x. identifier_of raw < identifier_of x) raws → with_entry_changed identifier_of raw raws ≡ raws
+unchanged_above raw [] above = refl
+unchanged_above raw (x ∷ xs) above =
+    let other : identifier_of x ≢ identifier_of raw = (let lt = above.0 in λ e. omega arith) in
+    ap (λ b. cond b raw x ∷ with_entry_changed identifier_of raw xs) (ne_eqb (identifier_of x) (identifier_of raw) other)
+    ∙ ap (λ t. x ∷ t) (unchanged_above raw xs above.1)
+
+each_found : (P : Raw → Type 0) (raws : List Raw) (place : ℕ) (raw : Raw) → Each P raws → slice_get raws place ≡ Some raw → P raw
+each_found P [] place raw all found = absurd (cc)
+each_found P (x ∷ xs) zero raw all found = let same : x ≡ raw = (cc) in subst P same all.0
+each_found P (x ∷ xs) (suc i) raw all found = each_found P xs i raw all.1 found
+
+pub changed_for_same :
+    (raw : Raw) (raws : List Raw) (place : ℕ) → IsAscending identifier_of raws → slice_get raws place ≡ Some raw
+    → with_entry_changed identifier_of raw raws ≡ raws
+changed_for_same raw [] place up found = refl
+changed_for_same raw (x ∷ xs) zero up found =
+    let same : x ≡ raw = (cc) in
+    ap (λ b. cond b raw x ∷ with_entry_changed identifier_of raw xs) (eq-eqb (identifier_of x) (identifier_of raw) (ap identifier_of same))
+    ∙ ap (λ t. raw ∷ t) (unchanged_above raw xs (subst (λ (y : Raw). Each (λ z. identifier_of y < identifier_of z) xs) same up.0))
+    ∙ ap (λ y. y ∷ xs) (sym same)
+changed_for_same raw (x ∷ xs) (suc i) up found =
+    let less : identifier_of x < identifier_of raw = each_found (λ y. identifier_of x < identifier_of y) xs i raw up.0 found in
+    ap (λ b. cond b raw x ∷ with_entry_changed identifier_of raw xs) (ne_eqb (identifier_of x) (identifier_of raw) (λ e. omega arith))
+    ∙ ap (λ t. x ∷ t) (changed_for_same raw xs i up.1 found)
+
+pub known_where_found : (raw : Raw) (raws : List Raw) (place : ℕ) → slice_get raws place ≡ Some raw → is_known raw raws ≡ true
+known_where_found raw [] place found = absurd (cc)
+known_where_found raw (x ∷ xs) zero found =
+    let same : x ≡ raw = (cc) in
+    or_left (identifier_of x == identifier_of raw) _ (eq-eqb (identifier_of x) (identifier_of raw) (ap identifier_of same))
+known_where_found raw (x ∷ xs) (suc i) found =
+    or_right (identifier_of x == identifier_of raw) _ (known_where_found raw xs i found)
+
+pub kept_where_found :
+    (raw : Raw) (raws : List Raw) (place : ℕ) → IsAscending identifier_of raws → slice_get raws place ≡ Some raw → raws ≡ kept raw raws
+kept_where_found raw raws place up found =
+    sym (kept-known raw raws (known_where_found raw raws place found) ∙ changed_for_same raw raws place up found)

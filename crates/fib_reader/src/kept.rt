@@ -1,6 +1,6 @@
 //! An entry with bytes of its own, as a picture keeps it.
 
-ghost use Rattle.std.specs.Prelude.{◌≡◌};
+ghost use Rattle.std.specs.Prelude.{◌≡◌, IsTrue};
 
 use crate::entries::RawEntry;
 use mux_config::Keyed;
@@ -43,6 +43,17 @@ impl Kept {
             ext: entry.ext(),
             long: entry.long(),
         }
+    }
+
+    /// Whether it is this entry.
+    pub fn is(&self, entry: &RawEntry<'_>) -> bool
+        ensures { IsTrue result → self.now ≡ entry.now }
+    {
+        let given = entry.bytes();
+        if usize::from(self.len) != given.len() || self.ext != entry.ext() || self.long != entry.long() {
+            return false;
+        }
+        &self.bytes[..usize::from(self.len)] == given
     }
 
     /// The entry, lent.

@@ -12,6 +12,7 @@ pub mod listener;
 mod members;
 pub mod picture;
 mod said;
+mod shelf;
 mod value;
 
 pub use checking::check;

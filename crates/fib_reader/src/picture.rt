@@ -7,37 +7,17 @@ ghost use Rattle.fib_reader.specs.Listening.{has_room, kept, identifier_of};
 use crate::entries::RawEntry;
 use crate::kept::Kept;
 use crate::members::members;
-use mux_config::{Config, Packet, Service, Sub, Table};
+use crate::shelf::Shelf;
+use mux_config::{Config, Packet, Service, Sub};
 use std::marker::Model;
-
-/// Puts an entry in place of the one with the same identifier, or beside the others where there is room.
-/// The answer is whether that was so; where it was not, nothing changes.
-fn keep(table: &mut Table<Kept, 64>, identifier: u64, entry: &RawEntry<'_>) -> bool
-    requires { identifier ≡ identifier_of entry.now }
-    ensures taken { result ≡ true → has_room entry.now table.old ≡ true }
-    ensures kept { result ≡ true → table.new ≡ kept entry.now table.old }
-    ensures refused { result ≡ false → has_room entry.now table.old ≡ false }
-    ensures unchanged { result ≡ false → table.new ≡ table.old }
-    ensures ascending { IsAscending identifier_of table.old }
-{
-    if table.get(identifier).is_some() {
-        table.replace(Kept::of(entry));
-        return true;
-    }
-    if table.is_full() {
-        return false;
-    }
-    table.insert(Kept::of(entry));
-    true
-}
 
 /// What a receiver has heard of one configuration: entries of FIG 0/1 to 0/3, told from one another by
 /// their identifiers. Contracts see it as three lists of entries as they were sent, each in ascending order.
 #[derive(Drop)]
 pub struct Picture {
-    subs: Table<Kept, 64>,
-    services: Table<Kept, 64>,
-    packets: Table<Kept, 64>,
+    subs: Shelf,
+    services: Shelf,
+    packets: Shelf,
 }
 
 impl Model for Picture {
@@ -62,9 +42,9 @@ impl Picture {
         ensures { result ≡ blank }
     {
         Picture {
-            subs: Table::new(),
-            services: Table::new(),
-            packets: Table::new(),
+            subs: Shelf::new(),
+            services: Shelf::new(),
+            packets: Shelf::new(),
         }
     }
 
@@ -87,9 +67,9 @@ impl Picture {
     {
         let identifier = entry.identifier();
         match entry.ext() {
-            1 => keep(&mut self.subs, identifier, entry),
-            2 => keep(&mut self.services, identifier, entry),
-            _ => keep(&mut self.packets, identifier, entry),
+            1 => self.subs.keep(identifier, entry),
+            2 => self.services.keep(identifier, entry),
+            _ => self.packets.keep(identifier, entry),
         }
     }
 

@@ -2,6 +2,7 @@
 
 use fib_codec::crc16;
 
+mod hearing;
 mod reading;
 
 /// The FIB of these data bytes, which zeros follow up to the thirtieth, with its CRC.
