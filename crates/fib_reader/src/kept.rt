@@ -50,7 +50,10 @@ impl Kept {
         ensures { IsTrue result → self.now ≡ entry.now }
     {
         let given = entry.bytes();
-        if usize::from(self.len) != given.len() || self.ext != entry.ext() || self.long != entry.long() {
+        if usize::from(self.len) != given.len()
+            || self.ext != entry.ext()
+            || self.long != entry.long()
+        {
             return false;
         }
         &self.bytes[..usize::from(self.len)] == given

@@ -4,11 +4,10 @@ ghost use Rattle.std.specs.Prelude.{◌≡◌, ◌≤◌, true, false, length, I
 ghost use Rattle.mux_config.specs.Configuration.{IsAscending};
 ghost use Rattle.fib_reader.specs.Listening.{has_room, kept, identifier_of};
 
-use mux_config::Table;
-use std::marker::Model;
-
 use crate::entries::RawEntry;
 use crate::kept::Kept;
+use mux_config::Table;
+use std::marker::Model;
 
 /// At most 64 entries of one extension. Contracts see them as a list in ascending order of identifiers.
 #[derive(Drop)]
@@ -73,9 +72,7 @@ impl Shelf {
     {
         let place = usize::from(self.hints[(identifier % 64) as usize]);
         match self.table.as_slice().get(place) {
-            Some(kept) => {
-                if kept.is(entry) { Some(place) } else { None }
-            }
+            Some(kept) => { if kept.is(entry) { Some(place) } else { None } }
             None => None,
         }
     }

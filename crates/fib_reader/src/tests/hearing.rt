@@ -1,15 +1,17 @@
 //! FIBs heard.
 
-use std::test::Fail;
-
 use super::fib_of;
 use crate::{FibFault, ListenFault, Listener, Picture};
 use fib_codec::{Fib, Head};
 use mux_config::{Bits, Component, Ensemble, Entry, ScTy, Service, Sub, SubEntry, SubId};
 use mux_eep::EepSet;
+use std::test::Fail;
 
 /// FIG 0/0 of ensemble E1C5 and count 0, a sub-channel of 3-A 128 kbit/s and a service with audio on it.
-const WORKED: [u8; 19] = [0x05, 0x00, 0xE1, 0xC5, 0x00, 0x00, 0x05, 0x01, 0x04, 0x00, 0x88, 0x60, 0x06, 0x02, 0xC2, 0x21, 0x01, 0x3F, 0x06];
+const WORKED: [u8; 20] = [
+    0x05, 0x00, 0xE1, 0xC5, 0x00, 0x00, 0x05, 0x01, 0x04, 0x00, 0x88, 0x60, 0x06, 0x02, 0xC2, 0x21,
+    0x01, 0x3F, 0x06, 0xFF,
+];
 
 /// FIG 0/0 of count 0, which tunes a listener.
 const TUNE: [u8; 7] = [0x05, 0x00, 0xE1, 0xC5, 0x00, 0x00, 0xFF];
@@ -73,7 +75,10 @@ fn entries_before_the_first_ensemble_information(rt: HostRuntime) -> Result<(), 
     let mut listener = listener_of(&short).map_err(|_| "a good FIB")?;
     assert!(rt; has(listener.current(), &[]));
     // the same sub-channel before FIG 0/0, and another one after it
-    let both = [0x04, 0x01, 0x04, 0x00, 0x05, 0x05, 0x00, 0xE1, 0xC5, 0x00, 0x00, 0x04, 0x01, 0x08, 0x60, 0x45, 0xFF];
+    let both = [
+        0x04, 0x01, 0x04, 0x00, 0x05, 0x05, 0x00, 0xE1, 0xC5, 0x00, 0x00, 0x04, 0x01, 0x08, 0x60,
+        0x45, 0xFF,
+    ];
     assert_eq!(rt; listener.hear(&fib_of(&both)), Ok(()));
     assert!(rt; has(listener.current(), &[(1, 2)]));
     assert_eq!(rt; listener.hear(&fib_of(&short)), Ok(()));
@@ -106,7 +111,10 @@ fn faults_change_nothing(rt: HostRuntime) -> Result<(), Fail> {
     }
     // a sub-channel, and then half an entry
     let half = [0x04, 0x01, 0x08, 0x60, 0x45, 0x02, 0x02, 0xC2, 0xFF];
-    assert_eq!(rt; listener.hear(&fib_of(&half)), Err(ListenFault::Fib(FibFault::Entry(7))));
+    assert_eq!(rt;
+        listener.hear(&fib_of(&half)),
+        Err(ListenFault::Fib(FibFault::Entry(7)))
+    );
     assert!(rt; has(listener.current(), &[(1, 1), (2, 0xC221)]));
     assert!(rt; has(listener.next(), &[]));
     assert_eq!(rt; listener.swap_at(), None);
@@ -117,7 +125,10 @@ fn faults_change_nothing(rt: HostRuntime) -> Result<(), Fail> {
 fn figs_passed_over(rt: HostRuntime) -> Result<(), Fail> {
     let mut listener = listener_of(&TUNE).map_err(|_| "a good FIB")?;
     // another ensemble, an extension above 3, a label, and what follows the end marker
-    let others = [0x05, 0x41, 0x04, 0x00, 0x88, 0x60, 0x02, 0x09, 0x00, 0x23, 0x00, 0xE1, 0xC5, 0xFF, 0x04, 0x01, 0x08, 0x60, 0x45];
+    let others = [
+        0x05, 0x41, 0x04, 0x00, 0x88, 0x60, 0x02, 0x09, 0x00, 0x23, 0x00, 0xE1, 0xC5, 0xFF, 0x04,
+        0x01, 0x08, 0x60, 0x45,
+    ];
     assert_eq!(rt; listener.hear(&fib_of(&others)), Ok(()));
     assert!(rt; has(listener.current(), &[]));
     Ok(())
@@ -127,9 +138,17 @@ fn figs_passed_over(rt: HostRuntime) -> Result<(), Fail> {
 fn later_entries_stand_in_place_of_earlier_ones(rt: HostRuntime) -> Result<(), Fail> {
     let mut listener = listener_of(&WORKED).map_err(|_| "a good FIB")?;
     // sub 1 at 0 in the short form, and again at 96 kbit/s; a service with an SId of 32 bits of the same number
-    let later = [0x08, 0x01, 0x04, 0x00, 0x05, 0x04, 0x00, 0x88, 0x48, 0x06, 0x22, 0x00, 0x00, 0xC2, 0x21, 0x00, 0xFF];
+    let later = [
+        0x08, 0x01, 0x04, 0x00, 0x05, 0x04, 0x00, 0x88, 0x48, 0x06, 0x22, 0x00, 0x00, 0xC2, 0x21,
+        0x00, 0xFF,
+    ];
     assert_eq!(rt; listener.hear(&fib_of(&later)), Ok(()));
-    assert!(rt; has(listener.current(), &[(1, 1), (2, 0xC221), (2, 65536 + 0xC221)]));
+    assert!(rt;
+        has(
+            listener.current(),
+            &[(1, 1), (2, 0xC221), (2, 65536 + 0xC221)]
+        )
+    );
     let sub = only_sub(listener.current()).ok_or("one sub-channel")?;
     assert_eq!(rt; sub.kbits, 96);
     Ok(())
@@ -170,7 +189,16 @@ fn service_data(next: u8, sid: u8) -> [u8; 6] {
 
 /// FIG 0/3 with one packet component, with this C/N flag.
 fn packet_data(next: u8, scid: u8) -> [u8; 8] {
-    [0x06, next | 0x03, scid / 16, scid % 16 * 16, 0x3C, 0x14, 0x01, 0xFF]
+    [
+        0x06,
+        next | 0x03,
+        scid / 16,
+        scid % 16 * 16,
+        0x3C,
+        0x14,
+        0x01,
+        0xFF,
+    ]
 }
 
 #[test]
@@ -180,7 +208,9 @@ fn a_picture_has_room_for_64_services(rt: HostRuntime) -> Result<(), Fail> {
         assert_eq!(rt; listener.hear(&fib_of(&service_data(0, sid))), Ok(()));
     }
     // a 65th one after a sub-channel: nothing of this FIB is kept
-    let more = [0x05, 0x01, 0x04, 0x00, 0x88, 0x60, 0x04, 0x02, 0xC2, 0x40, 0x00, 0xFF];
+    let more = [
+        0x05, 0x01, 0x04, 0x00, 0x88, 0x60, 0x04, 0x02, 0xC2, 0x40, 0x00, 0xFF,
+    ];
     assert_eq!(rt; listener.hear(&fib_of(&more)), Err(ListenFault::Full));
     let config = listener.current().config().ok_or("a configuration")?;
     assert_eq!(rt; config.services().len(), 64);
@@ -194,13 +224,20 @@ fn a_picture_has_room_for_64_services(rt: HostRuntime) -> Result<(), Fail> {
 
 #[test]
 fn a_picture_has_room_for_64_packet_components(rt: HostRuntime) -> Result<(), Fail> {
-    let mut listener = listener_of(&[0x06, 0x00, 0xE1, 0xC5, 0xC0, 0x04, 0x1C, 0xFF]).map_err(|_| "a good FIB")?;
+    let mut listener = listener_of(&[0x06, 0x00, 0xE1, 0xC5, 0xC0, 0x04, 0x1C, 0xFF]).map_err(
+        |_| "a good FIB",
+    )?;
     for scid in 0u8..64 {
         assert_eq!(rt; listener.hear(&fib_of(&packet_data(0x80, scid))), Ok(()));
     }
-    assert_eq!(rt; listener.hear(&fib_of(&packet_data(0x80, 64))), Err(ListenFault::Full));
+    assert_eq!(rt;
+        listener.hear(&fib_of(&packet_data(0x80, 64))),
+        Err(ListenFault::Full)
+    );
     // the swap empties the next picture, and then there is room within the same FIB
-    let swap = [0x05, 0x00, 0xE1, 0xC5, 0x00, 0x1C, 0x06, 0x83, 0x04, 0x00, 0x3C, 0x14, 0x01, 0xFF];
+    let swap = [
+        0x05, 0x00, 0xE1, 0xC5, 0x00, 0x1C, 0x06, 0x83, 0x04, 0x00, 0x3C, 0x14, 0x01, 0xFF,
+    ];
     assert_eq!(rt; listener.hear(&fib_of(&swap)), Ok(()));
     assert!(rt; has(listener.next(), &[(3, 64)]));
     let config = listener.current().config().ok_or("a configuration")?;
@@ -222,11 +259,21 @@ fn sub_of_size(size: u16) -> Option<Entry> {
 /// A FIB with FIG 0/0 and one sub-channel, which is of the next configuration where `next` says so.
 fn frame(ensemble: Option<Ensemble>, next: bool, size: u16) -> Option<[u8; 32]> {
     let mut fib = Fib::new();
-    let none = Head { next: false, oe: false, long: false, ext: 0 };
+    let none = Head {
+        next: false,
+        oe: false,
+        long: false,
+        ext: 0,
+    };
     if !fib.try_fig(none, &[Entry::Ensemble(ensemble?)]) {
         return None;
     }
-    let head = Head { next, oe: false, long: false, ext: 1 };
+    let head = Head {
+        next,
+        oe: false,
+        long: false,
+        ext: 1,
+    };
     if !fib.try_fig(head, &[sub_of_size(size)?]) {
         return None;
     }
@@ -240,8 +287,14 @@ fn a_swap_heard(rt: HostRuntime) -> Result<(), Fail> {
     let notice = frame(Ensemble::new(0xE1C5, 1, false, 4, Some(28)), true, 72).ok_or("a FIB")?;
     assert_eq!(rt; listener.hear(&notice), Ok(()));
     assert_eq!(rt; listener.swap_at(), Some(28));
-    assert_eq!(rt; only_sub(listener.current()).ok_or("one sub-channel")?.kbits, 128);
-    assert_eq!(rt; only_sub(listener.next()).ok_or("one sub-channel")?.kbits, 96);
+    assert_eq!(rt;
+        only_sub(listener.current()).ok_or("one sub-channel")?.kbits,
+        128
+    );
+    assert_eq!(rt;
+        only_sub(listener.next()).ok_or("one sub-channel")?.kbits,
+        96
+    );
     // a frame of the notice, at another count
     let later = frame(Ensemble::new(0xE1C5, 1, false, 24, Some(28)), true, 72).ok_or("a FIB")?;
     assert_eq!(rt; listener.hear(&later), Ok(()));
@@ -252,13 +305,22 @@ fn a_swap_heard(rt: HostRuntime) -> Result<(), Fail> {
     assert_eq!(rt; listener.hear(&swap), Ok(()));
     assert_eq!(rt; listener.swap_at(), Some(52));
     assert!(rt; has(listener.current(), &[(1, 1)]));
-    assert_eq!(rt; only_sub(listener.current()).ok_or("one sub-channel")?.kbits, 96);
-    assert_eq!(rt; only_sub(listener.next()).ok_or("one sub-channel")?.kbits, 64);
+    assert_eq!(rt;
+        only_sub(listener.current()).ok_or("one sub-channel")?.kbits,
+        96
+    );
+    assert_eq!(rt;
+        only_sub(listener.next()).ok_or("one sub-channel")?.kbits,
+        64
+    );
     // its swap is missed, and seen by the flags that are gone
     let after = frame(Ensemble::new(0xE1C5, 0, false, 60, None), false, 48).ok_or("a FIB")?;
     assert_eq!(rt; listener.hear(&after), Ok(()));
     assert_eq!(rt; listener.swap_at(), None);
-    assert_eq!(rt; only_sub(listener.current()).ok_or("one sub-channel")?.kbits, 64);
+    assert_eq!(rt;
+        only_sub(listener.current()).ok_or("one sub-channel")?.kbits,
+        64
+    );
     assert!(rt; has(listener.next(), &[]));
     Ok(())
 }
@@ -268,7 +330,8 @@ fn two_ensemble_informations_in_one_fib(rt: HostRuntime) -> Result<(), Fail> {
     let mut listener = listener_of(&TUNE).map_err(|_| "a good FIB")?;
     // a notice of a swap at count 8, a service of the next configuration, and FIG 0/0 of that count
     let both = [
-        0x06, 0x00, 0xE1, 0xC5, 0x80, 0x04, 0x08, 0x04, 0x82, 0xC2, 0x21, 0x00, 0x05, 0x00, 0xE1, 0xC5, 0x00, 0x08, 0xFF,
+        0x06, 0x00, 0xE1, 0xC5, 0x80, 0x04, 0x08, 0x04, 0x82, 0xC2, 0x21, 0x00, 0x05, 0x00, 0xE1,
+        0xC5, 0x00, 0x08, 0xFF,
     ];
     assert_eq!(rt; listener.hear(&fib_of(&both)), Ok(()));
     assert!(rt; has(listener.current(), &[(2, 0xC221)]));
@@ -280,16 +343,19 @@ fn two_ensemble_informations_in_one_fib(rt: HostRuntime) -> Result<(), Fail> {
 /// Three FIBs of one frame that another multiplexer made.
 const OTHERS: [[u8; 32]; 3] = [
     [
-        0x05, 0x00, 0xE1, 0xC5, 0x11, 0xD2, 0x03, 0x07, 0x10, 0x27, 0x10, 0x01, 0x04, 0x00, 0x23, 0x08, 0x60, 0x84, 0x60, 0x14, 0xC0,
-        0x9C, 0x1E, 0xFC, 0xDE, 0x80, 0x18, 0xFF, 0x00, 0x00, 0x83, 0xB9,
+        0x05, 0x00, 0xE1, 0xC5, 0x11, 0xD2, 0x03, 0x07, 0x10, 0x27, 0x10, 0x01, 0x04, 0x00, 0x23,
+        0x08, 0x60, 0x84, 0x60, 0x14, 0xC0, 0x9C, 0x1E, 0xFC, 0xDE, 0x80, 0x18, 0xFF, 0x00, 0x00,
+        0x83, 0xB9,
     ],
     [
-        0x14, 0x02, 0xC2, 0x21, 0x02, 0x00, 0x06, 0x45, 0xFC, 0xC2, 0x22, 0x02, 0x3F, 0x0A, 0xC0, 0x00, 0xC2, 0x24, 0x01, 0x3F, 0x0A,
-        0x06, 0x03, 0x00, 0x00, 0xBC, 0x14, 0x07, 0xFF, 0x00, 0x94, 0xF4,
+        0x14, 0x02, 0xC2, 0x21, 0x02, 0x00, 0x06, 0x45, 0xFC, 0xC2, 0x22, 0x02, 0x3F, 0x0A, 0xC0,
+        0x00, 0xC2, 0x24, 0x01, 0x3F, 0x0A, 0x06, 0x03, 0x00, 0x00, 0xBC, 0x14, 0x07, 0xFF, 0x00,
+        0x94, 0xF4,
     ],
     [
-        0x08, 0x22, 0xE1, 0xC2, 0x00, 0x01, 0x01, 0xC0, 0x06, 0x06, 0x03, 0x00, 0x10, 0x3C, 0x17, 0xFF, 0x0D, 0x01, 0xFC, 0xDE, 0x80,
-        0x18, 0x14, 0xC0, 0x9C, 0x1E, 0x08, 0x60, 0x84, 0x60, 0x51, 0x74,
+        0x08, 0x22, 0xE1, 0xC2, 0x00, 0x01, 0x01, 0xC0, 0x06, 0x06, 0x03, 0x00, 0x10, 0x3C, 0x17,
+        0xFF, 0x0D, 0x01, 0xFC, 0xDE, 0x80, 0x18, 0x14, 0xC0, 0x9C, 0x1E, 0x08, 0x60, 0x84, 0x60,
+        0x51, 0x74,
     ],
 ];
 
@@ -300,7 +366,16 @@ fn fibs_of_another_multiplexer(rt: HostRuntime) -> Result<(), Fail> {
         assert_eq!(rt; listener.hear(fib), Ok(()));
     }
     let expected = [
-        (1, 1), (1, 2), (1, 5), (1, 63), (2, 0xC221), (2, 0xC222), (2, 0xC224), (2, 65536 + 0xE1C2_0001), (3, 0), (3, 1),
+        (1, 1),
+        (1, 2),
+        (1, 5),
+        (1, 63),
+        (2, 0xC221),
+        (2, 0xC222),
+        (2, 0xC224),
+        (2, 65536 + 0xE1C2_0001),
+        (3, 0),
+        (3, 1),
     ];
     assert!(rt; has(listener.current(), &expected));
     assert!(rt; has(listener.next(), &[]));
