@@ -1,0 +1,5 @@
+pub mod Digits
+pub mod Frame
+pub mod Lines
+pub mod Printed
+pub mod Stream

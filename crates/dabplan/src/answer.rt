@@ -1,0 +1,110 @@
+//! The whole program, over its words, its files and its output.
+
+ghost use Rattle.std.specs.Prelude.{◌≤◌};
+
+use crate::command_line::{self, Request, Unasked};
+use crate::ending::{Failure, Status};
+use crate::files::Files;
+use crate::output::Output;
+use crate::{frame, listen};
+use std::alloc::Global;
+use std::convert::AsStr;
+use std::io::{self, Write};
+
+/// The program: does what the words after its name ask for, prints to `out`, and answers its exit status.
+///
+/// 0: done, or help was asked for. 1: refused, a file could not be read, there was no memory, or `out`
+/// failed, after which nothing more is printed. 2: the words are wrong, which is found before a file is
+/// read. What it prints is shown by tests alone.
+pub fn answer<S: AsStr, F: Files, W: Write>(
+    alloc: Global,
+    words: &[S],
+    files: &mut F,
+    out: &mut W,
+) -> u8
+    ensures { result ≤ 2 }
+{
+    let mut output = Output::new(out);
+    let Ok(status) = obey(alloc, words, files, &mut output) else {
+        return Status::Refused as u8;
+    };
+    match output.flush() {
+        Ok(()) => status as u8,
+        Err(_) => Status::Refused as u8,
+    }
+}
+
+fn obey<S: AsStr, F: Files, W: Write>(
+    alloc: Global,
+    words: &[S],
+    files: &mut F,
+    out: &mut W,
+) -> io::Result<Status> {
+    match command_line::request_of(alloc, words) {
+        Ok(Request::Frame(request)) => told(frame::show_frame(alloc, &request, files, out), out),
+        Ok(Request::Listen(path)) => told(listen::show_heard(alloc, path, files, out), out),
+        Err(unasked) => explain(alloc, unasked, out),
+    }
+}
+
+/// Prints the one line of a failure.
+fn told<W: Write>(ended: Result<Status, Failure<'_>>, out: &mut W) -> io::Result<Status> {
+    match ended {
+        Ok(status) => Ok(status),
+        Err(failure) => {
+            writeln!(out, "{failure}")?;
+            Ok(Status::Refused)
+        }
+    }
+}
+
+/// Prints the help that was asked for, or the one line of a mistake on the command line.
+fn explain<W: Write>(alloc: Global, unasked: Unasked<'_>, out: &mut W) -> io::Result<Status> {
+    match unasked {
+        Unasked::Help(help) => {
+            write!(out, "{help}")?;
+            Ok(Status::Done)
+        }
+        Unasked::Mistake(error) => match error.to_string(alloc) {
+            Ok(text) => {
+                mistake(text.as_str(), out)?;
+                Ok(Status::Misused)
+            }
+            Err(_) => told(Err(Failure::Memory), out),
+        },
+        Unasked::Digits { option, value } => {
+            writeln!(
+                out,
+                "error: invalid value '{value}' for '{option}': four digits 0-9 A-F are wanted"
+            )?;
+            Ok(Status::Misused)
+        }
+        Unasked::Nothing => {
+            writeln!(out, "error: a command is wanted: frame, listen or help")?;
+            Ok(Status::Misused)
+        }
+        Unasked::Memory => told(Err(Failure::Memory), out),
+    }
+}
+
+/// One line of an error's text: its lines up to the usage, with a tip after a semicolon.
+fn mistake<W: Write>(text: &str, out: &mut W) -> io::Result<()> {
+    let mut is_first = true;
+    for line in text.lines() {
+        let words = line.trim();
+        if words.starts_with("Usage:") || words.starts_with("For more information") {
+            break;
+        }
+        if !words.is_empty() {
+            if words.starts_with("tip:") {
+                write!(out, ";")?;
+            }
+            if !is_first {
+                write!(out, " ")?;
+            }
+            write!(out, "{words}")?;
+            is_first = false;
+        }
+    }
+    writeln!(out)
+}

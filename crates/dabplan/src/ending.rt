@@ -1,0 +1,46 @@
+//! How a command ends.
+
+use crate::files::FileFault;
+use std::io;
+use thiserror::Error;
+
+/// The exit status of the program.
+#[derive(Clone, Copy, Debug, PartialEq, Eq)]
+pub enum Status {
+    /// What was asked for was done.
+    Done = 0,
+    /// It was refused, or a file could not be read.
+    Refused = 1,
+    /// The command line is wrong.
+    Misused = 2,
+}
+
+/// Why a command could not even judge its input. Each is one printed line, and `Status::Refused`.
+#[derive(Debug, Drop, Error)]
+pub enum Failure<'a> {
+    /// There was no memory.
+    #[error("no memory")]
+    Memory,
+    /// The file of this path could not be read.
+    #[error("cannot read {0}")]
+    Read(&'a str),
+    /// Standard output failed. Nothing more is printed.
+    #[error("cannot write")]
+    Output,
+}
+
+impl<'a> Failure<'a> {
+    /// What it means that the file of this path can't be had.
+    pub fn of_file(fault: FileFault, path: &'a str) -> Self {
+        match fault {
+            FileFault::Failed => Failure::Read(path),
+            FileFault::Memory => Failure::Memory,
+        }
+    }
+}
+
+impl From<io::Error> for Failure<'_> {
+    fn from(_error: io::Error) -> Self {
+        Failure::Output
+    }
+}

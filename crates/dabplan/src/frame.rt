@@ -1,0 +1,108 @@
+//! `dabplan frame`: one frame of the configuration that a record holds.
+
+ghost use Rattle.std.specs.Prelude.{◌≡◌};
+ghost use Rattle.dabplan.specs.Frame.{frame_of, page_or_fault, sent};
+
+use crate::command_line::FrameRequest;
+use crate::ending::{Failure, Status};
+use crate::files::Files;
+use crate::hexadecimal::digits_of_fib;
+use fib_carousel::{page, pages};
+use mux_config::{Config, ConfigFault, Ensemble, RecordFault, read_config, soundness};
+use std::alloc::Global;
+use std::io::{self, Write};
+use thiserror::Error;
+
+/// Why the bytes of a record give no frame, in the order in which [`frame_of`] tests.
+#[derive(Clone, Copy, Debug, PartialEq, Eq, Error)]
+pub enum FrameFault {
+    /// They are no configuration record.
+    #[error("record: {0}")]
+    Record(RecordFault),
+    /// Bytes stand after the record.
+    #[error("record: trailing")]
+    Trailing,
+    /// Its configuration is not sound.
+    #[error("refused: {0}")]
+    Unsound(ConfigFault),
+    /// Its configuration has no page of this number.
+    #[error("refused: no such page")]
+    NoSuchPage,
+}
+
+/// Does what `frame` is asked for: prints the three FIBs, a line each.
+pub fn show_frame<'a, F: Files, W: Write>(
+    alloc: Global,
+    request: &FrameRequest<'a>,
+    files: &mut F,
+    out: &mut W,
+) -> Result<Status, Failure<'a>> {
+    let record = if request.config == "-" {
+        files.input(alloc)
+    } else {
+        files.read(alloc, request.config)
+    };
+    let record = record.map_err(|fault| Failure::of_file(fault, request.config))?;
+    match frame_of(record.as_slice(), request.ensemble, request.page) {
+        Ok(frame) => {
+            print_fibs(&frame, out)?;
+            Ok(Status::Done)
+        }
+        Err(fault) => {
+            writeln!(out, "{fault}")?;
+            Ok(Status::Refused)
+        }
+    }
+}
+
+/// The three FIBs of page `place` of the configuration in a record, with FIG 0/0 of `ensemble` where its
+/// count is a multiple of four (EN 300 401 clause 6.4).
+///
+/// The first fault is answered: `Record`, `Trailing`, `Unsound`, `NoSuchPage`.
+pub fn frame_of(bytes: &[u8], ensemble: Ensemble, place: u16) -> Result<[u8; 96], FrameFault>
+    ensures { result ≡ frame_of ensemble place bytes.now }
+{
+    let (config, length) = match read_config(bytes) {
+        Ok(read) => read,
+        Err(fault) => return Err(FrameFault::Record(fault)),
+    };
+    if length < bytes.len() {
+        return Err(FrameFault::Trailing);
+    }
+    if let Err(fault) = soundness(&config) {
+        return Err(FrameFault::Unsound(fault));
+    }
+    page_of(&config, ensemble, place)
+}
+
+/// The three FIBs of page `place` of a configuration alone; `NoSuchPage` where there is no such page.
+fn page_of<'a>(config: &'a Config, ensemble: Ensemble, place: u16) -> Result<[u8; 96], FrameFault>
+    ensures { result ≡ page_or_fault ensemble place config.now }
+{
+    let alone: Option<&'a Config> = None;
+    let place = usize::from(place);
+    if place >= pages(config, alone) {
+        return Err(FrameFault::NoSuchPage);
+    }
+    Ok(page(config, alone, place, sent(ensemble)))
+}
+
+/// The ensemble information that goes out: in the frames whose count is a multiple of four.
+fn sent(ensemble: Ensemble) -> Option<Ensemble>
+    ensures { result ≡ sent ensemble }
+{
+    if ensemble.count() % 4 == 0 {
+        Some(ensemble)
+    } else {
+        None
+    }
+}
+
+/// Prints FIBs as 64 hexadecimal digits each.
+fn print_fibs<W: Write>(frame: &[u8; 96], out: &mut W) -> io::Result<()> {
+    for fib in frame.as_chunks::<32>().0 {
+        out.write_all(digits_of_fib(fib).as_slice())?;
+        out.write_all(b"\n")?;
+    }
+    Ok(())
+}

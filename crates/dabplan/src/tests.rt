@@ -1,0 +1,5 @@
+mod command_line;
+mod fake;
+mod frame;
+mod listen;
+mod output;
