@@ -10,7 +10,7 @@ use Rattle.mux_config.specs.declared.numbers.Sid.{Sid}
 use Rattle.mux_config.specs.declared.numbers.Sid.TheVariants.{Short, Long}
 use Rattle.fib_codec.specs.declared.head.Head.{Head}
 use Rattle.fib_codec.specs.Spelling.{Written, IsWritten, IsFormed, IsUnder, head_of, ext_of, entry_size, sid_size, fig_bytes, figs_bytes, FitsFig}
-use Rattle.fib_carousel.specs.declared.cursor.Span.{Span}
+use Rattle.fib_carousel.specs.declared.cursor.Piece.{Piece}
 use Rattle.fib_carousel.specs.declared.place.Shape.{Shape}
 use Rattle.fib_carousel.specs.Packing.{size_of, same_flag, same_head, cost, figs_size, room, AreSmall}
 use Rattle.fib_carousel.specs.Pages.{fib_entries}
@@ -54,7 +54,7 @@ each_drop P zero xs h = h
 each_drop P (suc n) [] h = h
 each_drop P (suc n) (x ∷ xs) h = each_drop P n xs h.1
 
-pub sendable_piece : (s : Span) (ms : List Marked) → AreSendable ms → AreSendable (piece_of s ms)
+pub sendable_piece : (s : Piece) (ms : List Marked) → AreSendable ms → AreSendable (piece_of s ms)
 sendable_piece s ms h = each_take IsSendable (s.to - s.from) (drop s.from ms) (each_drop IsSendable s.from ms h)
 
 pub small_all : (ms : List Marked) → AreSendable ms → AreSmall ms
@@ -66,7 +66,7 @@ pub fib_fits : (ms : List Marked) (n : ℕ) → AreSendable ms → figs_size Non
 fib_fits ms n h = (greedy_is_packing ms (small_all ms h)).division.fits n
 
 -- how many entries a piece has
-pub length-piece_of : (s : Span) (ms : List Marked) → s.to ≤ length ms → length (piece_of s ms) ≡ s.to - s.from
+pub length-piece_of : (s : Piece) (ms : List Marked) → s.to ≤ length ms → length (piece_of s ms) ≡ s.to - s.from
 length-piece_of s ms h = length-take-le (s.to - s.from) (drop s.from ms) (rw (length-drop s.from ms) (omega (arith, h)))
 
 -- the entry at the front of a piece, and what is behind it

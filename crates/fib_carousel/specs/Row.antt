@@ -6,7 +6,7 @@ use Rattle.fib_codec.specs.Ranges.{IsWithin}
 use Rattle.fib_codec.specs.Spelling.{head_of, ext_of}
 use Rattle.fib_carousel.specs.declared.place.Shape.{Shape}
 use Rattle.fib_carousel.specs.declared.cursor.Cursor.{Cursor}
-use Rattle.fib_carousel.specs.declared.cursor.Span.{Span}
+use Rattle.fib_carousel.specs.declared.cursor.Piece.{Piece}
 use Rattle.fib_carousel.specs.Packing.{size_of, entries_in_fib, numbers_from}
 use Rattle.fib_carousel.specs.Pages.{fib_entries}
 
@@ -26,8 +26,8 @@ pub record IsShapeAt (ms : List Marked) (place : ℕ) (shape : Shape) : Type 0 w
   pub head : shape.head ≡ head_of entry
   pub size : shape.size ≡ size_of entry
 
--- the entries of a span
-abbrev pub piece_of : Span → List Marked → List Marked
+-- the entries of a piece of the row
+abbrev pub piece_of : Piece → List Marked → List Marked
 piece_of s ms = take (s.to - s.from) (drop s.from ms)
 
 -- from the cursor on, the rule gives FIB n and the later ones what the packing gives them

@@ -27,9 +27,9 @@ impl Cursor {
     }
 }
 
-/// Some successive entries of a row.
+/// A piece of a row: some successive entries.
 #[derive(Clone, Copy, Debug, PartialEq, Eq)]
-pub(crate) struct Span {
+pub(crate) struct Piece {
     /// The number of the first one.
     pub from: u16,
     /// The number after that of the last one.

@@ -9,15 +9,15 @@ ghost use Rattle.fib_carousel.specs.Bytes.{figs_of, run_of, ensemble_figs, page_
 ghost use Rattle.fib_carousel.specs.Row.{piece_of, AreSendable, Stands};
 ghost use Rattle.fib_carousel.specs.Carried.{IsPageable};
 
-use crate::cursor::{Cursor, Span};
+use crate::cursor::{Cursor, Piece};
 use crate::place::same_head;
-use crate::row::{Row, span};
+use crate::row::{Row, fib_piece};
 use arrayvec::ArrayVec;
 use fib_codec::{Fib, Head};
 use mux_config::{Ensemble, Entry};
 
-/// The entries of one head at the front of a span: they share a FIG.
-fn run<R: Row>(row: &R, piece: Span, head: Head) -> ArrayVec<Entry, 10>
+/// The entries of one head at the front of a piece: they share a FIG.
+fn run<R: Row>(row: &R, piece: Piece, head: Head) -> ArrayVec<Entry, 10>
     requires order { piece.from ≤ piece.to }
     requires end { piece.to ≤ length (R.entries row.now) }
     requires few { piece.to ≤ piece.from + 10 }
@@ -33,8 +33,8 @@ fn run<R: Row>(row: &R, piece: Span, head: Head) -> ArrayVec<Entry, 10>
     entries
 }
 
-/// Appends the FIGs of the entries of a span, which fit in what is left of the FIB.
-fn put_figs<R: Row>(row: &R, piece: Span, fib: &mut Fib)
+/// Appends the FIGs of the entries of a piece, which fit in what is left of the FIB.
+fn put_figs<R: Row>(row: &R, piece: Piece, fib: &mut Fib)
     requires order { piece.from ≤ piece.to }
     requires end { piece.to ≤ length (R.entries row.now) }
     requires sendable { AreSendable (R.entries row.now) }
@@ -44,7 +44,7 @@ fn put_figs<R: Row>(row: &R, piece: Span, fib: &mut Fib)
     let mut at = piece.from;
     'figs: while at < piece.to {
         let head = row.shape(at).head;
-        let rest = Span {
+        let rest = Piece {
             from: at,
             to: piece.to,
         };
@@ -91,7 +91,7 @@ fn fib<R: Row>(
     ensures within { IfSome ensemble IsEnsembleInformation }
     ensures next { Stands (R.entries row.now) (number + 1) cursor.new }
 {
-    let piece = span(row, len, cursor, number);
+    let piece = fib_piece(row, len, cursor, number);
     let mut fib = begun(ensemble);
     put_figs(row, piece, &mut fib);
     fib.finish()

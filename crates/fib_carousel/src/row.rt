@@ -5,7 +5,7 @@ ghost use Rattle.mux_config.specs.Facts.{Marked};
 ghost use Rattle.fib_carousel.specs.Pages.{rounds, fib_entries};
 ghost use Rattle.fib_carousel.specs.Row.{Stands, piece_of};
 
-use crate::cursor::{Cursor, Span};
+use crate::cursor::{Cursor, Piece};
 use crate::place::{Place, Shape};
 use mux_config::Entry;
 
@@ -47,7 +47,7 @@ pub(crate) fn pages<R: Row>(row: &R) -> usize
 
 /// The entries of FIB `fib` of the row of pages, from the cursor on, which then stands behind them. The row
 /// has `len` entries.
-pub(crate) fn span<R: Row>(row: &R, len: u16, cursor: &mut Cursor, fib: usize) -> Span
+pub(crate) fn fib_piece<R: Row>(row: &R, len: u16, cursor: &mut Cursor, fib: usize) -> Piece
     requires count { len ≡ length (R.entries row.now) }
     requires stands { Stands (R.entries row.now) fib cursor.old }
     ensures entries { piece_of result (R.entries row.now) ≡ fib_entries fib (R.entries row.now) }
@@ -59,7 +59,7 @@ pub(crate) fn span<R: Row>(row: &R, len: u16, cursor: &mut Cursor, fib: usize) -
     'entries: while cursor.at < len {
         let place = cursor.place.then(row.shape(cursor.at));
         if place.fib > fib {
-            return Span {
+            return Piece {
                 from,
                 to: cursor.at,
             };
@@ -70,7 +70,7 @@ pub(crate) fn span<R: Row>(row: &R, len: u16, cursor: &mut Cursor, fib: usize) -
             from = cursor.at;
         }
     }
-    Span {
+    Piece {
         from,
         to: cursor.at,
     }

@@ -1,6 +1,6 @@
 use Rattle.std.proofs.Common.{arith, refl}
 use Rattle.fib_carousel.proofs.Walk.{passed, walked_in, walked_before, walked_over}
-use Rattle.fib_carousel.proofs.row.span.Goals as goal
+use Rattle.fib_carousel.proofs.row.fib_piece.Goals as goal
 
 pub returns-then-place-fib-clause-entries : goal.returns-then-place-fib-clause-entries
 returns-then-place-fib-clause-entries g c =

@@ -1,6 +1,6 @@
 use Rattle.std.proofs.Common.{◌-◌}
 use Rattle.fib_carousel.proofs.Walk.{Walked}
-use Rattle.fib_carousel.proofs.row.span.Given as goal
+use Rattle.fib_carousel.proofs.row.fib_piece.Given as goal
 
 abbrev pub invariant-entries : goal.invariant-entries
 invariant-entries g l = Walked (g.R.Row.entries l.row) l.fib l.from l.cursor
