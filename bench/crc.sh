@@ -25,26 +25,23 @@ use std::time::Instant;
 
 const BLOCKS: u32 = 10_000_000;
 
-/// The blocks differ, so that none is known beforehand, and their words are added up, so that each is wanted.
-fn block(number: u32) -> [u8; 30] {
-    let mut block = [0x5au8; 30];
-    block[0] = (number % 256) as u8;
-    block[13] = (number / 256 % 256) as u8;
-    block[29] = (number / 65536 % 256) as u8;
-    block
-}
-
+// the blocks differ, so that no word is known beforehand, and the words are added up, so that each is wanted
 fn main(rt: HostRuntime) -> io::Result<()> {
+    let mut block = [0x5au8; 30];
     let start = Instant::now(&rt)?;
     let mut by_bits = 0u32;
     for number in 0..BLOCKS {
-        by_bits = by_bits.wrapping_add(u32::from(crc16_by_bits(&block(number))));
+        block[0] = (number % 256) as u8;
+        block[29] = (number / 256 % 256) as u8;
+        by_bits = by_bits.wrapping_add(u32::from(crc16_by_bits(&block)));
     }
     let slow = start.elapsed(&rt)?.as_millis();
     let start = Instant::now(&rt)?;
     let mut by_tables = 0u32;
     for number in 0..BLOCKS {
-        by_tables = by_tables.wrapping_add(u32::from(crc16(&block(number))));
+        block[0] = (number % 256) as u8;
+        block[29] = (number / 256 % 256) as u8;
+        by_tables = by_tables.wrapping_add(u32::from(crc16(&block)));
     }
     let fast = start.elapsed(&rt)?.as_millis();
     println!(rt; "bit by bit {slow} ms, by tables {fast} ms, sums {by_bits} and {by_tables}")?;

@@ -1,13 +1,13 @@
 -- The register does the long division: what is still to be divided, with the register added at its front, divides
 -- as the whole does.
 use Rattle.std.proofs.Common.{◌≡◌, ℕ, zero, suc, ◌+◌, ◌-◌, ◌*◌, ◌/◌, ◌%◌, ◌^◌, ◌<◌, ◌≤◌, eqb, List, [], ◌∷◌, ◌++◌, map, length, replicate, refl, sym, ◌∙◌, ap, arith, inl, inr, append_assoc, get_or, drop}
-use Rattle.std.proofs.lemmas.List.{drop_more, drop_all}
+use Rattle.std.proofs.lemmas.List.{drop_more}
 use Rattle.std.proofs.lemmas.Bool.{cases_Bool, cond-true, cond-false, eqb-true, eqb-false}
 use Rattle.std.proofs.lemmas.Nat.Bits.{bit_at-suc, bit_at_xor, bit_at_cat_low, bit_at-lt, bit_at_ones, shr_and_one}
 use Rattle.std.specs.Prelude.{bit_xor, bit_and}
 use Rattle.std.specs.Int.{bit_at}
 use Rattle.fib_codec.specs.Crc.{bits_of, bits_of_bytes, AreBits, plus, generator, without_leading, divided, dividend, check_bits}
-use Rattle.fib_codec.specs.Register.{next, after}
+use Rattle.fib_codec.specs.Register.{next, after, after_all}
 
 -- ---- bits of numbers
 pub bits_of-suc : (w n : ℕ) → bits_of (suc w) n ≡ bit_at n w ∷ bits_of w n
@@ -179,67 +179,31 @@ steps (suc w) k r m n are =
     ∙ ap (λ s. divided n (plus m (bits_of 16 s))) (sym (after-suc w k r))
 
 -- ---- the whole message
--- what bytes still give, with this register before them
-abbrev pub left_of : List ℕ → ℕ → List ℕ
-left_of bytes r = divided (8 * length bytes) (plus (bits_of_bytes bytes ++ replicate 16 0) (bits_of 16 r))
+pub taken : (bytes : List ℕ) (r : ℕ) (m : List ℕ) (n : ℕ) → AreBits m
+    → divided (8 * length bytes + n) (plus (bits_of_bytes bytes ++ m) (bits_of 16 r)) ≡ divided n (plus m (bits_of 16 (after_all bytes r)))
+taken [] r m n are =
+    let count : 8 * 0 + n ≡ n = omega arith in
+    ap (λ c. divided c (plus m (bits_of 16 r))) count
+taken (b ∷ bs) r m n are =
+    let rest = bits_of_bytes bs ++ m in
+    let rest_are : AreBits rest = AreBits-append (bits_of_bytes bs) m (AreBits-bytes bs) are in
+    let count : 8 * suc (length bs) + n ≡ 8 + (8 * length bs + n) = omega arith in
+    ap (λ c. divided c (plus (bits_of_bytes (b ∷ bs) ++ m) (bits_of 16 r))) count
+    ∙ ap (λ t. divided (8 + (8 * length bs + n)) (plus t (bits_of 16 r))) (append_assoc (bits_of 8 b) (bits_of_bytes bs) m)
+    ∙ steps 8 b r rest (8 * length bs + n) rest_are
+    ∙ taken bs (after 8 b r) m n are
 
-pub left_of-start : (bytes : List ℕ) → left_of bytes 65535 ≡ divided (8 * length bytes) (dividend bytes)
-unfolding bits_of
-left_of-start bytes = refl
+pub after_all-append : (xs ys : List ℕ) (r : ℕ) → after_all (xs ++ ys) r ≡ after_all ys (after_all xs r)
+after_all-append [] ys r = refl
+after_all-append (x ∷ xs) ys r = after_all-append xs ys (after 8 x r)
 
-pub left_of-step : (b : ℕ) (bs : List ℕ) (r s : ℕ)
-    → ((m : List ℕ) (n : ℕ) → AreBits m → divided (8 + n) (plus (bits_of 8 b ++ m) (bits_of 16 r)) ≡ divided n (plus m (bits_of 16 s)))
-    → left_of bs s ≡ left_of (b ∷ bs) r
-left_of-step b bs r s step =
-    let rest = bits_of_bytes bs ++ replicate 16 0 in
-    let are : AreBits rest = AreBits-append (bits_of_bytes bs) (replicate 16 0) (AreBits-bytes bs) (AreBits-replicate 16) in
-    let count : 8 + 8 * length bs ≡ 8 * suc (length bs) = omega arith in
-    sym (step rest (8 * length bs) are)
-    ∙ ap (λ c. divided c (plus (bits_of 8 b ++ rest) (bits_of 16 r))) count
-    ∙ ap (λ t. divided (8 * suc (length bs)) (plus t (bits_of 16 r))) (sym (append_assoc (bits_of 8 b) (bits_of_bytes bs) (replicate 16 0)))
+-- a step of a loop over the bytes
+pub after_all-more : (bytes : List ℕ) (i r : ℕ) → i < length bytes
+    → after_all (drop i bytes) r ≡ after_all (drop (i + 1) bytes) (after 8 (get_or bytes i 0) r)
+after_all-more bytes i r h = ap (λ t. after_all t r) (drop_more bytes i 0 h)
 
 all_ones : (w : ℕ) → w < 16 → bit_at 65535 w ≡ 1
 all_ones w h = bit_at_ones 16 w h
-
--- the same for two bytes
-pub left_of-pair : (a b : ℕ) (bs : List ℕ) (r s : ℕ)
-    → ((m : List ℕ) (n : ℕ) → AreBits m
-    → divided (8 + (8 + n)) (plus (bits_of 8 a ++ (bits_of 8 b ++ m)) (bits_of 16 r)) ≡ divided n (plus m (bits_of 16 s)))
-    → left_of bs s ≡ left_of (a ∷ b ∷ bs) r
-left_of-pair a b bs r s step =
-    let rest = bits_of_bytes bs ++ replicate 16 0 in
-    let are : AreBits rest = AreBits-append (bits_of_bytes bs) (replicate 16 0) (AreBits-bytes bs) (AreBits-replicate 16) in
-    let count : 8 + (8 + 8 * length bs) ≡ 8 * suc (suc (length bs)) = omega arith in
-    let cut : bits_of 8 a ++ (bits_of 8 b ++ rest) ≡ (bits_of 8 a ++ (bits_of 8 b ++ bits_of_bytes bs)) ++ replicate 16 0 =
-    ap (λ t. bits_of 8 a ++ t) (sym (append_assoc (bits_of 8 b) (bits_of_bytes bs) (replicate 16 0)))
-    ∙ sym (append_assoc (bits_of 8 a) (bits_of 8 b ++ bits_of_bytes bs) (replicate 16 0)) in
-    sym (step rest (8 * length bs) are)
-    ∙ ap (λ c. divided c (plus (bits_of 8 a ++ (bits_of 8 b ++ rest)) (bits_of 16 r))) count
-    ∙ ap (λ t. divided (8 * suc (suc (length bs))) (plus t (bits_of 16 r))) cut
-
--- steps at the front of a list that has so many bytes
-pub left_of-front : (bytes : List ℕ) (r s : ℕ) → length bytes ≡ 1
-    → ((m : List ℕ) (n : ℕ) → AreBits m → divided (8 + n) (plus (bits_of 8 (get_or bytes 0 0) ++ m) (bits_of 16 r)) ≡ divided n (plus m (bits_of 16 s)))
-    → left_of [] s ≡ left_of bytes r
-left_of-front [] r s h step = cc
-left_of-front (b ∷ []) r s h step = left_of-step b [] r s step
-left_of-front (b ∷ d ∷ bs) r s h step = absurd (omega arith)
-
-pub left_of-front_pair : (bytes : List ℕ) (r s : ℕ) → 2 ≤ length bytes
-    → ((m : List ℕ) (n : ℕ) → AreBits m
-    → divided (8 + (8 + n)) (plus (bits_of 8 (get_or bytes 0 0) ++ (bits_of 8 (get_or bytes 1 0) ++ m)) (bits_of 16 r)) ≡ divided n (plus m (bits_of 16 s)))
-    → left_of (drop 2 bytes) s ≡ left_of bytes r
-left_of-front_pair [] r s h step = absurd (omega arith)
-left_of-front_pair (a ∷ []) r s h step = absurd (omega arith)
-left_of-front_pair (a ∷ b ∷ bs) r s h step = left_of-pair a b bs r s step
-
--- a step of a loop over the bytes
-pub left_of-more : (bytes : List ℕ) (i r : ℕ) → i < length bytes
-    → left_of (drop i bytes) r ≡ left_of (drop (i + 1) bytes) (after 8 (get_or bytes i 0) r)
-left_of-more bytes i r h =
-    let b = get_or bytes i 0 in
-    ap (λ t. left_of t r) (drop_more bytes i 0 h)
-    ∙ sym (left_of-step b (drop (i + 1) bytes) r (after 8 b r) (λ m n are. steps 8 b r m n are))
 
 -- the register turned is the check word
 turned : (w r : ℕ) → w ≤ 16 → map (λ b. 1 - b) (bits_of w r) ≡ bits_of w (bit_xor r 65535)
@@ -257,15 +221,25 @@ zeros_first (b ∷ m) h =
     let same : (0 + b) % 2 ≡ b = omega arith in
     rw (same, zeros_first m h.1) refl
 
-pub word_checks : (bytes : List ℕ) (r : ℕ) → left_of [] r ≡ left_of bytes 65535 → bits_of 16 (bit_xor r 65535) ≡ check_bits bytes
-word_checks bytes r all =
-    let last : left_of [] r ≡ bits_of 16 r =
+-- what is left when sixteen zeros stand under the register
+pub word_left : (r : ℕ) → divided 0 (plus (replicate 16 0) (bits_of 16 r)) ≡ bits_of 16 r
+word_left r =
+    let long : length (bits_of 16 r) ≡ 16 = length-bits_of 16 r in
     divided-zero (plus (replicate 16 0) (bits_of 16 r))
-    ∙ (let long : length (bits_of 16 r) ≡ 16 = length-bits_of 16 r in
-    let z : plus (replicate (length (bits_of 16 r)) 0) (bits_of 16 r) ≡ bits_of 16 r = zeros_first (bits_of 16 r) (bits_of_are 16 r) in
-    ap (λ n. plus (replicate n 0) (bits_of 16 r)) (sym long) ∙ z) in
-    sym (turned 16 r (omega arith)) ∙ ap (map (λ b. 1 - b)) (sym last ∙ all ∙ left_of-start bytes)
+    ∙ ap (λ n. plus (replicate n 0) (bits_of 16 r)) (sym long)
+    ∙ zeros_first (bits_of 16 r) (bits_of_are 16 r)
 
-pub word_checks_at : (bytes : List ℕ) (i r : ℕ) → length bytes ≤ i → left_of (drop i bytes) r ≡ left_of bytes 65535
-    → bits_of 16 (bit_xor r 65535) ≡ check_bits bytes
-word_checks_at bytes i r h all = word_checks bytes r (ap (λ t. left_of t r) (sym (drop_all i bytes h)) ∙ all)
+all_ones_start : bits_of 16 65535 ≡ replicate 16 1
+unfolding bits_of
+all_ones_start = refl
+
+pub word_checks : (bytes : List ℕ) (r : ℕ) → r ≡ after_all bytes 65535 → bits_of 16 (bit_xor r 65535) ≡ check_bits bytes
+word_checks bytes r is =
+    let message = bits_of_bytes bytes ++ replicate 16 0 in
+    let count : 8 * length bytes ≡ 8 * length bytes + 0 = omega arith in
+    let whole : divided (8 * length bytes) (dividend bytes) ≡ bits_of 16 r =
+    ap (λ t. divided (8 * length bytes) (plus message t)) (sym all_ones_start)
+    ∙ ap (λ c. divided c (plus message (bits_of 16 65535))) count
+    ∙ taken bytes 65535 (replicate 16 0) 0 (AreBits-replicate 16)
+    ∙ word_left (after_all bytes 65535) ∙ ap (bits_of 16) (sym is) in
+    sym (turned 16 r (omega arith)) ∙ ap (map (λ b. 1 - b)) (sym whole)

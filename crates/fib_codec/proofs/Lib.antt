@@ -1,4 +1,5 @@
 pub mod Division
+pub mod Linear
 pub mod TableRule
 pub mod Words
 pub mod Uniqueness

@@ -1,22 +1,35 @@
--- What the tables of the check word hold, and why one or two bytes can be taken at once with them.
-use Rattle.std.proofs.Common.{◌≡◌, ℕ, zero, suc, ◌+◌, ◌*◌, ◌/◌, ◌%◌, ◌^◌, ◌<◌, true, List, [], ◌∷◌, ◌++◌, length, get_or, replicate, refl, sym, ◌∙◌, ap, arith, append-nil, length-append}
+-- What the tables of the check word hold, and why six bytes can be taken at once with them.
+use Rattle.std.proofs.Common.{◌≡◌, ℕ, zero, suc, ◌+◌, ◌/◌, ◌%◌, ◌<◌, true, List, [], ◌∷◌, length, get_or, refl, sym, ◌∙◌, ap, ap₂, arith}
 use Rattle.std.proofs.lemmas.Bool.{and_parts, eqb-true}
-use Rattle.std.proofs.lemmas.Nat.{xor_comm, shr-shr}
 use Rattle.std.specs.Prelude.{bit_xor}
-use Rattle.std.specs.Int.{bit_at}
-use Rattle.fib_codec.specs.Crc.{bits_of, AreBits, plus, generator, without_leading, divided}
-use Rattle.fib_codec.specs.Register.{after, is_table, is_second_table}
-use Rattle.fib_codec.specs.declared.crc_tables.TheConstants.{FIRST, SECOND}
-use Rattle.fib_codec.proofs.Division.{bits_of-suc, bits_of-zero, length-bits_of, bits_of_are, bits_of-xor, bits_of-below, plus-nil, plus-plus, plus-append, AreBits-append, AreBits-replicate, divided-suc, divided-zero, steps, zeros_first}
+use Rattle.fib_codec.specs.Register.{after, later, is_table, is_next_table}
+use Rattle.fib_codec.specs.declared.crc_tables.TheConstants.{FIRST, SECOND, THIRD, FOURTH, FIFTH, SIXTH}
+use Rattle.fib_codec.proofs.Linear.{apart, zeros_apart, two_bytes}
 
 -- ---- the tables, computed
 first_table : is_table FIRST 0 ≡ true
 unfolding after
 first_table = refl
 
-second_table : is_second_table SECOND 0 ≡ true
+second_table : is_next_table FIRST SECOND ≡ true
 unfolding after
 second_table = refl
+
+third_table : is_next_table SECOND THIRD ≡ true
+unfolding after
+third_table = refl
+
+fourth_table : is_next_table THIRD FOURTH ≡ true
+unfolding after
+fourth_table = refl
+
+fifth_table : is_next_table FOURTH FIFTH ≡ true
+unfolding after
+fifth_table = refl
+
+sixth_table : is_next_table FIFTH SIXTH ≡ true
+unfolding after
+sixth_table = refl
 
 at_place : (ts : List ℕ) (k i : ℕ) → is_table ts k ≡ true → i < length ts → get_or ts i 0 ≡ after 8 (k + i) 0
 at_place [] k i h lt = absurd (omega arith)
@@ -27,240 +40,71 @@ at_place (t ∷ ts) k (suc i) h lt =
     let there : suc k + i ≡ k + suc i = omega arith in
     at_place ts (suc k) i (and_parts _ _ h).1 (omega arith) ∙ ap (λ n. after 8 n 0) there
 
-at_second_place : (ts : List ℕ) (k i : ℕ) → is_second_table ts k ≡ true → i < length ts
-    → get_or ts i 0 ≡ after 8 0 (after 8 (k + i) 0)
-at_second_place [] k i h lt = absurd (omega arith)
-at_second_place (t ∷ ts) k zero h lt =
-    let here : k + 0 ≡ k = omega arith in
-    eqb-true _ _ (and_parts _ _ h).0 ∙ ap (λ n. after 8 0 (after 8 n 0)) (sym here)
-at_second_place (t ∷ ts) k (suc i) h lt =
-    let there : suc k + i ≡ k + suc i = omega arith in
-    at_second_place ts (suc k) i (and_parts _ _ h).1 (omega arith) ∙ ap (λ n. after 8 0 (after 8 n 0)) there
+at_next_place : (ps ts : List ℕ) (i : ℕ) → is_next_table ps ts ≡ true → i < length ps → i < length ts
+    → get_or ts i 0 ≡ after 8 0 (get_or ps i 0)
+at_next_place [] ts i h lp lt = absurd (omega arith)
+at_next_place (p ∷ ps) [] i h lp lt = absurd (omega arith)
+at_next_place (p ∷ ps) (t ∷ ts) zero h lp lt = eqb-true _ _ (and_parts _ _ h).0
+at_next_place (p ∷ ps) (t ∷ ts) (suc i) h lp lt = at_next_place ps ts i (and_parts _ _ h).1 (omega arith) (omega arith)
 
-pub in_first_table : (k : ℕ) → k < 256 → get_or FIRST k 0 ≡ after 8 k 0
+pub in_first_table : (k : ℕ) → k < 256 → get_or FIRST k 0 ≡ later 0 (after 8 k 0)
 in_first_table k h =
     let start : 0 + k ≡ k = omega arith in
     at_place FIRST 0 k first_table h ∙ ap (λ n. after 8 n 0) start
 
-pub in_second_table : (k : ℕ) → k < 256 → get_or SECOND k 0 ≡ after 8 0 (after 8 k 0)
-in_second_table k h =
-    let start : 0 + k ≡ k = omega arith in
-    at_second_place SECOND 0 k second_table h ∙ ap (λ n. after 8 0 (after 8 n 0)) start
+pub in_second_table : (k : ℕ) → k < 256 → get_or SECOND k 0 ≡ later 1 (after 8 k 0)
+in_second_table k h = at_next_place FIRST SECOND k second_table h h ∙ ap (after 8 0) (in_first_table k h)
 
--- ---- one byte
--- an empty register adds nothing
-zeros_are : bits_of 16 0 ≡ replicate 16 0
-unfolding bits_of
-zeros_are = refl
+pub in_third_table : (k : ℕ) → k < 256 → get_or THIRD k 0 ≡ later 2 (after 8 k 0)
+in_third_table k h = at_next_place SECOND THIRD k third_table h h ∙ ap (after 8 0) (in_second_table k h)
 
-plus-zeros : (xs : List ℕ) (n : ℕ) → AreBits xs → plus xs (replicate n 0) ≡ xs
-plus-zeros [] n h = refl
-plus-zeros (x ∷ xs) zero h = refl
-plus-zeros (x ∷ xs) (suc n) h =
-    let bit : x < 2 = h.0 in
-    let same : (x + 0) % 2 ≡ x = omega arith in
-    rw (same, plus-zeros xs n h.1) refl
+pub in_fourth_table : (k : ℕ) → k < 256 → get_or FOURTH k 0 ≡ later 3 (after 8 k 0)
+in_fourth_table k h = at_next_place THIRD FOURTH k fourth_table h h ∙ ap (after 8 0) (in_third_table k h)
 
-front_divides : (k n : ℕ) (m : List ℕ) → AreBits m
-    → divided (8 + n) (bits_of 8 k ++ m) ≡ divided n (plus m (bits_of 16 (after 8 k 0)))
-front_divides k n m are =
-    let front = bits_of 8 k ++ m in
-    let front_are : AreBits front = AreBits-append (bits_of 8 k) m (bits_of_are 8 k) are in
-    ap (divided (8 + n)) (sym (ap (plus front) zeros_are ∙ plus-zeros front 16 front_are)) ∙ steps 8 k 0 m n are
+pub in_fifth_table : (k : ℕ) → k < 256 → get_or FIFTH k 0 ≡ later 4 (after 8 k 0)
+in_fifth_table k h = at_next_place FOURTH FIFTH k fifth_table h h ∙ ap (after 8 0) (in_fourth_table k h)
 
--- a word is its high byte and its low byte
-split_at : (w r : ℕ) → bits_of (w + 8) r ≡ bits_of w (r / 256) ++ bits_of 8 r
-split_at zero r =
-    let start : 0 + 8 ≡ 8 = omega arith in
-    let none : bits_of 0 (r / 256) ≡ [] = bits_of-zero (r / 256) in
-    rw (start, none) refl
-split_at (suc w) r =
-    let count : suc w + 8 ≡ suc (w + 8) = omega arith in
-    let turn : w + 8 ≡ 8 + w = omega arith in
-    let top : bit_at r (w + 8) ≡ bit_at (r / 256) w =
-    ap (λ k. r / 2 ^ k % 2) turn ∙ ap (λ n. n % 2) (sym (shr-shr r 8 w)) in
-    ap (λ k. bits_of k r) count ∙ bits_of-suc (w + 8) r
-    ∙ ap (λ b. b ∷ bits_of (w + 8) r) top ∙ ap (λ bs. bit_at (r / 256) w ∷ bs) (split_at w r)
-    ∙ ap (λ bs. bs ++ bits_of 8 r) (sym (bits_of-suc w (r / 256)))
+pub in_sixth_table : (k : ℕ) → k < 256 → get_or SIXTH k 0 ≡ later 5 (after 8 k 0)
+in_sixth_table k h = at_next_place FIFTH SIXTH k sixth_table h h ∙ ap (after 8 0) (in_fifth_table k h)
 
-pub split : (r : ℕ) → bits_of 16 r ≡ bits_of 8 (r / 256) ++ bits_of 8 r
-split r = split_at 8 r
-
-no_bits : bits_of 8 0 ≡ replicate 8 0
-unfolding bits_of
-no_bits = refl
-
--- the low byte moved to the front
-moved_up : (r : ℕ) → bits_of 16 (r * 256 % 65536) ≡ bits_of 8 r ++ replicate 8 0
-moved_up r =
-    let high : r * 256 % 65536 / 256 ≡ r % 256 = omega arith in
-    let low : r * 256 % 65536 ≡ r % 256 * 2 ^ 8 + 0 = omega arith in
-    let whole : r / 256 * 2 ^ 8 + r % 256 ≡ r = omega arith in
-    split (r * 256 % 65536)
-    ∙ ap (λ n. bits_of 8 n ++ bits_of 8 (r * 256 % 65536)) high
-    ∙ ap (λ bs. bs ++ bits_of 8 (r * 256 % 65536))
-    (sym (bits_of-below 8 (r / 256) 8 (r % 256) (omega arith)) ∙ ap (bits_of 8) whole)
-    ∙ ap (λ bs. bits_of 8 r ++ bs) (ap (bits_of 8) low ∙ bits_of-below 8 (r % 256) 8 0 (omega arith) ∙ no_bits)
-
-plus-push_zeros : (m xs : List ℕ) (n : ℕ) → AreBits m → plus m (xs ++ replicate n 0) ≡ plus m xs
-plus-push_zeros [] xs n h = refl
-plus-push_zeros (b ∷ m) [] n h = plus-zeros (b ∷ m) n h
-plus-push_zeros (b ∷ m) (x ∷ xs) n h = ap (λ t. (b + x) % 2 ∷ t) (plus-push_zeros m xs n h.1)
-
-plus-bits : (xs ys : List ℕ) → AreBits xs → AreBits (plus xs ys)
-plus-bits [] ys h = tt
-plus-bits (x ∷ xs) [] h = h
-plus-bits (x ∷ xs) (y ∷ ys) h = (omega arith, plus-bits xs ys h.1)
-
-pub length-plus : (xs ys : List ℕ) → length (plus xs ys) ≡ length xs
-length-plus [] ys = refl
-length-plus (x ∷ xs) [] = refl
-length-plus (x ∷ xs) (y ∷ ys) = ap suc (length-plus xs ys)
-
--- the register's high byte turns the byte at the front, and its low byte what follows
-front_turned : (r byte : ℕ) (m : List ℕ)
-    → plus (bits_of 8 byte ++ m) (bits_of 16 r) ≡ bits_of 8 (bit_xor (r / 256) byte) ++ plus m (bits_of 8 r)
-front_turned r byte m =
-    let long : length (bits_of 8 byte) ≡ length (bits_of 8 (r / 256)) = length-bits_of 8 byte ∙ sym (length-bits_of 8 (r / 256)) in
-    ap (plus (bits_of 8 byte ++ m)) (split r)
-    ∙ plus-append (bits_of 8 byte) (bits_of 8 (r / 256)) m (bits_of 8 r) long
-    ∙ ap (λ t. t ++ plus m (bits_of 8 r)) (sym (bits_of-xor 8 byte (r / 256)) ∙ ap (bits_of 8) (xor_comm byte (r / 256)))
-
-pub by_table : (r byte t : ℕ) → t ≡ after 8 (bit_xor (r / 256) byte) 0 → (m : List ℕ) (n : ℕ) → AreBits m
-    → divided (8 + n) (plus (bits_of 8 byte ++ m) (bits_of 16 r)) ≡ divided n (plus m (bits_of 16 (bit_xor (r * 256 % 65536) t)))
-by_table r byte t given m n are =
-    let moved = r * 256 % 65536 in
-    let long : length (bits_of 16 moved) ≡ length (bits_of 16 t) = length-bits_of 16 moved ∙ sym (length-bits_of 16 t) in
-    let added : plus m (bits_of 16 moved) ≡ plus m (bits_of 8 r) =
-    ap (plus m) (moved_up r) ∙ plus-push_zeros m (bits_of 8 r) 8 are in
-    let sum : plus m (bits_of 16 (bit_xor moved t)) ≡ plus (plus m (bits_of 8 r)) (bits_of 16 t) =
-    ap (plus m) (bits_of-xor 16 moved t) ∙ sym (plus-plus m (bits_of 16 moved) (bits_of 16 t) long)
-    ∙ ap (λ xs. plus xs (bits_of 16 t)) added in
-    ap (divided (8 + n)) (front_turned r byte m)
-    ∙ front_divides (bit_xor (r / 256) byte) n (plus m (bits_of 8 r)) (plus-bits m (bits_of 8 r) are)
-    ∙ ap (λ k. divided n (plus (plus m (bits_of 8 r)) (bits_of 16 k))) (sym given)
-    ∙ ap (divided n) (sym sum)
-
--- ---- the division is linear
--- what is added twice can be added in either order
-plus_turned : (m a b : List ℕ) → plus (plus m a) b ≡ plus (plus m b) a
-plus_turned [] a b = refl
-plus_turned (x ∷ m) [] [] = refl
-plus_turned (x ∷ m) [] (c ∷ b) = refl
-plus_turned (x ∷ m) (y ∷ a) [] = refl
-plus_turned (x ∷ m) (y ∷ a) (c ∷ b) =
-    let head : ((x + y) % 2 + c) % 2 ≡ ((x + c) % 2 + y) % 2 = omega arith in
-    rw (head, plus_turned m a b) refl
-
-plus_inside : (m a b : List ℕ) → length m ≡ length a → plus (plus m a) b ≡ plus m (plus a b)
-plus_inside [] a b h = refl
-plus_inside (x ∷ m) [] b h = cc
-plus_inside (x ∷ m) (y ∷ a) [] h = refl
-plus_inside (x ∷ m) (y ∷ a) (c ∷ b) h =
-    let head : ((x + y) % 2 + c) % 2 ≡ (x + (y + c) % 2) % 2 = omega arith in
-    rw (head, plus_inside m a b (omega arith)) refl
-
-both_gone : (m a g : List ℕ) → length m ≡ length a → AreBits m → AreBits a → plus (plus m g) (plus a g) ≡ plus m a
-both_gone [] a g h p q = refl
-both_gone (x ∷ m) [] g h p q = cc
-both_gone (x ∷ m) (y ∷ a) [] h p q = refl
-both_gone (x ∷ m) (y ∷ a) (c ∷ g) h p q =
-    let head : ((x + c) % 2 + (y + c) % 2) % 2 ≡ (x + y) % 2 = omega arith in
-    rw (head, both_gone m a g (omega arith) p.1 q.1) refl
-
-pub divided-nil : (n : ℕ) → divided n [] ≡ []
-unfolding divided
-divided-nil zero = refl
-divided-nil (suc n) = refl
-
-pub without_bits : (b : ℕ) (xs : List ℕ) → AreBits xs → AreBits (without_leading b xs)
-without_bits zero xs h = h
-without_bits (suc b) xs h = plus-bits xs generator h
-
-pub length-without : (b : ℕ) (xs : List ℕ) → length (without_leading b xs) ≡ length xs
-length-without zero xs = refl
-length-without (suc b) xs = length-plus xs generator
-
-leading : (x y : ℕ) (xs ys : List ℕ) → x < 2 → y < 2 → length xs ≡ length ys → AreBits xs → AreBits ys
-    → without_leading ((x + y) % 2) (plus xs ys) ≡ plus (without_leading x xs) (without_leading y ys)
-leading zero zero xs ys p q h are bre = refl
-leading zero (suc zero) xs ys p q h are bre = plus_inside xs ys generator h
-leading (suc zero) zero xs ys p q h are bre = plus_turned xs ys generator
-leading (suc zero) (suc zero) xs ys p q h are bre = sym (both_gone xs ys generator h are bre)
-leading zero (suc (suc y)) xs ys p q h are bre = absurd (omega arith)
-leading (suc zero) (suc (suc y)) xs ys p q h are bre = absurd (omega arith)
-leading (suc (suc x)) y xs ys p q h are bre = absurd (omega arith)
-
-divided-plus : (n : ℕ) (xs ys : List ℕ) → length xs ≡ length ys → AreBits xs → AreBits ys
-    → divided n (plus xs ys) ≡ plus (divided n xs) (divided n ys)
-divided-plus zero xs ys h are bre =
-    divided-zero (plus xs ys) ∙ ap (λ t. plus t ys) (sym (divided-zero xs)) ∙ ap (plus (divided 0 xs)) (sym (divided-zero ys))
-divided-plus (suc n) [] ys h are bre = divided-nil (suc n) ∙ ap (λ t. plus t (divided (suc n) ys)) (sym (divided-nil (suc n)))
-divided-plus (suc n) (x ∷ xs) [] h are bre = cc
-divided-plus (suc n) (x ∷ xs) (y ∷ ys) h are bre =
-    let same : length xs ≡ length ys = omega arith in
-    let after_one : length (without_leading x xs) ≡ length (without_leading y ys) = length-without x xs ∙ same ∙ sym (length-without y ys) in
-    divided-suc n ((x + y) % 2) (plus xs ys)
-    ∙ ap (divided n) (leading x y xs ys are.0 bre.0 same are.1 bre.1)
-    ∙ divided-plus n (without_leading x xs) (without_leading y ys) after_one (without_bits x xs are.1) (without_bits y ys bre.1)
-    ∙ ap (λ t. plus t (divided n (without_leading y ys))) (sym (divided-suc n x xs))
-    ∙ ap (plus (divided (suc n) (x ∷ xs))) (sym (divided-suc n y ys))
-
--- ---- two bytes
--- the register after a byte, as the remainder of that byte and the register
-word_bits : (k : ℕ) → AreBits (bits_of 8 k ++ replicate 16 0)
-word_bits k = AreBits-append (bits_of 8 k) (replicate 16 0) (bits_of_are 8 k) (AreBits-replicate 16)
-
-as_rest : (k r : ℕ) → divided 8 (plus (bits_of 8 k ++ replicate 16 0) (bits_of 16 r)) ≡ bits_of 16 (after 8 k r)
-as_rest k r =
-    let long : length (bits_of 16 (after 8 k r)) ≡ 16 = length-bits_of 16 (after 8 k r) in
-    steps 8 k r (replicate 16 0) 0 (AreBits-replicate 16)
-    ∙ divided-zero (plus (replicate 16 0) (bits_of 16 (after 8 k r)))
-    ∙ ap (λ n. plus (replicate n 0) (bits_of 16 (after 8 k r))) (sym long)
-    ∙ zeros_first (bits_of 16 (after 8 k r)) (bits_of_are 16 (after 8 k r))
-
--- a byte and a register act apart
-parts_of : (k r : ℕ) → bits_of 16 (after 8 k r) ≡ bits_of 16 (bit_xor (after 8 k 0) (after 8 0 r))
-parts_of k r =
-    let message = bits_of 8 k ++ replicate 16 0 in
-    let empty = plus message (bits_of 16 0) in
-    let alone = plus (bits_of 8 0 ++ replicate 16 0) (bits_of 16 r) in
-    let same : empty ≡ message = ap (plus message) zeros_are ∙ plus-zeros message 16 (word_bits k) in
-    let long : length empty ≡ length alone =
-    length-plus message (bits_of 16 0) ∙ (length-append (bits_of 8 k) (replicate 16 0))
-    ∙ ap (λ n. n + 16) (length-bits_of 8 k ∙ sym (length-bits_of 8 0))
-    ∙ sym (length-append (bits_of 8 0) (replicate 16 0)) ∙ sym (length-plus (bits_of 8 0 ++ replicate 16 0) (bits_of 16 r)) in
-    let zeros : bits_of 8 0 ++ replicate 16 0 ≡ replicate 24 0 = ap (λ t. t ++ replicate 16 0) no_bits in
-    let whole : length message ≡ length (replicate {A = ℕ} 24 0) =
-    length-append (bits_of 8 k) (replicate 16 0) ∙ ap (λ n. n + 16) (length-bits_of 8 k) in
-    let together : plus message (bits_of 16 r) ≡ plus empty alone =
-    ap (λ t. plus t (bits_of 16 r)) (sym (plus-zeros message 24 (word_bits k)))
-    ∙ plus_inside message (replicate 24 0) (bits_of 16 r) whole
-    ∙ ap (λ t. plus message (plus t (bits_of 16 r))) (sym zeros)
-    ∙ ap (λ t. plus t alone) (sym same) in
-    sym (as_rest k r) ∙ ap (divided 8) together
-    ∙ divided-plus 8 empty alone long (plus-bits message (bits_of 16 0) (word_bits k)) (plus-bits (bits_of 8 0 ++ replicate 16 0) (bits_of 16 r) (word_bits 0))
-    ∙ ap (λ t. plus t (divided 8 alone)) (as_rest k 0) ∙ ap (plus (bits_of 16 (after 8 k 0))) (as_rest 0 r)
-    ∙ sym (bits_of-xor 16 (after 8 k 0) (after 8 0 r))
-
-pub pair_divides : (r first second t u : ℕ) → t ≡ after 8 (bit_xor (r % 256) second) 0
-    → u ≡ after 8 0 (after 8 (bit_xor (r / 256) first) 0) → (m : List ℕ) (n : ℕ) → AreBits m
-    → divided (8 + (8 + n)) (plus (bits_of 8 first ++ (bits_of 8 second ++ m)) (bits_of 16 r)) ≡ divided n (plus m (bits_of 16 (bit_xor t u)))
-pair_divides r first second t u given given_too m n are =
-    let a = bit_xor (r / 256) first in
-    let b = bit_xor (r % 256) second in
-    let low : bits_of 8 r ≡ bits_of 8 (r % 256) =
-    (let whole : r / 256 * 2 ^ 8 + r % 256 ≡ r = omega arith in
-    sym (ap (bits_of 8) whole) ∙ bits_of-below 8 (r / 256) 8 (r % 256) (omega arith)) in
-    let long : length (bits_of 8 second) ≡ length (bits_of 8 (r % 256)) = length-bits_of 8 second ∙ sym (length-bits_of 8 (r % 256)) in
-    let behind : plus (bits_of 8 second ++ m) (bits_of 8 r) ≡ bits_of 8 b ++ m =
-    ap (plus (bits_of 8 second ++ m)) (low ∙ sym (append-nil (bits_of 8 (r % 256))))
-    ∙ plus-append (bits_of 8 second) (bits_of 8 (r % 256)) m [] long
-    ∙ ap (λ t. plus (bits_of 8 second) (bits_of 8 (r % 256)) ++ t) (plus-nil m)
-    ∙ ap (λ t. t ++ m) (sym (bits_of-xor 8 second (r % 256)) ∙ ap (bits_of 8) (xor_comm second (r % 256))) in
-    ap (divided (8 + (8 + n))) (front_turned r first (bits_of 8 second ++ m) ∙ ap (λ t. bits_of 8 a ++ t) behind)
-    ∙ front_divides a (8 + n) (bits_of 8 b ++ m) (AreBits-append (bits_of 8 b) m (bits_of_are 8 b) are)
-    ∙ steps 8 b (after 8 a 0) m n are
-    ∙ ap (λ t. divided n (plus m t)) (parts_of b (after 8 a 0))
-    ∙ ap (λ k. divided n (plus m (bits_of 16 (bit_xor k (after 8 0 (after 8 a 0)))))) (sym given)
-    ∙ ap (λ k. divided n (plus m (bits_of 16 (bit_xor t k)))) (sym given_too)
+-- ---- six bytes
+pub six_bytes : (r a b c d e f t0 t1 t2 t3 t4 t5 : ℕ)
+    → t0 ≡ later 0 (after 8 f 0) → t1 ≡ later 1 (after 8 e 0) → t2 ≡ later 2 (after 8 d 0) → t3 ≡ later 3 (after 8 c 0)
+    → t4 ≡ later 4 (after 8 (bit_xor (r % 256) b) 0) → t5 ≡ later 5 (after 8 (bit_xor (r / 256) a) 0)
+    → bit_xor t0 (bit_xor t1 (bit_xor t2 (bit_xor t3 (bit_xor t4 t5))))
+    ≡ after 8 f (after 8 e (after 8 d (after 8 c (after 8 b (after 8 a r)))))
+six_bytes r a b c d e f t0 t1 t2 t3 t4 t5 h0 h1 h2 h3 h4 h5 =
+    let z : ℕ → ℕ = after 8 0 in
+    let p = after 8 (bit_xor (r % 256) b) 0 in
+    let q = after 8 0 (after 8 (bit_xor (r / 256) a) 0) in
+    let x = after 8 c 0 in
+    let y = after 8 d 0 in
+    let w = after 8 e 0 in
+    let both = after 8 b (after 8 a r) in
+    let third : after 8 c both ≡ bit_xor x (bit_xor (z p) (z q)) =
+    apart c both ∙ ap (bit_xor x) (ap z (two_bytes r a b) ∙ zeros_apart p q) in
+    let fourth : after 8 d (after 8 c both) ≡ bit_xor y (bit_xor (z x) (bit_xor (z (z p)) (z (z q)))) =
+    apart d (after 8 c both)
+    ∙ ap (bit_xor y) (ap z third ∙ zeros_apart x (bit_xor (z p) (z q)) ∙ ap (bit_xor (z x)) (zeros_apart (z p) (z q))) in
+    let fifth : after 8 e (after 8 d (after 8 c both))
+    ≡ bit_xor w (bit_xor (z y) (bit_xor (z (z x)) (bit_xor (z (z (z p))) (z (z (z q)))))) =
+    apart e (after 8 d (after 8 c both))
+    ∙ ap (bit_xor w)
+    (ap z fourth ∙ zeros_apart y (bit_xor (z x) (bit_xor (z (z p)) (z (z q))))
+    ∙ ap (bit_xor (z y))
+    (zeros_apart (z x) (bit_xor (z (z p)) (z (z q))) ∙ ap (bit_xor (z (z x))) (zeros_apart (z (z p)) (z (z q))))) in
+    let last : after 8 f (after 8 e (after 8 d (after 8 c both)))
+    ≡ bit_xor (after 8 f 0)
+    (bit_xor (z w) (bit_xor (z (z y)) (bit_xor (z (z (z x))) (bit_xor (z (z (z (z p)))) (z (z (z (z q)))))))) =
+    apart f (after 8 e (after 8 d (after 8 c both)))
+    ∙ ap (bit_xor (after 8 f 0))
+    (ap z fifth ∙ zeros_apart w (bit_xor (z y) (bit_xor (z (z x)) (bit_xor (z (z (z p))) (z (z (z q))))))
+    ∙ ap (bit_xor (z w))
+    (zeros_apart (z y) (bit_xor (z (z x)) (bit_xor (z (z (z p))) (z (z (z q)))))
+    ∙ ap (bit_xor (z (z y)))
+    (zeros_apart (z (z x)) (bit_xor (z (z (z p))) (z (z (z q))))
+    ∙ ap (bit_xor (z (z (z x)))) (zeros_apart (z (z (z p))) (z (z (z q))))))) in
+    ap₂ (λ s t. bit_xor s t) h0
+    (ap₂ (λ s t. bit_xor s t) h1
+    (ap₂ (λ s t. bit_xor s t) h2 (ap₂ (λ s t. bit_xor s t) h3 (ap₂ (λ s t. bit_xor s t) h4 h5))))
+    ∙ sym last

@@ -1,8 +1,7 @@
 -- Words of sixteen bits as two bytes, and as bits.
-use Rattle.std.proofs.Common.{◌≡◌, ℕ, zero, suc, ◌+◌, ◌-◌, ◌*◌, ◌/◌, ◌%◌, ◌^◌, ◌<◌, map, refl, replicate, List, [], ◌∷◌, ◌++◌, length, get_or, drop, take, sym, ◌∙◌, ap, ap₂, arith, subst, take_at, drop_at, length-append, pow-suc, length-take, inl, inr, append-nil, drop-cons, ◌↔◌}
+use Rattle.std.proofs.Common.{◌≡◌, ℕ, zero, suc, ◌+◌, ◌-◌, ◌*◌, ◌/◌, ◌%◌, ◌^◌, ◌<◌, map, refl, replicate, List, [], ◌∷◌, ◌++◌, length, get_or, drop, take, sym, ◌∙◌, ap, ap₂, arith, subst, take_at, drop_at, length-append, pow-suc, length-take, append-nil, drop-cons, ◌↔◌}
 use Rattle.std.proofs.lemmas.List.{drop_all, length-map}
-use Rattle.std.proofs.lemmas.Bool.{cases_eq}
-use Rattle.std.proofs.lemmas.Nat.Bits.{same_from_bits_below, bit_at_cat_high, bit_at_lowest}
+use Rattle.std.proofs.lemmas.Nat.Bits.{bit_at_cat_high, bit_at_lowest}
 use Rattle.std.specs.Int.{bit_at}
 use Rattle.std.proofs.lemmas.Nat.{mod-pow-add}
 use Rattle.byteorder.specs.Endian.{big_bytes}
@@ -10,22 +9,7 @@ use Rattle.fib_codec.specs.Spelling.{checked}
 use borrow.Rule.Slice.PartMut.{put_mid}
 use Rattle.fib_codec.specs.Crc.{bits_of, bits_of_bytes, check_bits, number_of_bits, check_word, IsChecked, AreBits, divided, dividend, without_leading}
 use Rattle.fib_codec.proofs.Division.{bits_of-suc, bits_of-zero, length-bits_of, bits_of-below, divided-zero, divided-suc}
-use Rattle.fib_codec.proofs.TableRule.{split, length-plus, divided-nil, without_bits, length-without}
-
--- numbers with the same bits have each bit the same
-same_bit : (w x y i : ℕ) → bits_of w x ≡ bits_of w y → i < w → bit_at x i ≡ bit_at y i
-same_bit zero x y i h lt = absurd (omega arith)
-same_bit (suc w) x y i h lt =
-    let both : bit_at x w ∷ bits_of w x ≡ bit_at y w ∷ bits_of w y = sym (bits_of-suc w x) ∙ h ∙ bits_of-suc w y in
-    let head : bit_at x w ≡ bit_at y w = cc in
-    let tail : bits_of w x ≡ bits_of w y = cc in
-    elim (cases_eq i w) [
-      | inl e ↦ ap (bit_at x) e ∙ head ∙ ap (bit_at y) (sym e)
-      | inr ne ↦ same_bit w x y i tail (omega arith)
-    ]
-
-pub one_word : (x y : ℕ) → x < 65536 → y < 65536 → bits_of 16 x ≡ bits_of 16 y → x ≡ y
-one_word x y p q h = same_from_bits_below 16 x y p q (λ i lt. same_bit 16 x y i h lt)
+use Rattle.fib_codec.proofs.Linear.{one_word, split, length-plus, divided-nil, without_bits, length-without}
 
 -- two bytes have the bits of the word that they spell
 pub sent_bits : (a b : ℕ) → b < 256 → bits_of_bytes (a ∷ b ∷ []) ≡ bits_of 16 (a * 256 + b)

@@ -109,6 +109,17 @@ fig_of w = if w.head.oe then Other (fig_bytes w.head w.entries) else Open (head_
 abbrev pub IsOurs : Written → Type 0
 IsOurs w = w.head.oe ≡ false
 
+-- a FIB with these data bytes holds exactly the FIGs that they are the bytes of, in order
+abbrev pub HoldsFigsOf : List ℕ → List ℕ → Type 0
+HoldsFigsOf bytes fib =
+    (figs : List Written) → Each IsWritten figs → bytes ≡ figs_bytes figs → IsFib fib (map fig_of figs)
+
+-- and it is the valid one, where each of them is of this ensemble
+abbrev pub IsValidOf : List ℕ → List ℕ → Type 0
+IsValidOf bytes fib =
+    (figs : List Written) → Each IsWritten figs → bytes ≡ figs_bytes figs → Each IsOurs figs
+    → IsValid fib (map fig_of figs)
+
 -- 32 bytes hold at most one list of FIGs
 abbrev pub OneList : Type 0
 OneList = (bytes : List ℕ) (figs others : List Fig) → IsFib bytes figs → IsFib bytes others → figs ≡ others

@@ -1,4 +1,4 @@
--- The register by which the check word is computed: sixteen bits, one or eight bits of the message a step.
+-- The register by which the check word is computed: sixteen bits, and a bit or more bytes of the message a step.
 use Rattle.std.specs.Prelude.{ℕ, zero, suc, ◌*◌, ◌%◌, ◌==◌, Bool, true, ◌&&◌, if◌then◌else◌, List, [], ◌∷◌, bit_xor}
 use Rattle.std.specs.Int.{bit_at}
 
@@ -12,12 +12,23 @@ unfoldable pub after : ℕ → ℕ → ℕ → ℕ
 after zero bits register = register
 after (suc width) bits register = after width bits (next register (bit_at bits width))
 
--- a table of the registers after each byte, from the byte at hand on: after that byte alone, and after that
--- byte and one of zeros
+-- the register after bytes of the message, one after another
+abbrev pub after_all : List ℕ → ℕ → ℕ
+after_all [] register = register
+after_all (byte ∷ bytes) register = after_all bytes (after 8 byte register)
+
+-- the register after so many bytes of zeros
+abbrev pub later : ℕ → ℕ → ℕ
+later zero register = register
+later (suc count) register = after 8 0 (later count register)
+
+-- a table of what each byte makes of an empty register, from the byte at hand on
 abbrev pub is_table : List ℕ → ℕ → Bool
 is_table [] byte = true
 is_table (entry ∷ entries) byte = entry == after 8 byte 0 && is_table entries (suc byte)
 
-abbrev pub is_second_table : List ℕ → ℕ → Bool
-is_second_table [] byte = true
-is_second_table (entry ∷ entries) byte = entry == after 8 0 (after 8 byte 0) && is_second_table entries (suc byte)
+-- a table of what becomes of each entry of another table after one more byte of zeros
+abbrev pub is_next_table : List ℕ → List ℕ → Bool
+is_next_table befores [] = true
+is_next_table [] (entry ∷ entries) = true
+is_next_table (before ∷ befores) (entry ∷ entries) = entry == after 8 0 before && is_next_table befores entries

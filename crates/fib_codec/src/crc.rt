@@ -1,8 +1,13 @@
-//! The check word of a FIB, bit by bit and by tables (EN 300 401 clause 5.2.1).
+//! The check word of a FIB, bit by bit, and by tables six bytes at a time (EN 300 401 clause 5.2.1).
 
-ghost use Rattle.std.specs.Prelude.{◌≡◌, ◌<◌, length};
-ghost use Rattle.fib_codec.specs.Crc.{bits_of, check_bits};
-ghost use Rattle.fib_codec.specs.Register.{next, after};
+ghost use Rattle.std.specs.Prelude.{◌≡◌, ◌↔◌, [], ◌∷◌, IsTrue};
+ghost use Rattle.fib_codec.specs.Crc.{bits_of, check_bits, IsChecked};
+ghost use Rattle.fib_codec.specs.Register.{next, after, after_all};
+
+use crate::crc_tables::{
+    turned_after_five, turned_after_four, turned_after_one, turned_after_three, turned_after_two,
+    turned_at_once,
+};
 
 /// The register after one bit of the message.
 fn step(register: u16, bit: u8) -> u16
@@ -32,4 +37,58 @@ pub fn crc16_by_bits(bytes: &[u8]) -> u16
         register = byte_step_by_bits(register, *byte);
     }
     register ^ 0xffff
+}
+
+/// The register after one byte of the message.
+fn byte_step(register: u16, byte: u8) -> u16
+    ensures { result ≡ after 8 byte register }
+{
+    let top = (register >> 8) as u8;
+    (register << 8) ^ turned_at_once(top ^ byte)
+}
+
+/// The register after these bytes of the message, a byte a step.
+fn bytes_step(mut register: u16, bytes: &[u8]) -> u16
+    ensures { result ≡ after_all bytes.now register }
+{
+    for byte in bytes {
+        register = byte_step(register, *byte);
+    }
+    register
+}
+
+/// The register after six bytes of the message.
+fn six_step(register: u16, a: u8, b: u8, c: u8, d: u8, e: u8, f: u8) -> u16
+    ensures { result ≡ after_all (a ∷ b ∷ c ∷ d ∷ e ∷ f ∷ []) register }
+{
+    let top = (register >> 8) as u8;
+    let low = (register % 256) as u8;
+    let front = turned_after_four(low ^ b) ^ turned_after_five(top ^ a);
+    turned_at_once(f)
+        ^ (turned_after_one(e) ^ (turned_after_two(d) ^ (turned_after_three(c) ^ front)))
+}
+
+/// The check word of these bytes as it is sent: the remainder of the long division by
+/// x^16 + x^12 + x^5 + 1, complemented.
+pub fn crc16(bytes: &[u8]) -> u16
+    ensures { bits_of 16 result ≡ check_bits bytes.now }
+{
+    let mut register = 0xffffu16;
+    let mut rest = bytes;
+    while rest.len() >= 6 {
+        register = six_step(
+            register, rest[0], rest[1], rest[2], rest[3], rest[4], rest[5],
+        );
+        let (_, behind) = rest.split_at(6);
+        rest = behind;
+    }
+    bytes_step(register, rest) ^ 0xffff
+}
+
+/// Whether the last two of these 32 bytes are the check word of the others.
+pub fn is_checked(fib: &[u8; 32]) -> bool
+    ensures { IsTrue result ↔ IsChecked fib.now }
+{
+    let word = crc16(&fib[..30]);
+    word == u16::from(fib[30]) * 256 + u16::from(fib[31])
 }

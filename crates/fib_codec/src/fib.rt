@@ -5,9 +5,9 @@ ghost use Rattle.arrayvec.specs.ArrayVec.{array_vec_len};
 ghost use Rattle.mux_config.specs.Configuration.{Each};
 ghost use Rattle.fib_codec.specs.Ranges.{IsWithin};
 ghost use Rattle.fib_codec.specs.Spelling.{head_byte as byte_of_head, entries_bytes, fig_bytes, IsUnder, IsFormed, FitsFig, Written, IsWritten, figs_bytes, filled, checked};
-ghost use Rattle.fib_codec.specs.Grammar.{IsFib, IsValid, fig_of, IsOurs};
+ghost use Rattle.fib_codec.specs.Grammar.{HoldsFigsOf, IsValidOf};
 
-use crate::crc_tables::crc16;
+use crate::crc::crc16;
 use crate::head::Head;
 use crate::write::{Data, entry_len, put_entry};
 use arrayvec::ArrayVec;
@@ -76,7 +76,8 @@ fn is_formed(head: Head, entries: &[Entry]) -> bool
 
 /// How many bytes these entries take, where that is no more than `room`.
 fn len_within(entries: &[Entry], room: usize) -> Option<usize>
-    ensures { MatchOption result (room < length (entries_bytes entries.now)) (λ len. (len ≡ length (entries_bytes entries.now)) × (len ≤ room)) }
+    ensures { let all = length (entries_bytes entries.now) in
+        MatchOption result (room < all) (λ len. (len ≡ all) × (len ≤ room)) }
 {
     let mut len = 0;
     for entry in entries {
@@ -175,8 +176,8 @@ impl Fib {
     /// are there as FIGs that aren't looked into, and without such a one the FIB is valid.
     pub fn finish(mut self) -> [u8; 32]
         ensures spelled { result ≡ checked (filled self) }
-        ensures figs { (figs : List Written) → Each IsWritten figs → self ≡ figs_bytes figs → IsFib result (map fig_of figs) }
-        ensures valid { (figs : List Written) → Each IsWritten figs → self ≡ figs_bytes figs → Each IsOurs figs → IsValid result (map fig_of figs) }
+        ensures figs { HoldsFigsOf self result }
+        ensures valid { IsValidOf self result }
     {
         fill(&mut self.bytes);
         sealed(self.bytes.as_slice())

@@ -7,14 +7,13 @@
 #![tactic(auto)]
 
 pub mod crc;
-pub mod crc_tables;
+mod crc_tables;
 pub mod fib;
 pub mod head;
 pub mod laws;
 pub mod write;
 
-pub use crc::crc16_by_bits;
-pub use crc_tables::{crc16, is_checked};
+pub use crc::{crc16, crc16_by_bits, is_checked};
 pub use fib::Fib;
 pub use head::Head;
 pub use mux_config::{

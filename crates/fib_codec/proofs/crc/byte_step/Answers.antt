@@ -1,0 +1,8 @@
+use Rattle.std.proofs.Common.{sym, ◌∙◌, ap, ◌*◌, ◌%◌}
+use Rattle.std.specs.Prelude.{bit_xor}
+use Rattle.fib_codec.proofs.Linear.{one_byte}
+use Rattle.fib_codec.proofs.crc.byte_step.Goals as goal
+
+pub returns : goal.returns
+returns c =
+    ap (bit_xor (c.args.register * 256 % 65536)) c.turned_at_once.ensures ∙ sym (one_byte c.args.register c.args.byte)

@@ -1,0 +1,6 @@
+use Rattle.std.proofs.Common.{◌≡◌, drop}
+use Rattle.fib_codec.specs.Register.{after_all}
+use Rattle.fib_codec.proofs.crc.bytes_step.Given as goal
+
+abbrev pub invariant-loop-byte : goal.invariant-loop-byte
+invariant-loop-byte l = after_all (drop l.byte-index l.bytes) l.register ≡ after_all l.bytes l.fn.register
