@@ -1,3 +1,4 @@
 mod Unmoved
 mod LastLevels
+mod Joined
 mod Vectors

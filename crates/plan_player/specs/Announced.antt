@@ -1,5 +1,5 @@
 -- What was heard of a notice, and when it is enough for the swap.
-use Rattle.std.specs.Prelude.{◌≡◌, ℕ, zero, suc, ◌+◌, ◌-◌, ◌%◌, ◌<◌, Bool, true, if◌then◌else◌, List, [], ◌∷◌, ◌++◌, Contains, slice_get, Option, Some, None}
+use Rattle.std.specs.Prelude.{◌≡◌, ◌↔◌, ℕ, zero, suc, ◌+◌, ◌-◌, ◌%◌, ◌<◌, Bool, true, if◌then◌else◌, List, [], ◌∷◌, ◌++◌, Contains, slice_get, Option, Some, None}
 use Rattle.mux_config.specs.Configuration.{Configuration}
 use Rattle.mux_config.specs.Entries.{EnsembleInformation}
 use Rattle.mux_config.specs.Facts.{Marked, facts_of}
@@ -11,7 +11,7 @@ use Rattle.plan_code.specs.Machine.{State}
 use Rattle.plan_player.specs.declared.event.Event.{Event}
 use Rattle.plan_player.specs.declared.event.Event.TheVariants.{Contact, Frame}
 use Rattle.plan_player.specs.Frames.{is_due, is_noticed, shown, shown_bytes, advanced, frame_bytes, FrameIsAllowed}
-use Rattle.plan_player.specs.Runs.{happens}
+use Rattle.plan_player.specs.Runs.{happens, run, run_frames, RunIsAllowed}
 
 -- ---- what is heard of frames, by their bytes alone
 
@@ -115,3 +115,15 @@ heard_along p s heard (e ∷ es) = heard_along p (happens p s e) (heard_by p s h
 -- every list of events runs from this state
 abbrev pub AlwaysRuns : Program → State → Type 0
 AlwaysRuns p s = (events : List Event) → Runs p s (heard_of p.plan s) events
+
+-- a run over some events and then over more is the run over all of them: its state, its frames, those that are heard of
+-- a notice, and that it meets no trap
+pub record IsJoined (p : Program) (s : State) (heard : List (List ℕ)) (events more : List Event) : Type 0 where
+  pub state : run p s (events ++ more) ≡ run p (run p s events) more
+  pub frames : run_frames p s (events ++ more) ≡ run_frames p s events ++ run_frames p (run p s events) more
+  pub hears : heard_along p s heard (events ++ more) ≡ heard_along p (run p s events) (heard_along p s heard events) more
+  pub plain : RunIsAllowed p s (events ++ more) ↔ (RunIsAllowed p s events × RunIsAllowed p (run p s events) more)
+  pub announced : Runs p s heard (events ++ more) ↔ (Runs p s heard events × Runs p (run p s events) (heard_along p s heard events) more)
+
+abbrev pub RunsJoin : Type 0
+RunsJoin = (p : Program) (s : State) (heard : List (List ℕ)) (events more : List Event) → IsJoined p s heard events more

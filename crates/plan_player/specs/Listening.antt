@@ -1,12 +1,11 @@
 -- What a listener knows that hears the frames of a run, and when it knows the current configuration
 -- (EN 300 401 clause 6.5).
 use Rattle.std.specs.Prelude.{◌≡◌, ℕ, ◌%◌, ◌≤◌, ◌⊎◌, true, false, List, [], ◌∷◌, ◌++◌, length, map, flat_map, take, Some}
-use Rattle.mux_config.specs.Configuration.{Configuration, Each}
-use Rattle.mux_config.specs.Facts.{sub_entries, service_entries}
+use Rattle.mux_config.specs.Configuration.{Each}
 use Rattle.fib_codec.specs.Grammar.{Fig, IsFib}
 use Rattle.fib_codec.specs.Heard.{fib_at}
-use Rattle.fib_reader.specs.Raw.{raw_entry}
-use Rattle.fib_reader.specs.Listening.{Pictured, Listening, untuned, all_entries, hear_figs}
+use Rattle.fib_reader.specs.Listening.{Listening, untuned, hear_figs}
+use Rattle.fib_reader.specs.Picture.{Shows}
 use Rattle.plan_code.specs.Program.{Program}
 use Rattle.plan_code.specs.Machine.{State}
 use Rattle.plan_player.specs.declared.event.Event.{Event}
@@ -30,10 +29,6 @@ HearsFib fib old new = (figs : List Fig) × IsFib fib figs × (hear_figs figs ol
 abbrev pub HearsAll : List (List ℕ) → Listening → Listening → Type 0
 HearsAll [] old new = new ≡ old
 HearsAll (fib ∷ fibs) old new = (between : Listening) × HearsFib fib old between × HearsAll fibs between new
-
--- a picture shows exactly the entries of a configuration
-abbrev pub Shows : Pictured → Configuration → Type 0
-Shows picture c = all_entries picture ≡ map raw_entry (sub_entries c ++ service_entries c)
 
 -- ---- when a listener has been tuned
 
@@ -96,11 +91,11 @@ KnowsTheNew p s =
     → Shows heard.current (run p s (waiting ++ notice)).next
 
 -- whatever a listener hears of a typed code, it has room for, and then it knows the configuration
-abbrev pub HasRoom : Program → State → Type 0
-HasRoom p s = (events : List Event) → (heard : Listening) × HearsAll (fibs_of (run_frames p s events)) untuned heard
+abbrev pub IsNeverFull : Program → State → Type 0
+IsNeverFull p s = (events : List Event) → (heard : Listening) × HearsAll (fibs_of (run_frames p s events)) untuned heard
 
 pub record ListenersKnow (p : Program) (s : State) : Type 0 where
-  pub room : HasRoom p s
+  pub room : IsNeverFull p s
   pub current : KnowsTheCurrent p s
   pub after_swap : KnowsTheNew p s
 
