@@ -3,6 +3,9 @@
 mod codes;
 mod faults;
 mod files;
+mod full;
+mod kinds;
+mod largest;
 mod lines;
 
 /// The file of a code of one instruction, `End` in line 7, with nothing in its one configuration.

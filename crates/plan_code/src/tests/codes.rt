@@ -1,7 +1,8 @@
 //! Codes made of their parts.
 
 use crate::{
-    Code, ContactId, Contacts, CounterId, Counters, Instr, Label, Line, Plan, decode, encode,
+    Code, ContactId, Contacts, CounterId, Counters, DayFrame, Delay, Frames, Instr, Label, Line,
+    Plan, Times,
 };
 use mux_config::Config;
 use std::alloc::{AllocError, Global};
@@ -40,6 +41,8 @@ const LABEL: Label = Label {
 #[test]
 fn limits_of_a_plan(rt: HostRuntime) -> Result<(), Fail> {
     assert!(rt; one(rt.alloc(), PLAN, LABEL)?.is_some());
+    assert!(rt; one(rt.alloc(), Plan { period: 0, ..PLAN }, LABEL)?.is_none());
+    assert!(rt; one(rt.alloc(), Plan { period: 1, ..PLAN }, LABEL)?.is_some());
     assert!(rt; one(rt.alloc(), Plan { period: 60, ..PLAN }, LABEL)?.is_some());
     assert!(rt; one(rt.alloc(), Plan { period: 61, ..PLAN }, LABEL)?.is_none());
     assert!(rt;
@@ -54,6 +57,30 @@ fn limits_of_a_plan(rt: HostRuntime) -> Result<(), Fail> {
         .is_some()
     );
     assert!(rt; one(rt.alloc(), Plan { notice: 11, ..PLAN }, LABEL)?.is_none());
+    assert!(rt; one(rt.alloc(), Plan { notice: 12, ..PLAN }, LABEL)?.is_some());
+    assert!(rt;
+        one(
+            rt.alloc(),
+            Plan {
+                notice: 249,
+                ..PLAN
+            },
+            LABEL
+        )?
+        .is_none()
+    );
+    assert!(rt; one(rt.alloc(), Plan { budget: 1, ..PLAN }, LABEL)?.is_some());
+    assert!(rt;
+        one(
+            rt.alloc(),
+            Plan {
+                budget: 255,
+                ..PLAN
+            },
+            LABEL
+        )?
+        .is_some()
+    );
     assert!(rt; one(rt.alloc(), Plan { budget: 0, ..PLAN }, LABEL)?.is_none());
     Ok(())
 }
@@ -110,36 +137,54 @@ fn limits_of_a_label(rt: HostRuntime) -> Result<(), Fail> {
     Ok(())
 }
 
-/// The largest tables, in which each instruction is an `End`.
+/// A code of one configuration whose labels stand at these two places.
+fn two(alloc: Global, first: u16, second: u16) -> Result<Option<Code>, AllocError> {
+    let mut configs = Vec::new(alloc);
+    configs.push(Config::new())?;
+    let mut labels = Vec::new(alloc);
+    labels.push(Label { pc: first, ..LABEL })?;
+    labels.push(Label {
+        pc: second,
+        ..LABEL
+    })?;
+    let mut lines = Vec::new(alloc);
+    lines.push(Line {
+        number: 1,
+        instr: Instr::End,
+    })?;
+    Ok(Code::new(PLAN, configs, labels, lines))
+}
+
 #[test]
-fn the_largest_tables(rt: HostRuntime) -> Result<(), Fail> {
-    let mut configs = Vec::new(rt.alloc());
-    for _ in 0..256u16 {
-        configs.push(Config::new())?;
-    }
-    let mut labels = Vec::new(rt.alloc());
-    for pc in 0..1024u16 {
-        labels.push(Label {
-            pc,
-            cur: pc / 4,
-            ..LABEL
-        })?;
-    }
-    let mut lines = Vec::new(rt.alloc());
-    for number in 0..4096u16 {
-        lines.push(Line {
-            number,
-            instr: Instr::End,
-        })?;
-    }
-    let code = Code::new(PLAN, configs, labels, lines).ok_or("a code")?;
-    let bytes = encode(rt.alloc(), &code)?;
-    assert_eq!(rt; bytes.len(), 26_384);
-    let again = decode(rt.alloc(), &bytes)?;
-    assert_eq!(rt; again.configs().len(), 256);
-    assert_eq!(rt; again.lines().len(), 4096);
-    assert_eq!(rt; again.label_at(1023).ok_or("a label")?.cur, 255);
-    assert_eq!(rt; again.label_at(1024), None);
+fn labels_ascend(rt: HostRuntime) -> Result<(), Fail> {
+    assert!(rt; two(rt.alloc(), 0, 1)?.is_some());
+    assert!(rt; two(rt.alloc(), 7, 65_535)?.is_some());
+    assert!(rt; two(rt.alloc(), 1, 1)?.is_none());
+    assert!(rt; two(rt.alloc(), 1, 0)?.is_none());
+    Ok(())
+}
+
+#[test]
+fn numbers_within_their_limits(rt: HostRuntime) -> Result<(), Fail> {
+    assert_eq!(rt; Frames::new(0), None);
+    assert_eq!(rt; Frames::new(1).ok_or("one frame")?.get(), 1);
+    assert_eq!(rt; Frames::new(65_535).ok_or("frames")?.get(), 65_535);
+    assert_eq!(rt; Times::new(0), None);
+    assert_eq!(rt; Times::new(1).ok_or("once")?.get(), 1);
+    assert_eq!(rt; Times::new(65_535).ok_or("times")?.get(), 65_535);
+    assert_eq!(rt; Delay::new(0), None);
+    assert_eq!(rt; Delay::new(1).ok_or("one frame")?.get(), 1);
+    assert_eq!(rt; Delay::new(60_000).ok_or("frames")?.get(), 60_000);
+    assert_eq!(rt; Delay::new(60_001), None);
+    assert_eq!(rt;
+        DayFrame::new(3_599_999).ok_or("the last")?.get(),
+        3_599_999
+    );
+    assert_eq!(rt; DayFrame::new(3_600_000), None);
+    assert_eq!(rt; ContactId::new(15).ok_or("a contact")?.get(), 15);
+    assert_eq!(rt; ContactId::new(16), None);
+    assert_eq!(rt; CounterId::new(7).ok_or("a counter")?.get(), 7);
+    assert_eq!(rt; CounterId::new(8), None);
     Ok(())
 }
 
@@ -158,7 +203,5 @@ fn sets_of_counters_and_contacts(rt: HostRuntime) -> Result<(), Fail> {
     assert_eq!(rt; contacts, Contacts(0x8001));
     assert!(rt; contacts.is_closed(last));
     assert_eq!(rt; contacts.with(last, false), Contacts::CONTACT_0);
-    assert!(rt; ContactId::new(16).is_none());
-    assert!(rt; CounterId::new(8).is_none());
     Ok(())
 }

@@ -1,7 +1,8 @@
 //! The first fault of a file in which one byte was changed.
 
 use super::{LONG_FILE, LOOP_FILE, SHORT_FILE};
-use crate::{CodeFault, decode};
+use crate::{CodeFault, decode, encode};
+use std::alloc::Global;
 use std::test::Fail;
 
 /// A place, the byte that it is changed to, and the fault.
@@ -66,9 +67,11 @@ const LONG_ROWS: [Row; 18] = [
     (86, 0x24, CodeFault::Field(86)),
 ];
 
-const LOOP_ROWS: [Row; 5] = [
+const LOOP_ROWS: [Row; 7] = [
     // a label that is no later than the one before it
     (33, 0, CodeFault::Field(32)),
+    (20, 1, CodeFault::Field(32)),
+    (20, 2, CodeFault::Field(32)),
     // counters and times
     (48, 8, CodeFault::Field(48)),
     (50, 0, CodeFault::Field(49)),
@@ -106,24 +109,86 @@ fn faults_of_labels_and_counters(rt: HostRuntime) {
     }
 }
 
-/// A fault of a kind that reading has; want of memory is none of these.
-fn is_named(fault: CodeFault) -> bool {
-    match fault {
-        CodeFault::Memory => false,
-        _ => true,
+/// A place, the byte that it is changed to, where its field ends, and the fault.
+type Cut = (usize, u8, usize, CodeFault);
+
+const CUTS: [Cut; 21] = [
+    (0, 0x45, 4, CodeFault::Magic),
+    (4, 2, 5, CodeFault::Version),
+    (7, 0, 8, CodeFault::Field(7)),
+    (8, 11, 9, CodeFault::Field(8)),
+    (9, 0, 10, CodeFault::Field(9)),
+    (11, 0, 12, CodeFault::Field(10)),
+    (10, 1, 12, CodeFault::Limit),
+    (13, 0, 14, CodeFault::Field(12)),
+    (12, 4, 14, CodeFault::Limit),
+    (15, 0, 16, CodeFault::Field(14)),
+    (14, 16, 16, CodeFault::Limit),
+    (16, 65, 17, CodeFault::Field(16)),
+    (22, 1, 23, CodeFault::Field(21)),
+    (24, 1, 25, CodeFault::Field(23)),
+    (25, 2, 26, CodeFault::Field(25)),
+    // the least bound, before the greatest
+    (25, 1, 28, CodeFault::Field(26)),
+    (27, 1, 28, CodeFault::Field(26)),
+    (29, 1, 30, CodeFault::Field(28)),
+    (31, 0, 32, CodeFault::Field(31)),
+    (34, 0x00, 35, CodeFault::Field(34)),
+    (34, 0x24, 35, CodeFault::Field(34)),
+];
+
+/// The fault of so many bytes at the front.
+fn fault_of_front(alloc: Global, bytes: &[u8], length: usize) -> Option<CodeFault> {
+    if length > bytes.len() {
+        return None;
+    }
+    decode(alloc, &bytes[..length]).err()
+}
+
+/// A field is judged as soon as its bytes are there, and is missing before.
+#[test]
+fn files_that_are_cut_at_a_fault(rt: HostRuntime) {
+    for (place, byte, end, fault) in CUTS {
+        let mut bytes = SHORT_FILE;
+        assert!(rt; place < 35 && 1 <= end);
+        bytes[place] = byte;
+        assert_eq!(rt; fault_of_front(rt.alloc(), &bytes, end), Some(fault));
+        assert_eq!(rt;
+            fault_of_front(rt.alloc(), &bytes, end - 1),
+            Some(CodeFault::Truncated)
+        );
+    }
+}
+
+#[test]
+fn each_other_first_byte(rt: HostRuntime) {
+    for byte in 0..=255u8 {
+        let mut bytes = SHORT_FILE;
+        bytes[0] = byte;
+        let is_first = byte == 0x44;
+        assert_eq!(rt;
+            decode(rt.alloc(), &bytes).err() == Some(CodeFault::Magic),
+            !is_first
+        );
+    }
+}
+
+/// Whether the bytes are refused by a fault that has a name, or are the file of the code that they are read as;
+/// want of memory is neither.
+fn is_refused_or_file(alloc: Global, bytes: &[u8]) -> bool {
+    match decode(alloc, bytes) {
+        Ok(code) => encode(alloc, &code).is_ok_and(|file| file.as_slice() == bytes),
+        Err(fault) => fault != CodeFault::Memory,
     }
 }
 
 #[test]
 fn each_byte_changed_to_each_other_value(rt: HostRuntime) {
     for place in 0..89usize {
-        for byte in 0..256u16 {
+        for byte in 0..=255u8 {
             let mut bytes = LONG_FILE;
-            bytes[place] = byte as u8;
-            match decode(rt.alloc(), &bytes) {
-                Ok(code) => assert!(rt; code.lines().len() > 0),
-                Err(fault) => assert!(rt; is_named(fault)),
-            }
+            bytes[place] = byte;
+            assert!(rt; is_refused_or_file(rt.alloc(), &bytes));
         }
     }
 }

@@ -111,8 +111,11 @@ fn files_that_are_cut(rt: HostRuntime) {
 
 #[test]
 fn a_byte_too_many(rt: HostRuntime) -> Result<(), Fail> {
-    let mut bytes = SHORT_FILE.to_vec(rt.alloc())?;
-    bytes.push(0)?;
-    assert_eq!(rt; decode(rt.alloc(), &bytes).err(), Some(CodeFault::Trailing));
+    let mut short = SHORT_FILE.to_vec(rt.alloc())?;
+    short.push(0)?;
+    assert_eq!(rt; decode(rt.alloc(), &short).err(), Some(CodeFault::Trailing));
+    let mut long = LONG_FILE.to_vec(rt.alloc())?;
+    long.push(0x07)?;
+    assert_eq!(rt; decode(rt.alloc(), &long).err(), Some(CodeFault::Trailing));
     Ok(())
 }
