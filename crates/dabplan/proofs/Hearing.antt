@@ -2,10 +2,9 @@
 use Rattle.std.proofs.Common.{◌≡◌, ℕ, ◌+◌, ◌<◌, List, [], ◌∷◌, length, drop, drop-cons, add-one, get_or, Result, Ok, Err, inl, inr, refl, sym, subst}
 use Rattle.fib_reader.specs.declared.fault.FibFault.{FibFault}
 use Rattle.fib_reader.specs.declared.fault.ListenFault.{ListenFault}
-use Rattle.fib_reader.specs.declared.fault.ListenFault.TheVariants.{Fib, Full}
+use Rattle.fib_reader.specs.declared.fault.ListenFault.TheVariants.{Fib}
 use Rattle.fib_reader.specs.Listening.{Listening, Hears}
 use Rattle.dabplan.specs.declared.listen.StreamFault.{StreamFault}
-use Rattle.dabplan.specs.declared.listen.StreamFault.TheVariants.{Full as NoRoom}
 use Rattle.dabplan.specs.declared.listen.Heard.{Heard}
 use Rattle.dabplan.specs.Stream.{HearsAll}
 

@@ -1,5 +1,5 @@
 -- What a new listener knows after a stream of FIBs.
-use Rattle.std.specs.Prelude.{◌≡◌, ℕ, suc, ◌+◌, ◌/◌, ◌%◌, ◌<◌, ◌⊎◌, List, [], ◌∷◌, length, Result, Ok, Err}
+use Rattle.std.specs.Prelude.{◌≡◌, ℕ, ◌+◌, ◌/◌, ◌%◌, ◌<◌, ◌⊎◌, List, [], ◌∷◌, length, Result, Ok, Err}
 use Rattle.std.specs.Simd.{first_chunks}
 use Rattle.fib_reader.specs.Listening.{Listening, untuned, Hears}
 use Rattle.fib_reader.specs.declared.fault.FibFault.{FibFault}

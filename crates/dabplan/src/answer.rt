@@ -7,9 +7,9 @@ use crate::ending::{Failure, Status};
 use crate::files::Files;
 use crate::output::Output;
 use crate::{frame, listen};
-use std::alloc::Global;
+use std::alloc::{AllocError, Global};
 use std::convert::AsStr;
-use std::io::{self, Write};
+use std::io::{self, ErrorKind, Write};
 
 /// The program: does what the words after its name ask for, prints to `out`, and answers its exit status.
 ///
@@ -25,10 +25,32 @@ pub fn answer<S: AsStr, F: Files, W: Write>(
     ensures { result ≤ 2 }
 {
     let mut output = Output::new(out);
-    let Ok(status) = obey(alloc, words, files, &mut output) else {
+    let ended = obey(alloc, words, files, &mut output);
+    status_of(ended, &mut output)
+}
+
+/// The answer where the words themselves can't be had: prints why, and answers the exit status, 1 where there
+/// was no memory for them or `out` failed, and else 2.
+pub fn answer_without_words<W: Write>(alloc: Global, error: &io::Error, out: &mut W) -> u8
+    ensures { result ≤ 2 }
+{
+    let mut output = Output::new(out);
+    let unasked = match error.kind() {
+        ErrorKind::OutOfMemory => Unasked::Memory,
+        _ => Unasked::NoText,
+    };
+    let ended = explain(alloc, unasked, &mut output);
+    status_of(ended, &mut output)
+}
+
+/// The exit status, once all that is printed went out.
+fn status_of<W: Write>(ended: io::Result<Status>, out: &mut W) -> u8
+    ensures { result ≤ 2 }
+{
+    let Ok(status) = ended else {
         return Status::Refused as u8;
     };
-    match output.flush() {
+    match out.flush() {
         Ok(()) => status as u8,
         Err(_) => Status::Refused as u8,
     }
@@ -60,30 +82,25 @@ fn told<W: Write>(ended: Result<Status, Failure<'_>>, out: &mut W) -> io::Result
 
 /// Prints the help that was asked for, or the one line of a mistake on the command line.
 fn explain<W: Write>(alloc: Global, unasked: Unasked<'_>, out: &mut W) -> io::Result<Status> {
-    match unasked {
+    let text = match unasked {
         Unasked::Help(help) => {
             write!(out, "{help}")?;
-            Ok(Status::Done)
+            return Ok(Status::Done);
         }
-        Unasked::Mistake(error) => match error.to_string(alloc) {
-            Ok(text) => {
-                mistake(text.as_str(), out)?;
-                Ok(Status::Misused)
-            }
-            Err(_) => told(Err(Failure::Memory), out),
-        },
-        Unasked::Digits { option, value } => {
-            writeln!(
-                out,
-                "error: invalid value '{value}' for '{option}': four digits 0-9 A-F are wanted"
-            )?;
+        Unasked::Mistake(error) => error.to_string(alloc),
+        Unasked::Digits { option, value } => format!(in alloc;
+            "error: invalid value '{value}' for '{option}': four digits 0-9 A-F are wanted"
+        ),
+        Unasked::Nothing => "error: a command is wanted: frame, listen or help".to_string(alloc),
+        Unasked::NoText => "error: a word of the command line is not UTF-8".to_string(alloc),
+        Unasked::Memory => Err(AllocError),
+    };
+    match text {
+        Ok(text) => {
+            mistake(text.as_str(), out)?;
             Ok(Status::Misused)
         }
-        Unasked::Nothing => {
-            writeln!(out, "error: a command is wanted: frame, listen or help")?;
-            Ok(Status::Misused)
-        }
-        Unasked::Memory => told(Err(Failure::Memory), out),
+        Err(_) => told(Err(Failure::Memory), out),
     }
 }
 

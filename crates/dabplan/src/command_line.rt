@@ -41,6 +41,8 @@ pub enum Unasked<'a> {
     },
     /// They name no command, or lack what it needs.
     Nothing,
+    /// They are no text.
+    NoText,
     /// There was no memory to read them.
     Memory,
 }
@@ -95,12 +97,14 @@ fn frame<'a>(alloc: Global) -> Result<Command<'a>, AllocError> {
         .long("count")
         .value_name("N")
         .required(true)
+        .allow_negative_numbers(true)
         .value_parser(value_parser!(u16).range(..5000))
         .help("The CIF count of the frame, 0 to 4999; FIG 0/0 is sent where 4 divides it");
     let page = Arg::new(alloc, "page")
         .long("page")
         .value_name("K")
         .default_value("0")
+        .allow_negative_numbers(true)
         .value_parser(value_parser!(u16))
         .help("Which frame of a configuration that needs more than one, from 0");
     Command::new(alloc, "frame")

@@ -5,7 +5,16 @@ Writes and hears what the Fast Information Channel of a DAB ensemble says of its
 sub-channels, services and their components (EN 300 401, FIG 0/0 to 0/3).";
 
 pub const AFTER_PROGRAM: &str = "\
-'dabplan help COMMAND' tells what goes into a command, what comes out, and shows an example.
+What goes in and comes out:
+  frame   reads a configuration record, a short binary file: how many sub-channels, services and
+          packet components there are, and then each of them, field by field. It prints three
+          FIBs of 32 bytes as hexadecimal digits.
+  listen  reads a binary file of FIBs, and prints the multiplex that they describe.
+'dabplan help COMMAND' tells more: each field, each line, an example.
+
+Example: sub-channel 1 of 128 kbit/s at 3-A, and service C221 with audio of type 63 on it
+  printf '\\001\\001\\000\\001\\000\\000\\000\\003\\000\\200\\000\\302\\041\\001\\000\\077\\001' |
+    dabplan frame - --ensemble E1C5 --count 0
 
 Exit status:
   0  done, or help was asked for

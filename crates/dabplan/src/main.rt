@@ -20,14 +20,22 @@ use std::process::ExitCode;
 use std::{env, io};
 
 fn main(rt: HostRuntime) -> io::Result<ExitCode> {
-    let mut words: Vec<String> = env::args(&rt)?.collect(rt.alloc())?;
+    let mut files = files::System::new(&rt);
+    let mut out = io::writer(&rt);
+    let status = match words(&rt) {
+        Ok(words) => answer::answer(rt.alloc(), words.as_slice(), &mut files, &mut out),
+        Err(error) => answer::answer_without_words(rt.alloc(), &error, &mut out),
+    };
+    Ok(ExitCode::from(status))
+}
+
+/// The words after the program's name.
+fn words(rt: &HostRuntime) -> io::Result<Vec<String>> {
+    let mut words: Vec<String> = env::args(rt)?.collect(rt.alloc())?;
     if !words.is_empty() {
         words.remove(0);
     }
-    let mut files = files::System::new(&rt);
-    let mut out = io::writer(&rt);
-    let status = answer::answer(rt.alloc(), words.as_slice(), &mut files, &mut out);
-    Ok(ExitCode::from(status))
+    Ok(words)
 }
 
 #[cfg(test)]

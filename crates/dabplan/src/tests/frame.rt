@@ -6,15 +6,30 @@ use std::test::Fail;
 /// One audio service: sub-channel 1 at 3-A 128 kbit/s, service C221 with audio of type 63 on it.
 const ONE_PROGRAMME: &str = "01 01 00 01 00 00 00 03 00 80 00 C2 21 01 00 3F 01";
 
+/// A service that a packet component carries: sub-channel 5 at 3-A 64 kbit/s, service C221, packet component 1.
+const ONE_PACKET_SERVICE: &str =
+    "01 01 01 05 00 00 00 03 00 40 00 C2 21 01 03 00 01 00 01 00 3C 05 00 01";
+
 const EMPTY_FIB: &str = "FF0000000000000000000000000000000000000000000000000000000000A8A8\n";
 
 /// What is printed of a record, with its exit status.
 #[test]
 fn records(rt: HostRuntime) -> Result<(), Fail> {
-    let first = "0500E1C500000501040088600602C221013F06FF000000000000000000002369\n";
+    let counted = "0500E1C500000501040088600602C221013F06FF000000000000000000002369\n";
+    let carried = "0501140088300602C22101C006060300103C1401FF00000000000000000062EF\n";
     for (record, options, wanted) in [
-        (ONE_PROGRAMME, "--count 0", [first, EMPTY_FIB, EMPTY_FIB]),
+        (ONE_PROGRAMME, "--count 0", [counted, EMPTY_FIB, EMPTY_FIB]),
+        (
+            ONE_PROGRAMME,
+            "--count +000 --page +0",
+            [counted, EMPTY_FIB, EMPTY_FIB],
+        ),
         ("00 00 00", "--count 1", [EMPTY_FIB, EMPTY_FIB, EMPTY_FIB]),
+        (
+            ONE_PACKET_SERVICE,
+            "--count 1",
+            [carried, EMPTY_FIB, EMPTY_FIB],
+        ),
     ] {
         let line = format!(in rt.alloc(); "frame - --ensemble E1C5 {options}")?;
         let bytes = bytes_of(rt.alloc(), record)?;
@@ -32,6 +47,7 @@ fn records(rt: HostRuntime) -> Result<(), Fail> {
 #[test]
 fn refused_records(rt: HostRuntime) -> Result<(), Fail> {
     let overlap = "02 00 00 01 00 00 00 03 00 80 02 00 00 00 03 00 40";
+    let one_address = "01 00 02 05 00 00 00 03 00 40 00 01 00 3C 05 00 01 00 02 00 3C 05 00 01";
     for (record, page, wanted) in [
         ("", 0, "record: Short\n"),
         ("01 01 00 01 00 00 00 03 00", 0, "record: Short\n"),
@@ -43,6 +59,7 @@ fn refused_records(rt: HostRuntime) -> Result<(), Fail> {
         (overlap, 1, "refused: Overlap 1 2\n"),
         ("00 01 00 00 C2 21 00", 0, "refused: EmptyService\n"),
         ("00 01 00 00 C2 21 01 00 3F 01", 0, "refused: Orphan\n"),
+        (one_address, 0, "refused: AddressUsed\n"),
         (ONE_PROGRAMME, 1, "refused: no such page\n"),
         (ONE_PROGRAMME, 65535, "refused: no such page\n"),
     ] {
@@ -90,38 +107,33 @@ fn row_of_subs(alloc: Global, count: u8, components: u8) -> Result<Vec<u8>, Allo
     Ok(record)
 }
 
-/// Packages beyond one FIB and beyond one page: how each FIB begins.
+/// Configurations that take more than one FIB, and more than one page.
 #[test]
 fn packed_fibs(rt: HostRuntime) -> Result<(), Fail> {
-    for (count, components, options, wanted) in [
-        (
-            13,
-            0,
-            "--count 0",
-            [
-                "0500E1C50000150104008C04",
-                "1D0118148C04",
-                "050134308C04FF0000",
-            ],
-        ),
-        (
-            19,
-            12,
-            "--count 1 --page 1",
-            ["FF00000000", "1C02C2210C3F06", "FF00000000"],
-        ),
+    let thirteen = [
+        "0500E1C50000150104008C0408048C040C088C04100C8C0414108C04FF00A044\n",
+        "1D0118148C041C188C04201C8C0424208C0428248C042C288C04302C8C049C07\n",
+        "050134308C04FF00000000000000000000000000000000000000000000009BF1\n",
+    ];
+    let large_service = [
+        EMPTY_FIB,
+        "1C02C2210C3F063F083F0C3F103F143F183F1C3F203F243F283F2C3F30FF7400\n",
+        EMPTY_FIB,
+    ];
+    let no_page = ["refused: no such page\n", "", ""];
+    for (count, components, options, status, wanted) in [
+        (13, 0, "--count 0", 0, thirteen),
+        (13, 0, "--count 0 --page 1", 1, no_page),
+        (19, 12, "--count 1 --page 1", 0, large_service),
+        (19, 12, "--count 1 --page 2", 1, no_page),
     ] {
         let line = format!(in rt.alloc(); "frame - --ensemble E1C5 {options}")?;
         let record = row_of_subs(rt.alloc(), count, components)?;
         let mut files = OneFile::new("-", Ok(record.as_slice()));
-        let (status, printed) = run(rt.alloc(), line.as_str(), &mut files)?;
-        assert_eq!(rt; status, 0);
-        let mut lines = 0usize;
-        for (fib, begin) in printed.as_str().lines().zip(wanted) {
-            assert!(rt; fib.starts_with(begin), "{fib}");
-            lines = lines.saturating_add(1);
-        }
-        assert_eq!(rt; lines, 3);
+        let (answered, printed) = run(rt.alloc(), line.as_str(), &mut files)?;
+        let whole = wanted.as_slice().concat(rt.alloc())?;
+        assert_eq!(rt; printed.as_str(), whole.as_str(), "{options}");
+        assert_eq!(rt; answered, status, "{options}");
     }
     Ok(())
 }

@@ -61,6 +61,23 @@ fn listings(rt: HostRuntime) -> Result<(), Fail> {
     Ok(())
 }
 
+/// A FIB with a bit turned is counted, and tells nothing.
+#[test]
+fn damaged_fibs(rt: HostRuntime) -> Result<(), Fail> {
+    let damaged = "fibs 1 damaged 1\ncurrent\nnext\nno swap\n";
+    for turned in 0usize..32 {
+        let mut fib = fib_of(rt.alloc(), ONE_PROGRAMME[0])?;
+        if let Some(byte) = fib.get_mut(turned) {
+            *byte ^= 1;
+        }
+        let mut files = OneFile::new("x.fib", Ok(fib.as_slice()));
+        let (status, printed) = run(rt.alloc(), "listen x.fib", &mut files)?;
+        assert_eq!(rt; printed.as_str(), damaged, "{turned}");
+        assert_eq!(rt; status, 0, "{turned}");
+    }
+    Ok(())
+}
+
 /// Each form of an entry.
 #[test]
 fn all_forms(rt: HostRuntime) -> Result<(), Fail> {

@@ -1,4 +1,4 @@
-use Rattle.std.proofs.Common.{◌≡◌, ℕ, ◌<◌, None, Ok, ap, ap₂, ◌∙◌, arith, lt-ltb}
+use Rattle.std.proofs.Common.{◌≡◌, ◌<◌, None, Ok, ap, ap₂, ◌∙◌, arith, lt-ltb}
 use Rattle.fib_carousel.specs.Pages.{page_set, rounds}
 use Rattle.fib_carousel.specs.Bytes.{page_bytes}
 use Rattle.dabplan.proofs.frame.page_of.Goals as goal

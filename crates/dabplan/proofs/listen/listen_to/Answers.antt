@@ -1,4 +1,4 @@
-use Rattle.std.proofs.Common.{◌≡◌, ℕ, arith}
+use Rattle.std.proofs.Common.{arith}
 use Rattle.dabplan.proofs.Hearing.{one_heard, one_damaged}
 use Rattle.dabplan.proofs.listen.listen_to.Goals as goal
 use Rattle.dabplan.proofs.listen.listen_to.Goals.{in-Ok, in-Err-Fib}

@@ -1,8 +1,8 @@
-use Rattle.std.proofs.Common.{◌≡◌, ℕ, ◌≤◌, drop, Result}
+use Rattle.std.proofs.Common.{ℕ, ◌≤◌, drop, Result}
 use Rattle.fib_reader.specs.Listening.{untuned}
 use Rattle.dabplan.specs.declared.listen.StreamFault.{StreamFault}
 use Rattle.dabplan.specs.declared.listen.Heard.{Heard}
-use Rattle.dabplan.specs.Stream.{HearsAll, fibs_of}
+use Rattle.dabplan.specs.Stream.{HearsAll}
 use Rattle.dabplan.proofs.listen.listen_to.Given as goal
 
 -- what is heard from here on is what is heard from the start

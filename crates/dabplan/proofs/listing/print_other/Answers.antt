@@ -1,4 +1,4 @@
-use Rattle.std.proofs.Common.{◌≡◌, refl}
+use Rattle.std.proofs.Common.{refl}
 use Rattle.std.proofs.KnownBytes.{Appends-trans}
 use Rattle.dabplan.proofs.Appending.{then_appends}
 use Rattle.dabplan.proofs.listing.print_other.Goals as goal

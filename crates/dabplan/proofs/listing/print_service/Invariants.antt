@@ -1,4 +1,4 @@
-use Rattle.std.proofs.Common.{List, ◌++◌, codes, take}
+use Rattle.std.proofs.Common.{◌++◌, codes, take}
 use Rattle.std.specs.List.{flat_map}
 use Rattle.std.specs.Io.KnownBytes.{Appends}
 use Rattle.dabplan.specs.Lines.{component_line, sid_digits}
