@@ -1,4 +1,4 @@
--- The first fault of a fast information block, from the front; the CRC comes before all others.
+-- The first fault of a FIB, from the front; the check word comes before all others.
 use Rattle.std.specs.Prelude.{◌≡◌, ℕ, zero, suc, ◌+◌, ◌-◌, ◌%◌, ◌==◌, Bool, false, if◌then◌else◌, nat_lt, List, [], ◌∷◌, length, get_or, take, drop, Option, Some, None, ◌⊎◌}
 use Rattle.fib_codec.specs.Grammar.{entry_len, is_open, is_long}
 use Rattle.fib_codec.specs.Crc.{IsChecked}
@@ -54,7 +54,7 @@ figs_fault (suc n) place (h ∷ bs) =
     if h == 255 then None
     else or_else (fig_fault place h bs) (figs_fault n (place + 1 + h % 32) (drop (h % 32) bs))
 
--- the one fault of 32 bytes that are no fast information block
+-- the one fault of 32 bytes that are no FIB
 abbrev pub IsFault : List ℕ → FibFault → Type 0
 IsFault bytes e =
     ((e ≡ Crc) × (IsChecked bytes → ⊥))

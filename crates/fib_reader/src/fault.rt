@@ -1,15 +1,15 @@
-//! Why 32 bytes are no fast information block.
+//! Why 32 bytes are no FIB.
 
 use thiserror::Error;
 
-/// Why 32 bytes are no fast information block. Of several faults the first is told: the CRC before all
-/// others, then from the front. Places are byte numbers in the block, from 0.
+/// Why 32 bytes are no FIB. Of several faults the first is told: the check word before all others, then from
+/// the front. Places are byte numbers in the FIB, from 0.
 #[derive(Clone, Copy, Debug, PartialEq, Eq, Error)]
 pub enum FibFault {
-    /// The last two bytes aren't the CRC of the thirty before them (clause 5.2.1).
+    /// The last two bytes aren't the check word of the thirty before them (clause 5.2.1).
     #[error("Crc")]
     Crc,
-    /// The FIG whose header stands at this place is longer than the data field has bytes left.
+    /// The FIG whose header stands at this place is longer than the data bytes that are left.
     #[error("Overrun {0}")]
     Overrun(usize),
     /// At this place begins an entry that isn't whole, that has a CIF count out of range, or that follows
@@ -22,7 +22,7 @@ pub enum FibFault {
 /// Why a listener didn't take a FIB. It then knows what it knew before.
 #[derive(Clone, Copy, Debug, PartialEq, Eq, Error)]
 pub enum ListenFault {
-    /// The 32 bytes are no fast information block.
+    /// The 32 bytes are no FIB.
     #[error("{0}")]
     Fib(FibFault),
     /// A 65th service or packet component would have entered one picture.

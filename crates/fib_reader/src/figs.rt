@@ -143,7 +143,7 @@ impl<'a> Figs<'a> {
     ghost use Rattle.mux_config.specs.Configuration.{Each};
     ghost use Rattle.fib_reader.specs.Walk.{pieces_of, figs_of, IsPiece};
 
-    /// The FIGs of a data field without a fault.
+    /// The FIGs of data bytes without a fault.
     pub(crate) fn of(bytes: &'a [u8]) -> Self
         requires { Each IsPiece (pieces_of bytes.now) }
         ensures { result ≡ figs_of bytes.now }

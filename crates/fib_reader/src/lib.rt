@@ -1,4 +1,4 @@
-//! Reads fast information blocks (EN 300 401 clauses 5.2.1 and 5.2.2) from bytes that anyone may have made.
+//! Reads FIBs (EN 300 401 clauses 5.2.1 and 5.2.2) from bytes that anyone may have made.
 #![tactic(auto)]
 
 mod bytes;

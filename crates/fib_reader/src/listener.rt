@@ -188,14 +188,14 @@ impl Listener {
         self.hear_aside(figs)
     }
 
-    /// Hears one fast information block. Its FIGs are taken in order. Those that aren't looked into, and each
-    /// entry before the first FIG 0/0, are passed over. An entry with C/N 0 goes into the current picture, one
-    /// with C/N 1 into the next one, in place of one with the same identifier. At a FIG 0/0 an awaited swap is
-    /// made where the change flags are gone or the low part of the CIF count is the awaited one; and where flags
-    /// are set, its occurrence change is awaited from then on (EN 300 401 clauses 6.4 and 6.5).
+    /// Hears one FIB. Its FIGs are taken in order. Those that aren't looked into, and each entry before the first
+    /// FIG 0/0, are passed over. An entry with C/N 0 goes into the current picture, one with C/N 1 into the next
+    /// one, in place of one with the same identifier. At a FIG 0/0 an awaited swap is made where the change flags
+    /// are gone or the low part of the CIF count is the awaited one; and where flags are set, its occurrence
+    /// change is awaited from then on (EN 300 401 clauses 6.4 and 6.5).
     ///
     /// Nothing changes where the answer is a fault:
-    /// - `Fib`: the 32 bytes are no fast information block; see [`check`];
+    /// - `Fib`: the 32 bytes are no FIB; see [`check`];
     /// - `Full`: a 65th service or packet component would have entered a picture.
     pub fn hear(&mut self, bytes: &[u8; 32]) -> Result<(), ListenFault>
         ensures answer { Hears bytes.now self.old self.new result }

@@ -105,22 +105,21 @@ fn component_of(high: u8, low: u8) -> ComponentEntry
     }
 }
 
-/// The components that are spelled so.
-fn components_of(bytes: &[u8]) -> Few<ComponentEntry, 15>
+/// Appends the components that are spelled so to an empty list.
+fn put_components(components: &mut Few<ComponentEntry, 15>, bytes: &[u8])
+    requires none { components.old ≡ [] }
     requires few { length bytes.now ≤ 30 }
     requires even { length bytes.now % 2 ≡ 0 }
-    ensures spelled { bytes.now ≡ components_bytes result }
-    ensures count { length bytes.now ≡ 2 * length result }
-    ensures within { Each IsComponentEntry result }
+    ensures spelled { bytes.now ≡ components_bytes components.new }
+    ensures count { length bytes.now ≡ 2 * length components.new }
+    ensures within { Each IsComponentEntry components.new }
 {
-    let mut components = Few::new();
     let mut rest = bytes;
     while rest.len() >= 2 {
         components.push(component_of(rest[0], rest[1]));
         let (_, after) = rest.split_at(2);
         rest = after;
     }
-    components
 }
 
 /// The service that is spelled so.
@@ -139,12 +138,14 @@ pub(crate) fn service_of(long: bool, bytes: &[u8]) -> ServiceEntry
         Sid::Short(word_of(head[0], head[1]))
     };
     let flags = head[head.len() - 1];
-    ServiceEntry {
+    let mut service = ServiceEntry {
         sid,
         rfa: flags / 128 == 1,
         ca_id: Bits::new(u16::from(flags / 16 % 8)).unwrap(),
-        components: components_of(components),
-    }
+        components: Few::new(),
+    };
+    put_components(&mut service.components, components);
+    service
 }
 
 /// The packet component that is spelled so.

@@ -340,6 +340,33 @@ fn two_ensemble_informations_in_one_fib(rt: HostRuntime) -> Result<(), Fail> {
     Ok(())
 }
 
+#[test]
+fn options_and_short_forms_are_shown(rt: HostRuntime) -> Result<(), Fail> {
+    // sub 1 with option 2, sub 2 in the short form
+    let data = [
+        0x05, 0x00, 0xE1, 0xC5, 0x00, 0x00, 0x08, 0x01, 0x04, 0x00, 0xA8, 0x60, 0x08, 0x60, 0x45,
+        0xFF,
+    ];
+    let listener = listener_of(&data).map_err(|_| "a good FIB")?;
+    assert!(rt; has(listener.current(), &[(1, 1), (1, 2)]));
+    for entry in listener.current().entries() {
+        match entry.value() {
+            Entry::Sub(sub) => {
+                assert_eq!(rt; sub.option.get(), 2);
+                assert_eq!(rt; sub.size.get(), 96);
+            }
+            Entry::Short(sub) => {
+                assert_eq!(rt; sub.start.get(), 96);
+                assert!(rt; sub.switch);
+                assert_eq!(rt; sub.table.get(), 5);
+            }
+            _ => return Err("a sub-channel".into()),
+        }
+    }
+    assert!(rt; listener.current().config().is_none());
+    Ok(())
+}
+
 /// Three FIBs of one frame that another multiplexer made.
 const OTHERS: [[u8; 32]; 3] = [
     [
@@ -398,5 +425,33 @@ fn fibs_of_another_multiplexer(rt: HostRuntime) -> Result<(), Fail> {
             _ => return Err("two components".into()),
         }
     }
+    Ok(())
+}
+
+/// Two more of its FIBs: a label (FIG 1/1) before a sub-channel, and FIG 0/8 after a service and two packet
+/// components.
+const WITH_LABELS: [[u8; 32]; 2] = [
+    [
+        0x35, 0x01, 0xC2, 0x21, 0x4F, 0x6E, 0x65, 0x20, 0x20, 0x20, 0x20, 0x20, 0x20, 0x20, 0x20,
+        0x20, 0x20, 0x20, 0x20, 0x20, 0xFF, 0x00, 0x05, 0x01, 0xFC, 0xDE, 0x80, 0x18, 0xFF, 0x00,
+        0xC3, 0x92,
+    ],
+    [
+        0x08, 0x22, 0xE1, 0xC2, 0x00, 0x01, 0x01, 0xC0, 0x06, 0x0B, 0x03, 0x00, 0x00, 0xBC, 0x14,
+        0x07, 0x00, 0x10, 0x3C, 0x17, 0xFF, 0x08, 0x28, 0xE1, 0xC2, 0x00, 0x01, 0x00, 0x80, 0x01,
+        0x0A, 0xBC,
+    ],
+];
+
+#[test]
+fn labels_of_another_multiplexer(rt: HostRuntime) -> Result<(), Fail> {
+    let mut listener = listener_of(&TUNE).map_err(|_| "a good FIB")?;
+    for fib in &WITH_LABELS {
+        assert_eq!(rt; listener.hear(fib), Ok(()));
+    }
+    let expected = [(1, 63), (2, 65536 + 0xE1C2_0001), (3, 0), (3, 1)];
+    assert!(rt; has(listener.current(), &expected));
+    let config = listener.current().config().ok_or("a configuration")?;
+    assert_eq!(rt; config.packets().len(), 2);
     Ok(())
 }

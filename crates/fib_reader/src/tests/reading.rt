@@ -100,8 +100,61 @@ fn an_end_marker_in_every_place(rt: HostRuntime) -> Result<(), Fail> {
 }
 
 #[test]
+fn a_fig_reaches_to_the_last_byte(rt: HostRuntime) -> Result<(), Fail> {
+    // A FIG of type 7 fills the places before a FIG of type 1, which takes all that is left, or a byte more.
+    for place in 0..30usize {
+        let before: u32 = if place > 0 { 1 } else { 0 };
+        let mut data = [0u8; 30];
+        if place > 0 {
+            data[0] = 0xE0 + (place as u8 - 1);
+        }
+        data[place] = 0x20 + (29 - place as u8);
+        assert_eq!(rt; counts(&fib_of(&data)), Ok((before + 1, 0)));
+        data[place] += 1;
+        assert_eq!(rt; check(&fib_of(&data)).err(), Some(FibFault::Overrun(place)));
+    }
+    // seven sub-channels, and lengths of 30 and 31
+    let mut full = [0u8; 30];
+    full[0] = 0x1D;
+    full[1] = 0x01;
+    for entry in 0..7usize {
+        full[4 + 4 * entry] = 0x80;
+    }
+    assert_eq!(rt; counts(&fib_of(&full)), Ok((1, 7)));
+    for header in [0x1E, 0x1F, 0x3E, 0x3F] {
+        full[0] = header;
+        assert_eq!(rt; check(&fib_of(&full)).err(), Some(FibFault::Overrun(0)));
+    }
+    Ok(())
+}
+
+#[test]
+fn figs_of_other_kinds_are_lent_whole(rt: HostRuntime) -> Result<(), Fail> {
+    // what would be a sub-channel, under each type above 0, each extension above 3, and OE 1
+    for kind in 1u8..8 {
+        let data = [kind * 32 + 5, 0x01, 0x04, 0x00, 0x88, 0x60, 0xFF];
+        assert_eq!(rt; counts(&fib_of(&data)), Ok((1, 0)));
+    }
+    for ext in 4u8..32 {
+        assert_eq!(rt;
+            counts(&fib_of(&[0x05, ext, 0x04, 0x00, 0x88, 0x60, 0xFF])),
+            Ok((1, 0))
+        );
+    }
+    for ext in 0u8..4 {
+        let data: [u8; 7] = [0x05, 0x40 + ext, 0x04, 0x00, 0x88, 0x60, 0xFF];
+        for fig in check(&fib_of(&data)).map_err(|_| "a good FIB")? {
+            assert!(rt; fig.head().is_none());
+            assert_eq!(rt; fig.bytes(), &data[..6]);
+            assert!(rt; fig.entries().next().is_none());
+        }
+    }
+    Ok(())
+}
+
+#[test]
 fn lenient_entries(rt: HostRuntime) -> Result<(), Fail> {
-    let rows: [(&[u8], Result<(u32, u32), FibFault>); 12] = [
+    let rows: [(&[u8], Result<(u32, u32), FibFault>); 14] = [
         // FIG 0/1 to 0/3 without entries
         (&[0x01, 0x01, 0x01, 0x02, 0x01, 0x03, 0xFF], Ok((3, 0))),
         // two sub-channels in the long form, with an option that no profile has, and P/D 1
@@ -124,6 +177,21 @@ fn lenient_entries(rt: HostRuntime) -> Result<(), Fail> {
         // two services without components
         (
             &[0x07, 0x02, 0xC2, 0x21, 0x00, 0xC2, 0x22, 0xF0, 0xFF],
+            Ok((1, 2)),
+        ),
+        // two with components, and two with SIds of 32 bits
+        (
+            &[
+                0x0D, 0x02, 0xC2, 0x21, 0x02, 0x3F, 0x06, 0x45, 0xFC, 0xC2, 0x22, 0x01, 0xC0, 0x00,
+                0xFF,
+            ],
+            Ok((1, 2)),
+        ),
+        (
+            &[
+                0x0D, 0x22, 0xE1, 0xC2, 0x00, 0x01, 0x01, 0xC0, 0x06, 0xE1, 0xC2, 0x00, 0x02, 0x00,
+                0xFF,
+            ],
             Ok((1, 2)),
         ),
         // a service with a component of TMId 10, with a CAId, and CA flags set
@@ -267,6 +335,91 @@ fn values_of_entries(rt: HostRuntime) -> Result<(), Fail> {
 }
 
 #[test]
+fn fields_that_a_writer_here_leaves_0(rt: HostRuntime) -> Result<(), Fail> {
+    // option 7 and level 4; Rfa, Rfu and CAOrg
+    match value_of(&[0x05, 0x01, 0x08, 0x60, 0xFC, 0x60, 0xFF]) {
+        Some(Entry::Sub(s)) => {
+            assert_eq!(rt; s.id.get(), 2);
+            assert_eq!(rt; s.start.get(), 96);
+            assert_eq!(rt; s.option.get(), 7);
+            assert_eq!(rt; s.level.get(), 3);
+            assert_eq!(rt; s.size.get(), 96);
+        }
+        _ => return Err("a sub-channel".into()),
+    }
+    match value_of(&[0x08, 0x03, 0x12, 0x3B, 0x7C, 0x17, 0xFF, 0xAB, 0xCD, 0xFF]) {
+        Some(Entry::Packet(p)) => {
+            assert_eq!(rt; p.scid.get(), 0x123);
+            assert_eq!(rt; p.rfa.get(), 5);
+            assert!(rt; !p.dg && p.rfu);
+            assert_eq!(rt; p.ty.get(), 60);
+            assert_eq!(rt; p.sub.get(), 5);
+            assert_eq!(rt; p.address.get(), 1023);
+            assert_eq!(rt; p.ca_org, Some(0xABCD));
+        }
+        _ => return Err("a packet component".into()),
+    }
+    Ok(())
+}
+
+#[test]
+fn fields_of_services_that_a_writer_here_leaves_0(rt: HostRuntime) -> Result<(), Fail> {
+    // Rfa and CAId, and a data component with CA 1; then no component at all
+    match value_of(&[0x06, 0x02, 0xC2, 0x21, 0xD1, 0x7C, 0x15, 0xFF]) {
+        Some(Entry::Service(s)) => {
+            assert!(rt; s.rfa);
+            assert_eq!(rt; s.ca_id.get(), 5);
+            match s.components.as_slice() {
+                [
+                    ComponentEntry::Stream {
+                        ty,
+                        sub,
+                        primary,
+                        ca,
+                    },
+                ] => {
+                    assert_eq!(rt; ty.get(), 60);
+                    assert_eq!(rt; sub.get(), 5);
+                    assert!(rt; !*primary && *ca);
+                }
+                _ => return Err("one component".into()),
+            }
+        }
+        _ => return Err("a service".into()),
+    }
+    match value_of(&[0x04, 0x02, 0xC2, 0x21, 0x00, 0xFF]) {
+        Some(Entry::Service(s)) => {
+            assert_eq!(rt; s.sid, Sid::Short(0xC221));
+            assert!(rt; s.components.as_slice().is_empty());
+        }
+        _ => return Err("a service".into()),
+    }
+    Ok(())
+}
+
+#[test]
+fn pd_where_it_means_nothing(rt: HostRuntime) -> Result<(), Fail> {
+    let rows: [(&[u8], u64); 3] = [
+        (&[0x05, 0x20, 0xE1, 0xC5, 0x00, 0x00, 0xFF], 0xE1C),
+        (&[0x05, 0x21, 0x04, 0x00, 0x88, 0x60, 0xFF], 1),
+        (&[0x06, 0x23, 0x12, 0x30, 0x3C, 0x14, 0x01, 0xFF], 0x123),
+    ];
+    for (data, identifier) in rows {
+        let mut entries = 0u32;
+        for fig in check(&fib_of(data)).map_err(|_| "a good FIB")? {
+            assert!(rt; fig.head().ok_or("a head")?.long);
+            for entry in fig.entries() {
+                assert!(rt; !entry.long());
+                assert_eq!(rt; entry.identifier(), identifier);
+                entries = entries.saturating_add(1);
+            }
+        }
+        assert_eq!(rt; entries, 1);
+    }
+    Ok(())
+}
+
+#[test]
 fn values_of_ensemble_information(rt: HostRuntime) -> Result<(), Fail> {
     let value = value_of(&[0x06, 0x00, 0xE1, 0xC5, 0xD3, 0xF2, 0x10, 0xFF]).ok_or("an entry")?;
     if let Entry::Ensemble(e) = &value {
@@ -275,6 +428,19 @@ fn values_of_ensemble_information(rt: HostRuntime) -> Result<(), Fail> {
         assert!(rt; !e.al());
         assert_eq!(rt; e.count(), 4992);
         assert_eq!(rt; e.occurrence(), Some(16));
+        return Ok(());
+    }
+    Err("ensemble information".into())
+}
+
+#[test]
+fn the_last_count_with_al(rt: HostRuntime) -> Result<(), Fail> {
+    let value = value_of(&[0x05, 0x00, 0xE1, 0xC5, 0x33, 0xF9, 0xFF]).ok_or("an entry")?;
+    if let Entry::Ensemble(e) = &value {
+        assert_eq!(rt; e.change(), 0);
+        assert!(rt; e.al());
+        assert_eq!(rt; e.count(), 4999);
+        assert_eq!(rt; e.occurrence(), None);
         return Ok(());
     }
     Err("ensemble information".into())
