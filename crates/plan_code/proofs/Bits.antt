@@ -1,5 +1,5 @@
 -- Sets as bits: what a bit says after it was set or cleared, and one set within another.
-use Rattle.std.proofs.Common.{◌≡◌, ◌≢◌, ℕ, ◌-◌, ◌<◌, ◌≤◌, ◌^◌, Bool, true, false, cond, eqb, min, refl, sym, ap, ◌∙◌, arith, inl, inr}
+use Rattle.std.proofs.Common.{◌≡◌, ◌≢◌, ℕ, ◌-◌, ◌<◌, ◌^◌, true, false, eqb, min, refl, sym, ap, ◌∙◌, arith, inl, inr}
 use Rattle.std.specs.Int.{Width, w8, w16, bit_at, bit_not}
 use Rattle.std.specs.Int.RustNames.{bit_and, bit_or}
 use Rattle.std.proofs.lemmas.Nat.{pow_below}
@@ -7,8 +7,7 @@ use Rattle.std.proofs.lemmas.Nat.Bits.{bit_at-lt, bit_at_and, bit_at_or, bit_at_
 use Rattle.std.proofs.lemmas.Bool.{eqb-true, cases_lt}
 use mir.Val.{bits}
 use Rattle.plan_code.specs.declared.flags.Counters.{Counters}
-use Rattle.plan_code.specs.declared.flags.Contacts.{Contacts}
-use Rattle.plan_code.specs.Flags.{is_set, Includes, CountersChangeAlone, ContactsChangeAlone}
+use Rattle.plan_code.specs.Flags.{Includes, CountersChangeAlone, ContactsChangeAlone}
 
 bit_set_same : (n k : ℕ) → bit_at (bit_or n (2 ^ k)) k ≡ 1
 bit_set_same n k = omega (arith, bit_at_or n (2 ^ k) k, bit_at-pow_same k, bit_at-lt n k)

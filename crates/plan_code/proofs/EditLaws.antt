@@ -1,19 +1,17 @@
 -- An edit that is read is spelled so, and an edit that is spelled is read again.
-use Rattle.std.proofs.Common.{◌≡◌, ◌≢◌, ℕ, zero, suc, ◌+◌, ◌<◌, ◌≤◌, Bool, true, false, cond, eqb, List, [], ◌∷◌, ◌++◌, length, Result, Ok, Err, refl, sym, ap, subst, ◌∙◌, append_assoc, arith, inl, inr}
+use Rattle.std.proofs.Common.{◌≡◌, ℕ, ◌<◌, cond, eqb, List, [], ◌∷◌, ◌++◌, Ok, Err, refl, ap, arith, inl, inr}
 use Rattle.std.proofs.lemmas.Bool.{cases_eq, eq-eqb, ne_eqb}
-use Rattle.mux_config.specs.declared.parts.Sub.{Sub}
 use Rattle.mux_config.specs.declared.edit.Edit.{Edit}
 use Rattle.mux_config.specs.declared.edit.Edit.TheVariants.{AddSub, DropSub, MoveSub, RateSub, AddService, DropService, AddComponent, DropComponent, AddPacket, DropPacket}
-use Rattle.mux_config.specs.declared.record.RecordFault.{RecordFault}
 use Rattle.mux_config.specs.declared.record.RecordFault.TheVariants.{Field}
 use Rattle.mux_config.specs.Configuration.{IsSid, IsComponent}
 use Rattle.mux_config.specs.Spelling.{word_bytes, sid_bytes, component_bytes, sub_bytes, packet_bytes}
-use Rattle.mux_config.specs.Reading.{Reads, ◌>>=◌, sid_at, component_at}
-use Rattle.mux_config.proofs.FieldLaws.{IsBytes, Front, done, ok_is}
+use Rattle.mux_config.specs.Reading.{Reads, sid_at, component_at}
+use Rattle.mux_config.proofs.FieldLaws.{IsBytes, Front, done}
 use Rattle.plan_code.specs.Program.{IsNewSub, IsNewPacket, IsCarrier, IsEdit}
 use Rattle.plan_code.specs.Spelling.{carrier_bytes, edit_bytes}
 use Rattle.plan_code.specs.Parts.{sub_id_at, scid_at, start_at, word_at, new_sub_at, new_packet_at, carrier_at, add_sub_at, drop_sub_at, move_sub_at, rate_sub_at, add_service_at, drop_service_at, add_component_at, drop_component_at, add_packet_at, drop_packet_at, edit_of}
-use Rattle.plan_code.proofs.Operands.{IsReading, byte_of, byte_reading, word_below_reading, word_reading, sid_reading, component_reading, carrier_reading, new_sub_reading, new_packet_reading, one_front, one_again, two_front, two_again}
+use Rattle.plan_code.proofs.Operands.{byte_of, byte_reading, word_below_reading, word_reading, sid_reading, component_reading, carrier_reading, new_sub_reading, new_packet_reading, one_front, one_again, two_front, two_again}
 
 -- one byte more at the front
 pub behind : (o : ℕ) (bytes text rest : List ℕ) → Front bytes text rest → Front (o ∷ bytes) (o ∷ text) rest

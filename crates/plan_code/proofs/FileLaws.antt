@@ -1,5 +1,5 @@
 -- A code that is read is the one whose file it is, and the file of a code is read again.
-use Rattle.std.proofs.Common.{◌≡◌, ◌≢◌, ℕ, zero, suc, ◌+◌, ◌-◌, ◌<◌, ◌≤◌, Bool, true, false, cond, eqb, ltb, not, List, [], ◌∷◌, ◌++◌, length, Result, Ok, Err, IfOk, refl, sym, ap, subst, ◌∙◌, append_assoc, arith}
+use Rattle.std.proofs.Common.{◌≡◌, ◌≢◌, ℕ, zero, suc, ◌+◌, ◌<◌, ◌≤◌, Bool, true, false, eqb, ltb, not, List, [], ◌∷◌, ◌++◌, length, Result, Ok, Err, IfOk, refl, sym, ap, subst, ◌∙◌, append_assoc, arith}
 use Rattle.std.specs.Int.{w16, w32, to_be_bytes}
 use Rattle.std.specs.List.{flat_map}
 use Rattle.std.proofs.lemmas.Bool.{ltb-false, le-ltb, eqb-true, eqb-false, ne_eqb}
@@ -7,11 +7,11 @@ use Rattle.std.proofs.lemmas.List.{append-nil, nil_from_length}
 use Rattle.mux_config.specs.declared.record.RecordFault.{RecordFault}
 use Rattle.mux_config.specs.Configuration.{Configuration, IsConfiguration, Each, IsAscending}
 use Rattle.mux_config.specs.Spelling.{word_bytes, config_bytes}
-use Rattle.mux_config.specs.Reading.{Reads, place, byte_at, number_at, byte_within, config_at, members_at}
+use Rattle.mux_config.specs.Reading.{Reads, place, byte_at, number_at, byte_within, config_at}
 use Rattle.mux_config.proofs.FieldLaws.{IsBytes, Front, front_then, byte_front, long_front, long_again}
 use Rattle.mux_config.proofs.RecordLaws.{record_front, record_again, members_front, members_again}
 use Rattle.plan_code.specs.declared.fault.CodeFault.{CodeFault}
-use Rattle.plan_code.specs.declared.fault.CodeFault.TheVariants.{Magic, Version, Truncated, Field, Limit, Trailing, Memory}
+use Rattle.plan_code.specs.declared.fault.CodeFault.TheVariants.{Magic, Version, Field, Limit, Trailing}
 use Rattle.plan_code.specs.declared.plan.Plan.{Plan}
 use Rattle.plan_code.specs.declared.label.Label.{Label}
 use Rattle.plan_code.specs.declared.instr.Line.{Line}

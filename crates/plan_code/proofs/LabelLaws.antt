@@ -1,19 +1,14 @@
 -- A label that is read is spelled so; and what is spelled is read again.
-use Rattle.std.proofs.Common.{◌≡◌, ◌≢◌, ℕ, zero, suc, ◌+◌, ◌-◌, ◌<◌, ◌≤◌, Bool, true, false, List, [], ◌∷◌, ◌++◌, length, Option, Some, None, Result, Ok, Err, refl, sym, ap, subst, ◌∙◌, append_assoc, arith}
-use Rattle.std.specs.List.{flat_map}
-use Rattle.std.proofs.lemmas.List.{append-nil}
-use Rattle.mux_config.specs.declared.record.RecordFault.{RecordFault}
-use Rattle.mux_config.specs.Configuration.{Each}
-use Rattle.mux_config.specs.Spelling.{word_bytes, flag_byte}
-use Rattle.mux_config.specs.Reading.{Reads, ◌>>=◌, place, byte_at, byte_within, word_within, flag_at, members_at}
-use Rattle.mux_config.proofs.FieldLaws.{IsBytes, Front, front_then, bind_ok, done, ok_is, byte_front}
+use Rattle.std.proofs.Common.{◌≡◌, ℕ, ◌-◌, ◌<◌, ◌≤◌, Bool, true, false, List, [], ◌∷◌, ◌++◌, Option, Some, None, Ok, refl, sym, ap, subst, ◌∙◌, append_assoc, arith}
+use Rattle.mux_config.specs.Spelling.{word_bytes}
+use Rattle.mux_config.specs.Reading.{byte_at, byte_within, word_within, flag_at}
+use Rattle.mux_config.proofs.FieldLaws.{IsBytes, Front, front_then, bind_ok, ok_is, byte_front}
 use Rattle.plan_code.specs.declared.flags.Counters.{Counters}
 use Rattle.plan_code.specs.declared.label.Label.{Label}
-use Rattle.plan_code.specs.Program.{IsLabel, AreBounds, label_key}
+use Rattle.plan_code.specs.Program.{IsLabel, AreBounds}
 use Rattle.plan_code.specs.Spelling.{pending_bytes, label_bytes}
 use Rattle.plan_code.specs.Parts.{bounds_of, pending_at, label_at}
-use Rattle.plan_code.proofs.Operands.{IsReading, byte_of, flag_of, flag_reading, byte_reading, word_from_reading, byte_from_reading}
-use Rattle.plan_code.proofs.Ascending.{AscendsFrom}
+use Rattle.plan_code.proofs.Operands.{byte_of, flag_of, flag_reading, word_from_reading, byte_from_reading}
 
 abbrev bounds_bytes : Option (ℕ × ℕ) → List ℕ
 bounds_bytes None = word_bytes 0 ++ word_bytes 0

@@ -1,10 +1,10 @@
 -- One step of the loops that read rows: what is still to be read gives what all of it gives.
-use Rattle.std.proofs.Common.{◌≡◌, ℕ, zero, suc, ◌+◌, ◌-◌, ◌<◌, ◌≤◌, List, [], ◌∷◌, ◌++◌, Result, Ok, Err, refl, sym, ap, subst, ◌∙◌, arith}
+use Rattle.std.proofs.Common.{◌≡◌, ℕ, suc, ◌+◌, ◌-◌, ◌<◌, ◌≤◌, List, [], ◌∷◌, ◌++◌, Result, Ok, Err, refl, sym, ap, subst, ◌∙◌, arith}
 use Rattle.mux_config.specs.declared.record.RecordFault.{RecordFault}
 use Rattle.mux_config.specs.declared.record.RecordFault.TheVariants.{Short, Field as FieldOfRecord, Order}
 use Rattle.plan_code.specs.declared.fault.CodeFault.{CodeFault}
 use Rattle.plan_code.specs.declared.fault.CodeFault.TheVariants.{Magic, Version, Truncated, Field, Limit, Trailing, Memory}
-use Rattle.plan_code.specs.Reading.{Parses, ◌>>=◌, Fails, fault_from, read_from, in_file, items_at}
+use Rattle.plan_code.specs.Reading.{Parses, ◌>>=◌, Fails, fault_from, in_file, items_at}
 
 -- the fault of a step is the fault of the whole
 pub fails_then : {A B : Type 0} (e : CodeFault) (r : Result A CodeFault) (f : A → Result B CodeFault) → Fails e r → Fails e (r >>= f)

@@ -1,6 +1,6 @@
 -- The machine that carries out instructions: its state, what each instruction makes of it, and what each
 -- needs so as not to trap.
-use Rattle.std.specs.Prelude.{◌≡◌, ◌≢◌, ℕ, ◌+◌, ◌-◌, ◌%◌, ◌<◌, ◌≤◌, ◌==◌, Bool, true, false, if◌then◌else◌, nat_lt, List, Option, Some, None, IsSome, slice_index, slice_set}
+use Rattle.std.specs.Prelude.{◌≡◌, ◌≢◌, ℕ, ◌+◌, ◌-◌, ◌%◌, ◌<◌, ◌≤◌, if◌then◌else◌, nat_lt, List, Option, Some, None, IsSome, slice_index, slice_set}
 use Rattle.mux_config.specs.Configuration.{Configuration}
 use Rattle.mux_config.specs.Edits.{changed, edit_fault}
 use Rattle.mux_config.specs.Sound.{IsSound}

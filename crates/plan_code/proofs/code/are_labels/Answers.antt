@@ -1,5 +1,5 @@
-use Rattle.std.proofs.Common.{◌≡◌, ◌+◌, ◌≤◌, ◌<◌, ◌∷◌, [], true, false, drop, get_or, length, arith, ap, subst, refl}
-use Rattle.std.proofs.lemmas.List.{drop_more, drop_all}
+use Rattle.std.proofs.Common.{◌≡◌, true, false, drop, refl}
+use Rattle.std.proofs.lemmas.List.{drop_all}
 use Rattle.plan_code.proofs.Ascending.{AreLabels, are_labels_start, not_labels_below}
 use Rattle.plan_code.proofs.code.are_labels.Goals as goal
 

@@ -1,6 +1,5 @@
-use Rattle.std.proofs.Common.{◌≡◌, ◌+◌, ◌-◌, ◌++◌, ◌∷◌, [], ℕ, List, Ok, sym, ap, subst, ◌∙◌, arith}
+use Rattle.std.proofs.Common.{◌∙◌}
 use Rattle.std.proofs.lemmas.Result.{err_from_is_err_and}
-use Rattle.plan_code.specs.Reading.{Fails, items_at}
 use Rattle.plan_code.proofs.Loops.{items_next, items_fault, items_done}
 use Rattle.plan_code.proofs.code_reader.items.Goals as goal
 

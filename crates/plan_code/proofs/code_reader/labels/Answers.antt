@@ -1,10 +1,9 @@
-use Rattle.std.proofs.Common.{◌≡◌, ◌+◌, ◌-◌, ◌++◌, ◌∷◌, [], ℕ, List, Ok, Err, sym, ap, subst, ◌∙◌, arith}
+use Rattle.std.proofs.Common.{◌≡◌, ℕ, Ok, Err, ap, subst, ◌∙◌}
 use Rattle.std.proofs.lemmas.Result.{err_from_is_err_and}
-use Rattle.mux_config.specs.Reading.{members_at}
 use Rattle.mux_config.proofs.ReadingLoops.{member_fault, member_next, members_done}
 use Rattle.plan_code.specs.Program.{label_key}
 use Rattle.plan_code.specs.Parts.{label_at}
-use Rattle.plan_code.specs.Reading.{Fails, in_file}
+use Rattle.plan_code.specs.Reading.{in_file}
 use Rattle.plan_code.proofs.Loops.{fails_in_file}
 use Rattle.plan_code.proofs.code_reader.labels.Goals as goal
 

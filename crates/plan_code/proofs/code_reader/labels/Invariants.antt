@@ -1,4 +1,4 @@
-use Rattle.std.proofs.Common.{◌≡◌, ◌-◌, ◌≤◌, []}
+use Rattle.std.proofs.Common.{◌≡◌, ◌-◌, []}
 use Rattle.mux_config.specs.Reading.{members_at}
 use Rattle.plan_code.specs.Program.{label_key}
 use Rattle.plan_code.specs.Parts.{label_at}
