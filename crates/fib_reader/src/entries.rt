@@ -85,6 +85,8 @@ impl<'a> RawEntry<'a> {
     }
 
     /// Its value: the entry that is sent so (EN 300 401 clauses 6.2.1, 6.3.1, 6.3.2 and 6.4).
+    // (an entry is large: where it is taken apart at once, most of it then need not go through memory)
+    #[inline(always)]
     pub fn value(&self) -> Entry
         ensures { IsValue self.now result }
     {

@@ -1,0 +1,168 @@
+#!/usr/bin/env bash
+# Checking and walking 1,000,000 FIBs held in memory against md5sum on the same 32 MB, in the same run: the best
+# of five runs each. For each FIB the reader tests the check word and the grammar, and then each FIG gives its
+# head, and each entry its value. The fields of the values are added up, so that each value is wanted; of the
+# components of a service that is their number and the first one. Wanted: no more time than md5sum takes.
+#   bench/reader_speed.sh [FOLDER]
+# The FIBs are those of the stream real_fic.fib of the folder, or where that is missing those of the example
+# configuration at the counts of a second, over and over. The program stands on copies of this repository's crates.
+set -euo pipefail
+cd "$(dirname "$0")/.."
+top=$(pwd)
+samples=${1:-../shared/samples}
+work=$(mktemp -d)
+trap 'rm -rf "$work"' EXIT
+
+if [ -r "$samples/real_fic.fib" ]; then
+  cp "$samples/real_fic.fib" "$work/part"
+else
+  ./dabplan --help >/dev/null
+  for ((count = 0; count < 42; count++)); do
+    crates/dabplan/out/dabplan frame docs/examples/one_programme.rec --ensemble E1C5 --count "$count"
+  done | xxd -r -p >"$work/part"
+fi
+chmod u+w "$work/part"
+while [ "$(stat -c %s "$work/part")" -lt 32000000 ]; do
+  cat "$work/part" "$work/part" >"$work/more"
+  mv "$work/more" "$work/part"
+done
+head -c 32000000 "$work/part" >"$work/stream"
+rm "$work/part"
+
+mkdir -p "$work/top/crates/reader_bench/src"
+cd "$work/top"
+git init -q .
+for crate in mux_eep mux_config fib_codec fib_reader; do
+  cp -r "$top/crates/$crate" crates/
+  grep "^$crate:" "$top/crates.txt" >>crates.txt
+done
+echo 'reader_bench: fib_reader mux_config' >>crates.txt
+echo 'Handles allowed: none.' >HANDLES
+cat >crates/reader_bench/src/main.rt <<'PROGRAM'
+//! Times the reader on the FIBs of standard input.
+#![tactic(auto)]
+
+use fib_reader::check;
+use mux_config::{ComponentEntry, Entry, Sid};
+use std::io::{self, Read};
+use std::time::Instant;
+
+/// All fields of a component, added up.
+fn sum_of_component(component: &ComponentEntry) -> u32 {
+    match component {
+        ComponentEntry::Sound { ty, sub, primary, ca } => {
+            u32::from(ty.get()).wrapping_add(u32::from(sub.get())).wrapping_add(u32::from(*primary)).wrapping_add(u32::from(*ca))
+        }
+        ComponentEntry::Stream { ty, sub, primary, ca } => {
+            u32::from(ty.get()).wrapping_add(u32::from(sub.get())).wrapping_add(u32::from(*primary)).wrapping_add(u32::from(*ca))
+        }
+        ComponentEntry::Other { bits } => u32::from(bits.get()),
+        ComponentEntry::Packet { scid, primary, ca } => {
+            u32::from(scid.get()).wrapping_add(u32::from(*primary)).wrapping_add(u32::from(*ca))
+        }
+    }
+}
+
+/// The fields of an entry, added up: of the components their number and the first one.
+fn sum_of(entry: Entry) -> u32 {
+    match entry {
+        Entry::Ensemble(e) => {
+            let occurrence = match e.occurrence() {
+                Some(low) => u32::from(low),
+                None => 256,
+            };
+            u32::from(e.eid()).wrapping_add(u32::from(e.change())).wrapping_add(u32::from(e.al())).wrapping_add(u32::from(e.count())).wrapping_add(occurrence)
+        }
+        Entry::Sub(s) => {
+            u32::from(s.id.get()).wrapping_add(u32::from(s.start.get())).wrapping_add(u32::from(s.option.get())).wrapping_add(u32::from(s.level.get())).wrapping_add(u32::from(s.size.get()))
+        }
+        Entry::Short(s) => {
+            u32::from(s.id.get()).wrapping_add(u32::from(s.start.get())).wrapping_add(u32::from(s.switch)).wrapping_add(u32::from(s.table.get()))
+        }
+        Entry::Service(s) => {
+            let sid = match s.sid {
+                Sid::Short(number) => u32::from(number),
+                Sid::Long(number) => number,
+            };
+            let first = match s.components.as_slice().first() {
+                Some(component) => sum_of_component(component),
+                None => 65_536,
+            };
+            let sum = sid.wrapping_add(u32::from(s.rfa)).wrapping_add(u32::from(s.ca_id.get()));
+            sum.wrapping_add(s.components.len() as u32).wrapping_add(first)
+        }
+        Entry::Packet(p) => {
+            let ca_org = match p.ca_org {
+                Some(number) => u32::from(number),
+                None => 65_536,
+            };
+            let flags = u32::from(p.dg).wrapping_add(u32::from(p.rfu)).wrapping_add(u32::from(p.rfa.get()));
+            u32::from(p.scid.get()).wrapping_add(flags).wrapping_add(u32::from(p.ty.get())).wrapping_add(u32::from(p.sub.get())).wrapping_add(u32::from(p.address.get())).wrapping_add(ca_org)
+        }
+    }
+}
+
+/// What a walk met: damaged FIBs, FIGs, entries, and the sum of the fields.
+#[derive(Clone, Copy)]
+struct Met {
+    damaged: u32,
+    figs: u32,
+    entries: u32,
+    sum: u32,
+}
+
+fn walk(fibs: &[[u8; 32]]) -> Met {
+    let mut met = Met { damaged: 0, figs: 0, entries: 0, sum: 0 };
+    for fib in fibs {
+        let Ok(figs) = check(fib) else {
+            met.damaged = met.damaged.wrapping_add(1);
+            continue;
+        };
+        for fig in figs {
+            met.figs = met.figs.wrapping_add(1);
+            if let Some(head) = fig.head() {
+                met.sum = met.sum.wrapping_add(u32::from(head.ext)).wrapping_add(u32::from(head.next)).wrapping_add(u32::from(head.long));
+            }
+            for entry in fig.entries() {
+                met.entries = met.entries.wrapping_add(1);
+                met.sum = met.sum.wrapping_add(sum_of(entry.value()));
+            }
+        }
+    }
+    met
+}
+
+fn main(rt: HostRuntime) -> io::Result<()> {
+    let mut stream = Vec::new(rt.alloc());
+    rt.reader().read_to_end(&mut stream)?;
+    let (fibs, _) = stream.as_slice().as_chunks::<32>();
+    for _ in 0..5 {
+        let start = Instant::now(&rt)?;
+        let met = walk(fibs);
+        let micros = start.elapsed(&rt)?.as_micros();
+        let (damaged, figs, entries, sum) = (met.damaged, met.figs, met.entries, met.sum);
+        let number = fibs.len();
+        println!(rt; "{micros} us: {number} FIBs, {damaged} damaged, {figs} FIGs, {entries} entries, sum {sum}")?;
+    }
+    Ok(())
+}
+PROGRAM
+cd crates/reader_bench
+rt run <"$work/stream" >"$work/walks" 2>"$work/log" || { tail -n 40 "$work/log" "$work/walks"; exit 1; }
+sed 's/^[0-9]* us: //' "$work/walks" | sort -u
+reader=$(sed -n 's/^\([0-9]*\) us: .*/\1/p' "$work/walks" | sort -n | head -n 1)
+
+md5=999999999
+for ((run = 0; run < 5; run++)); do
+  start=$(date +%s%N)
+  md5sum "$work/stream" >/dev/null
+  end=$(date +%s%N)
+  micros=$(((end - start) / 1000))
+  if [ "$micros" -lt "$md5" ]; then md5=$micros; fi
+done
+hundredths=$((reader * 100 / md5))
+echo "reader: $((reader / 1000)) ms for 1,000,000 FIBs, md5sum $((md5 / 1000)) ms: $((hundredths / 100)).$(printf %02d $((hundredths % 100))) times"
+if [ "$reader" -gt "$md5" ]; then
+  echo "reader: slower than md5sum"
+  exit 1
+fi
