@@ -118,22 +118,49 @@ fn a_reconfiguration(rt: HostRuntime) -> Result<(), Fail> {
     Ok(())
 }
 
-/// Files that are refused: of no whole FIBs, of 65 services, and one that can't be read.
+/// FIBs of 65 services or packet components, one in each after the first FIB, which holds FIG 0/0.
+fn sixty_five(alloc: Global, are_packets: bool) -> Result<Vec<u8>, Fail> {
+    let mut stream = fib_of(alloc, "05 00 E1 C5 00 00 FF")?;
+    for id in 0u8..65 {
+        let (high, low) = (id / 16, id % 16 * 16);
+        let data = if are_packets {
+            format!(in alloc; "06 03 {high:02X} {low:02X} 3C 14 01 FF")?
+        } else {
+            format!(in alloc; "04 02 00 {id:02X} 00 FF")?
+        };
+        stream.extend_from_slice(fib_of(alloc, data.as_str())?.as_slice())?;
+    }
+    Ok(stream)
+}
+
+/// 64 services or packet components have room in a picture, and a 65th has none.
+#[test]
+fn full_pictures(rt: HostRuntime) -> Result<(), Fail> {
+    for are_packets in [false, true] {
+        let stream = sixty_five(rt.alloc(), are_packets)?;
+        let mut files = OneFile::new("x.fib", Ok(stream.as_slice()));
+        let (status, printed) = run(rt.alloc(), "listen x.fib", &mut files)?;
+        assert_eq!(rt; printed.as_str(), "refused: Full\n");
+        assert_eq!(rt; status, 1);
+        let (most, _) = stream.as_slice().split_at(stream.len().min(65 * 32));
+        let mut files = OneFile::new("x.fib", Ok(most));
+        let (status, printed) = run(rt.alloc(), "listen x.fib", &mut files)?;
+        assert!(rt; printed.as_str().starts_with("fibs 65 damaged 0\n"));
+        assert_eq!(rt; status, 0);
+    }
+    Ok(())
+}
+
+/// Files that are refused: of no whole FIBs, which is tested first, and one that can't be read.
 #[test]
 fn refused_files(rt: HostRuntime) -> Result<(), Fail> {
-    let mut services = fib_of(rt.alloc(), "05 00 E1 C5 00 00 FF")?;
-    for id in 0u8..65 {
-        let data = format!(in rt.alloc(); "04 02 00 {id:02X} 00 FF")?;
-        let fib = fib_of(rt.alloc(), data.as_str())?;
-        services.extend_from_slice(fib.as_slice())?;
-    }
-    let whole = services.as_slice();
+    let stream = sixty_five(rt.alloc(), false)?;
+    let whole = stream.as_slice();
     let (part, _) = whole.split_at(whole.len().min(65));
     let (most, _) = whole.split_at(whole.len().saturating_sub(1));
     for (content, wanted) in [
         (Ok(part), "refused: not whole FIBs\n"),
         (Ok(most), "refused: not whole FIBs\n"),
-        (Ok(whole), "refused: Full\n"),
         (Err(FileFault::Failed), "cannot read x.fib\n"),
         (Err(FileFault::Memory), "no memory\n"),
     ] {
