@@ -1,19 +1,15 @@
 -- The place of a field that is at fault is one of the bytes that a reading was given.
-use Rattle.std.proofs.Common.{◌≡◌, ℕ, zero, suc, ◌+◌, ◌-◌, ◌≤◌, Bool, true, false, cond, ltb, List, [], ◌∷◌, ◌++◌, length, take, drop, Result, Ok, Err, subst, arith}
+use Rattle.std.proofs.Common.{◌≡◌, ℕ, zero, suc, ◌+◌, ◌≤◌, Bool, true, false, cond, ltb, List, [], ◌∷◌, ◌++◌, length, take, drop, Result, Ok, Err, subst, arith}
 use Rattle.std.specs.Int.{Width, w16, w32, byte_len, from_be_bytes}
 use Rattle.std.specs.List.{list_any}
-use Rattle.mux_eep.specs.Sizes.{Profile, size_or_fault}
+use Rattle.mux_eep.specs.Sizes.{size_or_fault}
 use Rattle.mux_eep.specs.declared.fault.EepFault.{EepFault}
-use Rattle.mux_config.specs.declared.parts.Sub.{Sub}
-use Rattle.mux_config.specs.declared.parts.Service.{Service}
 use Rattle.mux_config.specs.declared.parts.Component.{Component}
-use Rattle.mux_config.specs.declared.parts.Packet.{Packet}
-use Rattle.mux_config.specs.declared.numbers.Sid.{Sid}
 use Rattle.mux_config.specs.declared.record.RecordFault.{RecordFault}
 use Rattle.mux_config.specs.declared.record.RecordFault.TheVariants.{Short, Field, Order}
 use Rattle.mux_config.specs.Configuration.{Configuration, sub_key, sid_key, service_key, packet_key, carrier_of, component_limit}
 use Rattle.mux_config.specs.Edits.{names}
-use Rattle.mux_config.specs.Reading.{Reads, ◌>>=◌, refuse, place, byte_at, number_at, judged, byte_within, word_within, flag_at, set_of, protection_at, size_or_field, sub_at, sid_of_kind, sid_at, component_of, component_at, components_at, service_at, packet_at, members_at, record_at, config_at}
+use Rattle.mux_config.specs.Reading.{Reads, ◌>>=◌, refuse, place, byte_at, number_at, judged, byte_within, word_within, flag_at, protection_at, size_or_field, sub_at, sid_of_kind, sid_at, component_of, component_at, components_at, service_at, packet_at, members_at, record_at, config_at}
 
 -- a place in a fault is at most `total`
 abbrev pub IsPlacedIn : ℕ → RecordFault → Type 0

@@ -1,8 +1,8 @@
 -- Records computed by the checker from the definitions.
-use Rattle.std.proofs.Common.{◌≡◌, ℕ, true, false, List, [], ◌∷◌, ◌++◌, Ok, Err, refl}
-use Rattle.mux_eep.specs.declared.sizes.EepSet.TheVariants.{A, B}
-use Rattle.mux_config.specs.declared.parts.Component.TheVariants.{Sound, Stream, Packet as InPackets}
-use Rattle.mux_config.specs.declared.numbers.Sid.TheVariants.{Short as ShortSid, Long as LongSid}
+use Rattle.std.proofs.Common.{◌≡◌, ℕ, false, List, [], ◌∷◌, ◌++◌, Ok, Err, refl}
+use Rattle.mux_eep.specs.declared.sizes.EepSet.TheVariants.{A}
+use Rattle.mux_config.specs.declared.parts.Component.TheVariants.{Sound, Packet as InPackets}
+use Rattle.mux_config.specs.declared.numbers.Sid.TheVariants.{Short as ShortSid}
 use Rattle.mux_config.specs.declared.record.RecordFault.TheVariants.{Short, Field, Order}
 use Rattle.mux_config.specs.Configuration.{Configuration, nothing}
 use Rattle.mux_config.specs.Spelling.{config_bytes}

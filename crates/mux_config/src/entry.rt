@@ -80,17 +80,8 @@ impl Ensemble {
         if count >= 5000 {
             return None;
         }
-        match occurrence {
-            Some(_) => {
-                if change == 0 {
-                    return None;
-                }
-            }
-            None => {
-                if change > 0 {
-                    return None;
-                }
-            }
+        if occurrence.is_some() != (change > 0) {
+            return None;
         }
         Some(Ensemble {
             eid,
