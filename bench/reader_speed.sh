@@ -1,6 +1,6 @@
 #!/usr/bin/env bash
 # Checking and walking 1,000,000 FIBs held in memory against md5sum on the same 32 MB, in the same run: the best
-# of five runs each. For each FIB the reader tests the check word and the grammar, and then each FIG gives its
+# of twenty runs each. For each FIB the reader tests the check word and the grammar, and then each FIG gives its
 # head, and each entry its value. The fields of the values are added up, so that each value is wanted; of the
 # components of a service that is their number and the first one. Wanted: no more time than md5sum takes.
 #   bench/reader_speed.sh [FOLDER]
@@ -136,7 +136,7 @@ fn main(rt: HostRuntime) -> io::Result<()> {
     let mut stream = Vec::new(rt.alloc());
     rt.reader().read_to_end(&mut stream)?;
     let (fibs, _) = stream.as_slice().as_chunks::<32>();
-    for _ in 0..5 {
+    for _ in 0..20 {
         let start = Instant::now(&rt)?;
         let met = walk(fibs);
         let micros = start.elapsed(&rt)?.as_micros();
@@ -153,7 +153,7 @@ sed 's/^[0-9]* us: //' "$work/walks" | sort -u
 reader=$(sed -n 's/^\([0-9]*\) us: .*/\1/p' "$work/walks" | sort -n | head -n 1)
 
 md5=999999999
-for ((run = 0; run < 5; run++)); do
+for ((run = 0; run < 20; run++)); do
   start=$(date +%s%N)
   md5sum "$work/stream" >/dev/null
   end=$(date +%s%N)
