@@ -1,11 +1,10 @@
 -- That the entries of one FIB leave room.
-use Rattle.std.proofs.Common.{◌≡◌, ◌≢◌, ℕ, zero, suc, ◌+◌, ◌*◌, ◌%◌, ◌<◌, ◌≤◌, ◌==◌, ◌++◌, Bool, true, false, cond, nat_lt, List, [], ◌∷◌, length, map, flat_map, take, Option, Some, None, refl, ap, sym, ◌∙◌, subst, arith, length-append}
+use Rattle.std.proofs.Common.{◌≡◌, ℕ, suc, ◌+◌, ◌*◌, ◌%◌, ◌<◌, ◌≤◌, ◌==◌, Bool, true, false, cond, nat_lt, List, [], ◌∷◌, length, map, flat_map, Some, None, refl, ap, ◌∙◌, arith, length-append}
 use Rattle.std.proofs.lemmas.List.{length-map}
-use Rattle.std.specs.Prelude.{◌||◌}
 use Rattle.mux_config.specs.Tables.{with_entry, with_entry_changed}
 use Rattle.fib_codec.specs.Grammar.{Fig, Open, Other, IsFig, AreFigs, AreEntries, is_long, is_next}
 use Rattle.fib_reader.specs.Raw.{Raw, raw_of, entries_in}
-use Rattle.fib_reader.specs.Listening.{Pictured, Listening, blank, identifier_of, is_known, kept, has_room, pictured, swapped, awaiting, is_made, flags_of, occurrence_of, at_ensemble, into, picture_of, hear_entry, hear_entries, hear_fig, hear_figs, and_then}
+use Rattle.fib_reader.specs.Listening.{Pictured, Listening, identifier_of, is_known, kept, has_room, pictured, swapped, is_made, flags_of, occurrence_of, at_ensemble, into, picture_of, hear_entry, hear_entries, hear_fig, hear_figs, and_then}
 use Rattle.fib_reader.specs.Picture.{HasRoom, IsRoomy, entry_count}
 use Rattle.fib_reader.proofs.Lengths.{some_bytes}
 use Rattle.fib_reader.proofs.Keeping.{room_for_new}

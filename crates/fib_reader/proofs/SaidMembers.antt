@@ -1,5 +1,5 @@
 -- What holds of the entries that say members of a configuration.
-use Rattle.std.proofs.Common.{◌≡◌, ℕ, zero, suc, ◌+◌, ◌*◌, ◌-◌, ◌/◌, ◌%◌, ◌<◌, ◌≤◌, Bool, true, false, List, [], ◌∷◌, ◌++◌, length, map, take, drop, get_or, refl, ap, sym, ◌∙◌, subst, arith}
+use Rattle.std.proofs.Common.{◌≡◌, ℕ, zero, suc, ◌<◌, ◌≤◌, Bool, true, false, List, [], ◌∷◌, length, map, take, get_or, refl, ap, sym, ◌∙◌, subst, arith}
 use Rattle.std.proofs.lemmas.List.{length-map}
 use Rattle.mux_eep.specs.declared.sizes.EepSet.{EepSet}
 use Rattle.mux_eep.specs.declared.sizes.EepSet.TheVariants.{A, B}
@@ -14,7 +14,7 @@ use Rattle.mux_config.specs.declared.numbers.Sid.TheVariants.{Short, Long}
 use Rattle.mux_config.specs.Configuration.{Each, IsAscending, IsPlaced, IsService, IsAddressed, IsComponent, IsSid, sub_key, sid_key, service_key, packet_key, component_limit}
 use Rattle.mux_config.specs.Facts.{sub_entry, service_entry, packet_entry, component_entry, component_entries, option_of}
 use Rattle.fib_codec.specs.Ranges.{IsWithin, IsComponentEntry}
-use Rattle.fib_codec.specs.Spelling.{SpellingTells, entry_bytes, ext_of, is_long_entry}
+use Rattle.fib_codec.specs.Spelling.{SpellingTells}
 use Rattle.fib_reader.specs.Raw.{Raw, raw_entry}
 use Rattle.fib_reader.specs.Listening.{identifier_of}
 use Rattle.fib_reader.proofs.Components.{length_component_entries}

@@ -1,16 +1,13 @@
 -- Pictures that show a configuration.
-use Rattle.std.proofs.Common.{◌≡◌, ◌≢◌, ℕ, zero, suc, ◌<◌, ◌≤◌, Bool, true, false, List, [], ◌∷◌, ◌++◌, length, map, append_assoc, refl, ap, sym, ◌∙◌, subst, arith}
+use Rattle.std.proofs.Common.{◌≡◌, ◌≢◌, ℕ, ◌<◌, ◌≤◌, false, List, [], ◌∷◌, ◌++◌, length, map, append_assoc, refl, ap, sym, ◌∙◌, subst, arith}
 use Rattle.std.proofs.lemmas.List.{length-map, map-append}
-use Rattle.mux_config.specs.declared.parts.Sub.{Sub}
-use Rattle.mux_config.specs.declared.parts.Service.{Service}
-use Rattle.mux_config.specs.declared.parts.Packet.{Packet}
 use Rattle.mux_config.specs.declared.entry.Entry.{Entry}
 use Rattle.mux_config.specs.Configuration.{Configuration, Each, IsAscending, IsConfiguration, IsPlaced, IsService, IsAddressed, sub_key, service_key, packet_key}
-use Rattle.mux_config.specs.Facts.{FactsTell, Marked, marked, sub_entry, service_entry, packet_entry, sub_entries, service_entries, facts_of}
+use Rattle.mux_config.specs.Facts.{FactsTell, marked, sub_entry, service_entry, packet_entry, sub_entries, service_entries}
 use Rattle.fib_codec.specs.Ranges.{IsWithin}
 use Rattle.fib_codec.specs.Spelling.{SpellingTells}
 use Rattle.fib_reader.specs.Raw.{Raw, raw_entry}
-use Rattle.fib_reader.specs.Listening.{Pictured, identifier_of, all_entries}
+use Rattle.fib_reader.specs.Listening.{Pictured, identifier_of}
 use Rattle.fib_reader.specs.Picture.{IsPictured, IsSubOf, Shows}
 use Rattle.fib_reader.proofs.SaidMembers.{sub_within, service_within, packet_within, sub_identified, service_identified, packet_identified}
 

@@ -1,5 +1,5 @@
 -- The FIGs and entries of data bytes without a fault, in order, as an iterator meets them.
-use Rattle.std.specs.Prelude.{◌≡◌, ℕ, zero, suc, ◌%◌, ◌<◌, ◌==◌, ◌&&◌, Bool, false, if◌then◌else◌, nat_lt, List, [], ◌∷◌, length, get_or, take, drop, map, Option, Some, None}
+use Rattle.std.specs.Prelude.{ℕ, zero, suc, ◌%◌, ◌==◌, ◌&&◌, Bool, if◌then◌else◌, nat_lt, List, [], ◌∷◌, length, get_or, take, drop, map}
 use Rattle.mux_config.specs.Configuration.{Each}
 use Rattle.fib_codec.specs.Grammar.{Fig, Open, Other, entry_len, IsFig, is_open, is_long}
 use Rattle.fib_reader.specs.Raw.{Raw, IsRaw, raw_of}

@@ -1,6 +1,6 @@
 //! An entry with bytes of its own, as a picture keeps it.
 
-ghost use Rattle.std.specs.Prelude.{◌≡◌, IsTrue};
+ghost use Rattle.std.specs.Prelude.{◌≡◌, ◌↔◌, IsTrue};
 
 use crate::entries::RawEntry;
 use mux_config::Keyed;
@@ -47,7 +47,7 @@ impl Kept {
 
     /// Whether it is this entry.
     pub fn is(&self, entry: &RawEntry<'_>) -> bool
-        ensures { IsTrue result → self.now ≡ entry.now }
+        ensures { IsTrue result ↔ (self.now ≡ entry.now) }
     {
         let given = entry.bytes();
         if usize::from(self.len) != given.len()

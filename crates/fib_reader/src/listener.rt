@@ -68,6 +68,7 @@ impl Listener {
     }
 
     /// Makes the next picture the current one, and empties the next one.
+    #[inline(never)]
     fn swap(&mut self)
         ensures { self.new ≡ swapped self.old }
     {

@@ -59,6 +59,7 @@ impl Picture {
 
     /// Takes in an entry of FIG 0/1 to 0/3, where there is room for it. The answer is whether there was;
     /// where there was none, nothing changes.
+    #[inline(always)]
     pub(crate) fn take_in(&mut self, entry: &RawEntry<'_>) -> bool
         requires { entry.now.ext ≢ 0 }
         ensures taken { result ≡ true → pictured entry.now self.old ≡ Some self.new }

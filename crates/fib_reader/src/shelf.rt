@@ -79,6 +79,7 @@ impl Shelf {
 
     /// Puts an entry in place of the one with the same identifier, or beside the others where there is room.
     /// The answer is whether that was so; where it was not, nothing changes.
+    #[inline(never)]
     fn place_entry(&mut self, identifier: u64, entry: &RawEntry<'_>) -> bool
         requires { identifier ≡ identifier_of entry.now }
         ensures taken { result ≡ true → has_room entry.now self.old ≡ true }
@@ -96,6 +97,7 @@ impl Shelf {
 
     /// Puts an entry in place of the one with the same identifier, or beside the others where there is room.
     /// The answer is whether that was so; where it was not, nothing changes.
+    #[inline(always)]
     pub(crate) fn keep(&mut self, identifier: u64, entry: &RawEntry<'_>) -> bool
         requires { identifier ≡ identifier_of entry.now }
         ensures taken { result ≡ true → has_room entry.now self.old ≡ true }

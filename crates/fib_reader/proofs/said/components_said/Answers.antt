@@ -1,7 +1,7 @@
-use Rattle.std.proofs.Common.{◌≡◌, ◌+◌, ◌<◌, ◌==◌, ◌++◌, ◌∷◌, ◌∙◌, [], Bool, true, false, length, take, get_or, sym, ap, arith}
+use Rattle.std.proofs.Common.{◌≡◌, ◌+◌, ◌==◌, ◌++◌, ◌∷◌, ◌∙◌, [], true, false, length, get_or, sym, ap}
 use Rattle.std.specs.List.{list_any}
 use Rattle.std.proofs.lemmas.List.{take_more, length-append}
-use Rattle.mux_config.specs.Configuration.{AreDifferent, carrier_of}
+use Rattle.mux_config.specs.Configuration.{carrier_of}
 use Rattle.mux_config.specs.Edits.{names}
 use Rattle.mux_config.specs.Facts.{component_entry, component_entries}
 use Rattle.mux_config.specs.declared.parts.Component.TheVariants.{Packet}

@@ -1,7 +1,7 @@
-use Rattle.std.proofs.Common.{◌≡◌, ◌≤◌, ◌∙◌, sym, ap, true, false, length, arith}
+use Rattle.std.proofs.Common.{◌∙◌, sym, ap}
 use Rattle.mux_config.specs.Tables.{with_entry, with_entry_changed}
-use Rattle.fib_reader.specs.Listening.{is_known, identifier_of}
-use Rattle.fib_reader.proofs.Keeping.{kept-known, kept-new, room_for_known, room_for_new, no_room, looked_up}
+use Rattle.fib_reader.specs.Listening.{identifier_of}
+use Rattle.fib_reader.proofs.Keeping.{kept-known, kept-new, room_for_known, no_room, looked_up}
 use Rattle.fib_reader.proofs.shelf.keep.Goals as goal
 
 pub returns-then-is_some-clause-taken : goal.returns-then-is_some-clause-taken

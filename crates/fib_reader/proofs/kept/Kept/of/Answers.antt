@@ -1,4 +1,4 @@
-use Rattle.std.proofs.Common.{◌≡◌, ◌++◌, ◌∙◌, sym, ap, length}
+use Rattle.std.proofs.Common.{◌∙◌, sym, ap, length}
 use Rattle.fib_reader.proofs.Keeping.{raw_again, copied_front}
 use Rattle.fib_reader.proofs.kept.Kept.of.Goals as goal
 

@@ -1,7 +1,7 @@
-use Rattle.std.proofs.Common.{◌≡◌, ◌∙◌, ◌≤◌, List, length, sym, ap, subst, Some}
-use Rattle.mux_config.specs.Configuration.{Configuration, IsConfiguration, IsAscending}
+use Rattle.std.proofs.Common.{◌∙◌, ◌≤◌, List, length, sym, ap, subst, Some}
+use Rattle.mux_config.specs.Configuration.{Configuration, IsConfiguration}
 use Rattle.fib_reader.specs.Raw.{Raw}
-use Rattle.fib_reader.specs.Listening.{Pictured, identifier_of}
+use Rattle.fib_reader.specs.Listening.{Pictured}
 use Rattle.fib_reader.specs.Picture.{Shows}
 use Rattle.fib_reader.proofs.Shown.{ShowsEach, shows_each, each_shows, shows_one, makes_configuration}
 use Rattle.fib_reader.proofs.picture.Picture.config.Goals as goal

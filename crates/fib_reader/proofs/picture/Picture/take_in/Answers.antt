@@ -1,5 +1,4 @@
-use Rattle.std.proofs.Common.{◌≡◌, ◌<◌, ◌∙◌, sym, ap, subst, true, false, arith}
-use Rattle.fib_reader.specs.Raw.{Raw}
+use Rattle.std.proofs.Common.{◌≡◌, ◌<◌, ◌∙◌, sym, subst, true, false, arith}
 use Rattle.fib_reader.specs.Listening.{identifier_of, has_room}
 use Rattle.fib_reader.specs.Picture.{IsSubOf}
 use Rattle.fib_reader.proofs.Keeping.{each_after, room_for_subs}
