@@ -238,7 +238,7 @@ fn lenient_entries(rt: HostRuntime) -> Result<(), Fail> {
 
 #[test]
 fn counts_of_ensemble_information(rt: HostRuntime) -> Result<(), Fail> {
-    let rows: [(&[u8], Option<FibFault>); 4] = [
+    let rows: [(&[u8], Option<FibFault>); 6] = [
         (&[0x05, 0x00, 0xE1, 0xC5, 0x13, 0xF9, 0xFF], None),
         (
             &[0x05, 0x00, 0xE1, 0xC5, 0x00, 0xFA, 0xFF],
@@ -251,6 +251,17 @@ fn counts_of_ensemble_information(rt: HostRuntime) -> Result<(), Fail> {
         (
             &[0x22, 0x00, 0x00, 0x01, 0x00, 0xFF],
             Some(FibFault::Entry(5)),
+        ),
+        // two entries, and flags without an occurrence change
+        (
+            &[
+                0x09, 0x00, 0xE1, 0xC5, 0x00, 0x00, 0xE1, 0xC5, 0x00, 0x04, 0xFF,
+            ],
+            Some(FibFault::Entry(6)),
+        ),
+        (
+            &[0x05, 0x00, 0xE1, 0xC5, 0x40, 0x00, 0xFF],
+            Some(FibFault::Entry(2)),
         ),
     ];
     for (data, fault) in rows {
