@@ -68,6 +68,7 @@ impl Listener {
     }
 
     /// Makes the next picture the current one, and empties the next one.
+    // (rare, and it needs much of the stack)
     #[inline(never)]
     fn swap(&mut self)
         ensures { self.new ≡ swapped self.old }

@@ -78,41 +78,29 @@ fn component_said(primary: bool, entry: &ComponentEntry) -> Option<Component>
     ensures value { IfSome result (λ c. component_entry primary c ≡ entry.now) }
     ensures none { IfNone result ((c : Component) → component_entry primary c ≡ entry.now → ⊥) }
 {
-    match *entry {
+    let (component, first, ca) = match *entry {
         ComponentEntry::Sound {
             ty,
             sub,
-            primary: first,
+            primary,
             ca,
-        } => {
-            if ca || first != primary {
-                return None;
-            }
-            Some(Component::Sound { ty, sub })
-        }
+        } => (Component::Sound { ty, sub }, primary, ca),
         ComponentEntry::Stream {
             ty,
             sub,
-            primary: first,
+            primary,
             ca,
-        } => {
-            if ca || first != primary {
-                return None;
-            }
-            Some(Component::Stream { ty, sub })
-        }
-        ComponentEntry::Packet {
-            scid,
-            primary: first,
-            ca,
-        } => {
-            if ca || first != primary {
-                return None;
-            }
-            Some(Component::Packet { scid })
-        }
-        ComponentEntry::Other { bits: _ } => None,
+        } => (Component::Stream { ty, sub }, primary, ca),
+        ComponentEntry::Packet { scid, primary, ca } => (Component::Packet { scid }, primary, ca),
+        ComponentEntry::Other { bits: _ } => return None,
+    };
+    if ca {
+        return None;
     }
+    if first != primary {
+        return None;
+    }
+    Some(component)
 }
 
 /// The components that their entries say; None where one says none, or one of a P/S flag that a component in

@@ -153,8 +153,8 @@ fn figs_of_other_kinds_are_lent_whole(rt: HostRuntime) -> Result<(), Fail> {
 }
 
 #[test]
-fn lenient_entries(rt: HostRuntime) -> Result<(), Fail> {
-    let rows: [(&[u8], Result<(u32, u32), FibFault>); 14] = [
+fn lenient_sub_channels_and_ensemble_information(rt: HostRuntime) -> Result<(), Fail> {
+    let rows: [(&[u8], Result<(u32, u32), FibFault>); 6] = [
         // FIG 0/1 to 0/3 without entries
         (&[0x01, 0x01, 0x01, 0x02, 0x01, 0x03, 0xFF], Ok((3, 0))),
         // two sub-channels in the long form, with an option that no profile has, and P/D 1
@@ -174,6 +174,25 @@ fn lenient_entries(rt: HostRuntime) -> Result<(), Fail> {
             &[0x08, 0x01, 0x04, 0x00, 0x88, 0x60, 0x08, 0x60, 0x45, 0xFF],
             Ok((1, 2)),
         ),
+        // ensemble information with flags, C/N 1 and P/D 1; and with a byte too many
+        (
+            &[0x06, 0xA0, 0xE1, 0xC5, 0xD3, 0xF2, 0xFF, 0xFF],
+            Ok((1, 1)),
+        ),
+        (
+            &[0x06, 0x00, 0xE1, 0xC5, 0x13, 0xF2, 0x10, 0xFF],
+            Err(FibFault::Entry(6)),
+        ),
+    ];
+    for (data, expected) in rows {
+        assert_eq!(rt; counts(&fib_of(data)), expected);
+    }
+    Ok(())
+}
+
+#[test]
+fn lenient_services_and_packet_components(rt: HostRuntime) -> Result<(), Fail> {
+    let rows: [(&[u8], Result<(u32, u32), FibFault>); 8] = [
         // two services without components
         (
             &[0x07, 0x02, 0xC2, 0x21, 0x00, 0xC2, 0x22, 0xF0, 0xFF],
@@ -219,15 +238,6 @@ fn lenient_entries(rt: HostRuntime) -> Result<(), Fail> {
         (
             &[0x06, 0x03, 0x00, 0x11, 0x3C, 0x14, 0x01, 0xFF],
             Err(FibFault::Entry(2)),
-        ),
-        // ensemble information with flags, C/N 1 and P/D 1; and with a byte too many
-        (
-            &[0x06, 0xA0, 0xE1, 0xC5, 0xD3, 0xF2, 0xFF, 0xFF],
-            Ok((1, 1)),
-        ),
-        (
-            &[0x06, 0x00, 0xE1, 0xC5, 0x13, 0xF2, 0x10, 0xFF],
-            Err(FibFault::Entry(6)),
         ),
     ];
     for (data, expected) in rows {
