@@ -1,6 +1,6 @@
 //! The whole program, over its words, its files and its output.
 
-ghost use Rattle.std.specs.Prelude.{◌≤◌};
+ghost use Rattle.std.specs.Prelude.{◌≡◌, ◌≤◌, IsErr};
 
 use crate::command_line::{self, Request, Unasked};
 use crate::ending::{Failure, Status};
@@ -43,9 +43,10 @@ pub fn answer_without_words<W: Write>(alloc: Global, error: &io::Error, out: &mu
     status_of(ended, &mut output)
 }
 
-/// The exit status, once all that is printed went out.
+/// The exit status, once all that is printed went out; 1 where printing failed.
 fn status_of<W: Write>(ended: io::Result<Status>, out: &mut W) -> u8
-    ensures { result ≤ 2 }
+    ensures bound { result ≤ 2 }
+    ensures failed { IsErr ended → result ≡ 1 }
 {
     let Ok(status) = ended else {
         return Status::Refused as u8;

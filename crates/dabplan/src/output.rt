@@ -1,7 +1,8 @@
 //! Standard output: few writes, and none after one that failed.
 
-ghost use Rattle.std.specs.Prelude.{◌≡◌, ◌≤◌, OnOk, length, take};
-ghost use Rattle.std.specs.Io.KnownBytes.{Appends, Keeps};
+ghost use Rattle.std.specs.Prelude.{◌≡◌, ◌<◌, ◌≤◌, IfOk, OnOk, length, take};
+ghost use Rattle.std.specs.Io.{WritesAtMost};
+ghost use Rattle.std.specs.Io.KnownBytes.{Appends, Keeps, WriteAppends};
 
 use arrayvec::ArrayVec;
 use std::io::{self, Error, ErrorKind, Write};
@@ -38,7 +39,11 @@ impl<W: Write> Write for Output<'_, W> {
 
     ghost contents = { printed W.contents };
 
-    fn write(&mut self, bytes: &[u8]) -> io::Result<usize> {
+    fn write(&mut self, bytes: &[u8]) -> io::Result<usize>
+        ensures bound { WritesAtMost result bytes.now }
+        ensures bytes { WriteAppends (printed W.contents self.old) (printed W.contents self.new) result bytes.now }
+        ensures some { IfOk result (λ count. 0 < length bytes.now → 0 < count) }
+    {
         if self.held.is_full() {
             self.flush()?;
         }
@@ -52,6 +57,7 @@ impl<W: Write> Write for Output<'_, W> {
     fn flush(&mut self) -> io::Result<()>
         ensures bytes { Keeps (printed W.contents self.old) (printed W.contents self.new) }
         ensures passed { OnOk result (Keeps (printed W.contents self.old) (W.contents (writer_of self.new))) }
+        ensures emptied { OnOk result (length self.new.held.items ≡ 0) }
     {
         if self.has_failed {
             return Err(Error::from(ErrorKind::Other));
