@@ -1,21 +1,9 @@
-#!/bin/sh
-# Compares the two bodies of the check word on ten million blocks of 30 bytes, in one run: bit by bit, and by
-# tables. It makes a program in a folder of its own, which stands on copies of this repository's crates, and
-# says how long each body took. The table's body is to be at least twenty times as fast.
-set -eu
-top=$(cd "$(dirname "$0")/.." && pwd)
-work=$(mktemp -d)
-trap 'rm -rf "$work"' EXIT
-cd "$work"
-git init -q .
-mkdir -p crates/crc_bench/src
-for crate in mux_eep mux_config fib_codec; do
-    cp -r "$top/crates/$crate" crates/
-    grep "^$crate:" "$top/crates.txt" >> crates.txt
-done
-echo 'crc_bench: fib_codec' >> crates.txt
-echo 'Handles allowed: none.' > HANDLES
-cat > crates/crc_bench/src/main.rt <<'PROGRAM'
+#!/usr/bin/env bash
+# The two bodies of the check word on ten million blocks of 30 bytes, in one run: bit by bit, and by tables.
+# Wanted: the tables at least twenty times as fast.
+. "$(dirname "$0")/common.sh"
+
+run_program crc_bench /dev/null mux_eep mux_config fib_codec >"$work/times" <<'PROGRAM'
 //! Times both bodies of the check word.
 #![tactic(auto)]
 
@@ -44,10 +32,17 @@ fn main(rt: HostRuntime) -> io::Result<()> {
         by_tables = by_tables.wrapping_add(u32::from(crc16(&block)));
     }
     let fast = start.elapsed(&rt)?.as_millis();
-    println!(rt; "bit by bit {slow} ms, by tables {fast} ms, sums {by_bits} and {by_tables}")?;
+    println!(rt; "{slow} {fast} {by_bits} {by_tables}")?;
     Ok(())
 }
 PROGRAM
-cd crates/crc_bench
-rt run > run.log 2>&1 || { tail -40 run.log; exit 1; }
-cat run.log
+read -r slow fast by_bits by_tables <"$work/times"
+if [ "$by_bits" -ne "$by_tables" ]; then
+  echo "check word: the two bodies differ"
+  exit 1
+fi
+echo "check word: bit by bit $slow ms, by tables $fast ms: $((slow / fast)) times as fast"
+if [ "$slow" -lt $((20 * fast)) ]; then
+  echo "check word: under twenty times as fast"
+  exit 1
+fi

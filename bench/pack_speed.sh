@@ -1,22 +1,10 @@
-#!/bin/sh
+#!/usr/bin/env bash
 # Packs all pages of the largest pair of configurations, each of 64 sub-channels, 64 services of 12 components and
 # 64 packet components, a thousand times over, and computes as many check words of 30 bytes as those pages have
-# FIBs, in one run. It makes a program in a folder of its own, which stands on copies of this repository's crates,
-# and says how long each took.
-set -eu
-top=$(cd "$(dirname "$0")/.." && pwd)
-work=$(mktemp -d)
-trap 'rm -rf "$work"' EXIT
-cd "$work"
-git init -q .
-mkdir -p crates/pack_bench/src
-for crate in mux_eep mux_config fib_codec fib_carousel; do
-    cp -r "$top/crates/$crate" crates/
-    grep "^$crate:" "$top/crates.txt" >> crates.txt
-done
-echo 'pack_bench: fib_carousel fib_codec mux_config mux_eep' >> crates.txt
-echo 'Handles allowed: none.' > HANDLES
-cat > crates/pack_bench/src/main.rt <<'PROGRAM'
+# FIBs, in one run. It says how long each took.
+. "$(dirname "$0")/common.sh"
+
+run_program pack_bench /dev/null mux_eep mux_config fib_codec fib_carousel <<'PROGRAM'
 //! Times the packing of the largest pair of configurations.
 #![tactic(auto)]
 
@@ -100,10 +88,7 @@ fn main(rt: HostRuntime) -> io::Result<()> {
         sum = sum.wrapping_add(check(&mut all, round));
     }
     let checking = start.elapsed(&rt)?.as_micros();
-    println!(rt; "{ROUNDS} times {count} pages {packing} us, as many check words of 30 bytes {checking} us, sum {sum}")?;
+    println!(rt; "pack: {ROUNDS} times all {count} pages {packing} us, the check words of as many FIBs {checking} us (sum {sum})")?;
     Ok(())
 }
 PROGRAM
-cd crates/pack_bench
-rt run > run.log 2>&1 || { tail -40 run.log; exit 1; }
-tail -n 1 run.log

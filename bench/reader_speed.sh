@@ -3,42 +3,11 @@
 # of twenty runs each. For each FIB the reader tests the check word and the grammar, and then each FIG gives its
 # head, and each entry its value. The fields of the values are added up, so that each value is wanted; of the
 # components of a service that is their number and the first one. Wanted: no more time than md5sum takes.
-#   bench/reader_speed.sh [FOLDER]
-# The FIBs are those of the stream real_fic.fib of the folder, or where that is missing those of the example
-# configuration at the counts of a second, over and over. The program stands on copies of this repository's crates.
-set -euo pipefail
-cd "$(dirname "$0")/.."
-top=$(pwd)
-samples=${1:-../shared/samples}
-work=$(mktemp -d)
-trap 'rm -rf "$work"' EXIT
+#   bench/reader_speed.sh [FOLDER of real_fic.fib]
+. "$(dirname "$0")/common.sh"
 
-if [ -r "$samples/real_fic.fib" ]; then
-  cp "$samples/real_fic.fib" "$work/part"
-else
-  ./dabplan --help >/dev/null
-  for ((count = 0; count < 42; count++)); do
-    crates/dabplan/out/dabplan frame docs/examples/one_programme.rec --ensemble E1C5 --count "$count"
-  done | xxd -r -p >"$work/part"
-fi
-chmod u+w "$work/part"
-while [ "$(stat -c %s "$work/part")" -lt 32000000 ]; do
-  cat "$work/part" "$work/part" >"$work/more"
-  mv "$work/more" "$work/part"
-done
-head -c 32000000 "$work/part" >"$work/stream"
-rm "$work/part"
-
-mkdir -p "$work/top/crates/reader_bench/src"
-cd "$work/top"
-git init -q .
-for crate in mux_eep mux_config fib_codec fib_reader; do
-  cp -r "$top/crates/$crate" crates/
-  grep "^$crate:" "$top/crates.txt" >>crates.txt
-done
-echo 'reader_bench: fib_reader mux_config' >>crates.txt
-echo 'Handles allowed: none.' >HANDLES
-cat >crates/reader_bench/src/main.rt <<'PROGRAM'
+stream "$work/stream" "$@"
+run_program reader_bench "$work/stream" mux_eep mux_config fib_codec fib_reader >"$work/walks" <<'PROGRAM'
 //! Times the reader on the FIBs of standard input.
 #![tactic(auto)]
 
@@ -147,21 +116,10 @@ fn main(rt: HostRuntime) -> io::Result<()> {
     Ok(())
 }
 PROGRAM
-cd crates/reader_bench
-rt run <"$work/stream" >"$work/walks" 2>"$work/log" || { tail -n 40 "$work/log" "$work/walks"; exit 1; }
 sed 's/^[0-9]* us: //' "$work/walks" | sort -u
 reader=$(sed -n 's/^\([0-9]*\) us: .*/\1/p' "$work/walks" | sort -n | head -n 1)
-
-md5=999999999
-for ((run = 0; run < 20; run++)); do
-  start=$(date +%s%N)
-  md5sum "$work/stream" >/dev/null
-  end=$(date +%s%N)
-  micros=$(((end - start) / 1000))
-  if [ "$micros" -lt "$md5" ]; then md5=$micros; fi
-done
-hundredths=$((reader * 100 / md5))
-echo "reader: $((reader / 1000)) ms for 1,000,000 FIBs, md5sum $((md5 / 1000)) ms: $((hundredths / 100)).$(printf %02d $((hundredths % 100))) times"
+md5=$(best 20 md5sum "$work/stream")
+echo "reader: $((reader / 1000)) ms for 1,000,000 FIBs, md5sum $((md5 / 1000)) ms: $(thousandths $((reader * 1000 / md5))) times"
 if [ "$reader" -gt "$md5" ]; then
   echo "reader: slower than md5sum"
   exit 1

@@ -1,0 +1,63 @@
+# What the benchmarks share. A script takes it in by `. "$(dirname "$0")/common.sh"` and goes on in the top folder
+# of the repository, with a folder of its own in $work.
+set -euo pipefail
+cd "$(dirname "${BASH_SOURCE[0]}")/.."
+work=$(mktemp -d)
+trap 'rm -rf "$work"' EXIT
+
+# run_program NAME INPUT CRATE..: proves, builds and runs the program on standard input, over copies of these
+# crates and with INPUT as its own standard input. What it prints is printed; what the proof says only if it fails.
+run_program() {
+  local name=$1 input=$2 crate
+  shift 2
+  mkdir -p "$work/top/crates/$name/src"
+  cat >"$work/top/crates/$name/src/main.rt"
+  git init -q "$work/top"
+  for crate in "$@"; do
+    cp -r "crates/$crate" "$work/top/crates/"
+    grep "^$crate:" crates.txt
+  done >"$work/top/crates.txt"
+  echo "$name: $*" >>"$work/top/crates.txt"
+  cp HANDLES "$work/top/"
+  if ! (cd "$work/top/crates/$name" && rt run <"$input" 2>"$work/log"); then
+    tail -n 40 "$work/log" >&2
+    return 1
+  fi
+}
+
+# stream FILE [FOLDER]: makes a file of 1,000,000 FIBs: those of real_fic.fib of the folder, or where that is missing
+# those of the example configuration at the counts of a second, over and over
+stream() {
+  local file=$1 samples=${2:-../shared/samples} count
+  if [ -r "$samples/real_fic.fib" ]; then
+    cat "$samples/real_fic.fib" >"$work/part"
+  else
+    for ((count = 0; count < 42; count++)); do
+      ./dabplan frame docs/examples/one_programme.rec --ensemble E1C5 --count "$count"
+    done | xxd -r -p >"$work/part"
+  fi
+  while [ "$(stat -c %s "$work/part")" -lt 32000000 ]; do
+    cat "$work/part" "$work/part" >"$work/more"
+    mv "$work/more" "$work/part"
+  done
+  head -c 32000000 "$work/part" >"$file"
+  rm "$work/part"
+}
+
+# best RUNS COMMAND..: the shortest of so many runs, in microseconds
+best() {
+  local runs=$1 least=999999999 run start end
+  shift
+  for ((run = 0; run < runs; run++)); do
+    start=$(date +%s%N)
+    "$@" >/dev/null
+    end=$(date +%s%N)
+    if [ $(((end - start) / 1000)) -lt "$least" ]; then least=$(((end - start) / 1000)); fi
+  done
+  echo "$least"
+}
+
+# thousandths NUMBER: a number of thousandths with a point, as 1.234
+thousandths() {
+  echo "$(($1 / 1000)).$(printf %03d $(($1 % 1000)))"
+}
