@@ -52,7 +52,7 @@ impl SubId {
 /// The identifier of a service component in packet mode, SCId, 0 to 4095 (EN 300 401 clause 6.3.1).
 #[derive(Clone, Copy, Debug, PartialEq, Eq, PartialOrd, Ord)]
 pub struct ScId {
-    id: u16,
+    scid: u16,
 }
 
 impl Model for ScId {
@@ -60,11 +60,11 @@ impl Model for ScId {
 
     ghost Value = { ℕ };
 
-    ghost view = { λ s. s.id };
+    ghost view = { λ s. s.scid };
 
-    ghost invariant = { λ s. s.id < 4096 };
+    ghost invariant = { λ s. s.scid < 4096 };
 
-    ghost inverse = { λ n. record { id = n } };
+    ghost inverse = { λ n. record { scid = n } };
 }
 
 impl Default for ScId {
@@ -72,17 +72,21 @@ impl Default for ScId {
 
     /// The number 0.
     fn default() -> Self {
-        ScId { id: 0 }
+        ScId { scid: 0 }
     }
 }
 
 impl ScId {
     /// The identifier of this number; None where it is above 4095.
-    pub fn new(id: u16) -> Option<ScId>
-        ensures in_range { IsSome result ↔ (id < 4096) }
-        ensures value { IfSome result (λ s. s ≡ id) }
+    pub fn new(scid: u16) -> Option<ScId>
+        ensures in_range { IsSome result ↔ (scid < 4096) }
+        ensures value { IfSome result (λ s. s ≡ scid) }
     {
-        if id < 4096 { Some(ScId { id }) } else { None }
+        if scid < 4096 {
+            Some(ScId { scid })
+        } else {
+            None
+        }
     }
 
     /// Its number, 0 to 4095.
@@ -90,7 +94,7 @@ impl ScId {
         ensures value { result ≡ self }
         ensures in_range { result < 4096 }
     {
-        self.id
+        self.scid
     }
 }
 
