@@ -14,10 +14,10 @@ use Rattle.fib_carousel.specs.declared.cursor.Piece.{Piece}
 use Rattle.fib_carousel.specs.declared.place.Shape.{Shape}
 use Rattle.fib_carousel.specs.Packing.{size_of, same_flag, same_head, cost, figs_size, room, AreSmall}
 use Rattle.fib_carousel.specs.Pages.{fib_entries}
-use Rattle.fib_carousel.specs.Bytes.{joined, figs_of, run_of}
+use Rattle.fib_carousel.specs.Bytes.{joined, figs_of, stretch_of}
 use Rattle.fib_carousel.specs.Row.{IsSendable, AreSendable, IsShapeAt, piece_of}
 use Rattle.fib_carousel.proofs.Least.{cost_low, room_high, room_cases, greedy_is_packing}
-use Rattle.fib_carousel.proofs.Sharing.{same_head_is, after_run, figs_front, figs_cost, written_of}
+use Rattle.fib_carousel.proofs.Sharing.{same_head_is, after_stretch, figs_front, figs_cost, written_of}
 use Rattle.fib_carousel.proofs.Walk.{drop_here, nothing_behind}
 
 -- entries have three bytes or more, so ten at most fit a FIB
@@ -90,20 +90,20 @@ same_flag_own false = refl
 pub same_head_own : (h : Head) → same_head h h ≡ true
 same_head_own h = rw (same_flag_own h.next, same_flag_own h.oe, same_flag_own h.long, eq-eqb h.ext h.ext refl) refl
 
--- the run at the front, and what it leaves
-pub after_run-drop : (h : Head) (ms : List Marked) → after_run h ms ≡ drop (length (run_of h ms)) ms
-after_run-drop h [] = refl
-after_run-drop h (m ∷ ms) = by (same_head h (head_of m)) refl (after_run-drop h ms)
+-- the stretch at the front, and what it leaves
+pub after_stretch-drop : (h : Head) (ms : List Marked) → after_stretch h ms ≡ drop (length (stretch_of h ms)) ms
+after_stretch-drop h [] = refl
+after_stretch-drop h (m ∷ ms) = by (same_head h (head_of m)) refl (after_stretch-drop h ms)
   where
-    by : (b : Bool) → same_head h (head_of m) ≡ b → after_run h ms ≡ drop (length (run_of h ms)) ms → after_run h (m ∷ ms) ≡ drop (length (run_of h (m ∷ ms))) (m ∷ ms)
+    by : (b : Bool) → same_head h (head_of m) ≡ b → after_stretch h ms ≡ drop (length (stretch_of h ms)) ms → after_stretch h (m ∷ ms) ≡ drop (length (stretch_of h (m ∷ ms))) (m ∷ ms)
     by true e again = rw e again
     by false e again = rw e refl
 
-pub length-run_of : (h : Head) (ms : List Marked) → length (run_of h ms) ≤ length ms
-length-run_of h [] = omega arith
-length-run_of h (m ∷ ms) = by (same_head h (head_of m)) refl (length-run_of h ms)
+pub length-stretch_of : (h : Head) (ms : List Marked) → length (stretch_of h ms) ≤ length ms
+length-stretch_of h [] = omega arith
+length-stretch_of h (m ∷ ms) = by (same_head h (head_of m)) refl (length-stretch_of h ms)
   where
-    by : (b : Bool) → same_head h (head_of m) ≡ b → length (run_of h ms) ≤ length ms → length (run_of h (m ∷ ms)) ≤ length (m ∷ ms)
+    by : (b : Bool) → same_head h (head_of m) ≡ b → length (stretch_of h ms) ≤ length ms → length (stretch_of h (m ∷ ms)) ≤ length (m ∷ ms)
     by true e again = rw e (omega (arith, again))
     by false e again = rw e (omega arith)
 
@@ -147,27 +147,27 @@ pub written_figs : (ms : List Marked) → AreSendable ms → Each IsWritten (fig
 written_figs [] h = tt
 written_figs (m ∷ ms) h = written_joined m (figs_of ms) h.0 (written_figs ms h.1)
 
--- the run at the front of a piece: its FIG, and the rest of the piece
+-- the stretch at the front of a piece: its FIG, and the rest of the piece
 pub record Fronted (ms : List Marked) (at to : ℕ) (head : Head) (es : List Entry) : Type 0 where
   pub some : 0 < length es
   pub within : at + length es ≤ to
   pub figs : figs_of (take (to - at) (drop at ms)) ≡ written_of head es ∷ figs_of (take (to - (at + length es)) (drop (at + length es) ms))
 
-pub fronted : (ms : List Marked) (at to : ℕ) (m : Marked) (head : Head) (es : List Entry) → at < to → to ≤ length ms → slice_get ms at ≡ Some m → head ≡ head_of m → es ≡ run_of head (take (to - at) (drop at ms)) → Fronted ms at to head es
-fronted ms at to m head es lt end here own run =
+pub fronted : (ms : List Marked) (at to : ℕ) (m : Marked) (head : Head) (es : List Entry) → at < to → to ≤ length ms → slice_get ms at ≡ Some m → head ≡ head_of m → es ≡ stretch_of head (take (to - at) (drop at ms)) → Fronted ms at to head es
+fronted ms at to m head es lt end here own stretch =
     let piece : List Marked = take (to - at) (drop at ms) in
     let rest : List Marked = take (to - (at + 1)) (drop (at + 1) ms) in
     let front : piece ≡ m ∷ rest = piece_front ms at to m lt here in
-    let own_front : run_of (head_of m) (m ∷ rest) ≡ m.entry ∷ run_of (head_of m) rest = rw (same_head_own (head_of m)) refl in
-    let whole : es ≡ m.entry ∷ run_of (head_of m) rest =
-    run ∙ ap (λ (h : Head). run_of h piece) own ∙ ap (λ xs. run_of (head_of m) xs) front ∙ own_front in
+    let own_front : stretch_of (head_of m) (m ∷ rest) ≡ m.entry ∷ stretch_of (head_of m) rest = rw (same_head_own (head_of m)) refl in
+    let whole : es ≡ m.entry ∷ stretch_of (head_of m) rest =
+    stretch ∙ ap (λ (h : Head). stretch_of h piece) own ∙ ap (λ xs. stretch_of (head_of m) xs) front ∙ own_front in
     let count : length es ≤ to - at =
-    rw (← length-piece_of (record { from = at; to = to }) ms end) (subst (λ (xs : List Entry). length xs ≤ length piece) (sym run) (length-run_of head piece)) in
+    rw (← length-piece_of (record { from = at; to = to }) ms end) (subst (λ (xs : List Entry). length xs ≤ length piece) (sym stretch) (length-stretch_of head piece)) in
     let within : at + length es ≤ to = omega (arith, count, lt) in
-    let after_own : after_run (head_of m) (m ∷ rest) ≡ after_run (head_of m) rest = rw (same_head_own (head_of m)) refl in
-    let behind : after_run (head_of m) rest ≡ take (to - (at + length es)) (drop (at + length es) ms) =
+    let after_own : after_stretch (head_of m) (m ∷ rest) ≡ after_stretch (head_of m) rest = rw (same_head_own (head_of m)) refl in
+    let behind : after_stretch (head_of m) rest ≡ take (to - (at + length es)) (drop (at + length es) ms) =
     sym after_own
-    ∙ after_run-drop (head_of m) (m ∷ rest)
+    ∙ after_stretch-drop (head_of m) (m ∷ rest)
     ∙ ap (λ (xs : List Entry). drop (length xs) (m ∷ rest)) (own_front ∙ sym whole)
     ∙ ap (λ xs. drop (length es) xs) (sym front)
     ∙ piece_behind ms at to (length es) within in
@@ -177,12 +177,12 @@ fronted ms at to m head es lt end here own run =
       figs =
           ap (λ xs. figs_of xs) front
           ∙ figs_front m rest
-          ∙ ap (λ (xs : List Entry). written_of (head_of m) xs ∷ figs_of (after_run (head_of m) rest)) (sym whole)
-          ∙ ap (λ (h : Head). written_of h es ∷ figs_of (after_run (head_of m) rest)) (sym own)
+          ∙ ap (λ (xs : List Entry). written_of (head_of m) xs ∷ figs_of (after_stretch (head_of m) rest)) (sym whole)
+          ∙ ap (λ (h : Head). written_of h es ∷ figs_of (after_stretch (head_of m) rest)) (sym own)
           ∙ ap (λ xs. written_of head es ∷ figs_of xs) behind;
     }
 
--- the FIG of the run fits where the whole piece does, and so does the rest behind it
+-- the FIG of the stretch fits where the whole piece does, and so does the rest behind it
 pub front_formed : (ms : List Marked) (at to : ℕ) (head : Head) (es : List Entry) → AreSendable ms → Fronted ms at to head es → IsFormed head es
 front_formed ms at to head es h f =
     let written : Each IsWritten (written_of head es ∷ figs_of (take (to - (at + length es)) (drop (at + length es) ms))) =
@@ -204,35 +204,35 @@ front_bytes ms at to head es before f =
     append_assoc before (fig_bytes head es) (figs_bytes (figs_of (take (to - (at + length es)) (drop (at + length es) ms))))
     ∙ ap (λ fs. before ++ figs_bytes fs) (sym f.figs)
 
--- the loop over a run
-pub run_step : (ms : List Marked) (at to : ℕ) (m : Marked) (head other : Head) → at < to → slice_get ms at ≡ Some m → other ≡ head_of m → same_head head other ≡ true
-    → run_of head (take (to - at) (drop at ms)) ≡ m.entry ∷ run_of head (take (to - (at + 1)) (drop (at + 1) ms))
-run_step ms at to m head other lt here own same =
+-- the loop over a stretch
+pub stretch_step : (ms : List Marked) (at to : ℕ) (m : Marked) (head other : Head) → at < to → slice_get ms at ≡ Some m → other ≡ head_of m → same_head head other ≡ true
+    → stretch_of head (take (to - at) (drop at ms)) ≡ m.entry ∷ stretch_of head (take (to - (at + 1)) (drop (at + 1) ms))
+stretch_step ms at to m head other lt here own same =
     let same' : same_head head (head_of m) ≡ true = subst (λ (h : Head). same_head head h ≡ true) own same in
-    ap (λ xs. run_of head xs) (piece_front ms at to m lt here) ∙ rw same' refl
+    ap (λ xs. stretch_of head xs) (piece_front ms at to m lt here) ∙ rw same' refl
 
-pub run_stop : (ms : List Marked) (at to : ℕ) (m : Marked) (head other : Head) → at < to → slice_get ms at ≡ Some m → other ≡ head_of m → same_head head other ≡ false
-    → run_of head (take (to - at) (drop at ms)) ≡ []
-run_stop ms at to m head other lt here own differ =
+pub stretch_stop : (ms : List Marked) (at to : ℕ) (m : Marked) (head other : Head) → at < to → slice_get ms at ≡ Some m → other ≡ head_of m → same_head head other ≡ false
+    → stretch_of head (take (to - at) (drop at ms)) ≡ []
+stretch_stop ms at to m head other lt here own differ =
     let differ' : same_head head (head_of m) ≡ false = subst (λ (h : Head). same_head head h ≡ false) own differ in
-    ap (λ xs. run_of head xs) (piece_front ms at to m lt here) ∙ rw differ' refl
+    ap (λ xs. stretch_of head xs) (piece_front ms at to m lt here) ∙ rw differ' refl
 
 same_entry : {A : Type 0} (xs : List A) (i : ℕ) (x y : A) → slice_get xs i ≡ Some x → slice_get xs i ≡ Some y → x ≡ y
 same_entry xs i x y h k = cc
 
-pub run_ends : (ms : List Marked) (at to : ℕ) (shape : Shape) (head : Head) (before whole : List Entry) → IsShapeAt ms at shape → at < to → same_head head shape.head ≡ false
-    → before ++ run_of head (take (to - at) (drop at ms)) ≡ whole → before ≡ whole
-run_ends ms at to shape head before whole s lt differ h =
-    nothing_behind before (run_of head (take (to - at) (drop at ms))) whole (run_stop ms at to s.entry head shape.head lt s.here s.head differ) h
+pub stretch_ends : (ms : List Marked) (at to : ℕ) (shape : Shape) (head : Head) (before whole : List Entry) → IsShapeAt ms at shape → at < to → same_head head shape.head ≡ false
+    → before ++ stretch_of head (take (to - at) (drop at ms)) ≡ whole → before ≡ whole
+stretch_ends ms at to shape head before whole s lt differ h =
+    nothing_behind before (stretch_of head (take (to - at) (drop at ms))) whole (stretch_stop ms at to s.entry head shape.head lt s.here s.head differ) h
 
-pub run_grows : (ms : List Marked) (at to : ℕ) (shape : Shape) (m : Marked) (head : Head) (before after whole : List Entry) → IsShapeAt ms at shape → slice_get ms at ≡ Some m → at < to → same_head head shape.head ≡ true
-    → after ≡ before ++ m.entry ∷ [] → before ++ run_of head (take (to - at) (drop at ms)) ≡ whole → after ++ run_of head (take (to - (at + 1)) (drop (at + 1) ms)) ≡ whole
-run_grows ms at to shape m head before after whole s here lt same grown h =
+pub stretch_grows : (ms : List Marked) (at to : ℕ) (shape : Shape) (m : Marked) (head : Head) (before after whole : List Entry) → IsShapeAt ms at shape → slice_get ms at ≡ Some m → at < to → same_head head shape.head ≡ true
+    → after ≡ before ++ m.entry ∷ [] → before ++ stretch_of head (take (to - at) (drop at ms)) ≡ whole → after ++ stretch_of head (take (to - (at + 1)) (drop (at + 1) ms)) ≡ whole
+stretch_grows ms at to shape m head before after whole s here lt same grown h =
     let own : shape.head ≡ head_of m = s.head ∙ ap (λ (n : Marked). head_of n) (same_entry ms at s.entry m s.here here) in
-    let rest : List Entry = run_of head (take (to - (at + 1)) (drop (at + 1) ms)) in
+    let rest : List Entry = stretch_of head (take (to - (at + 1)) (drop (at + 1) ms)) in
     ap (λ xs. xs ++ rest) grown
     ∙ append_assoc before (m.entry ∷ []) rest
-    ∙ ap (λ xs. before ++ xs) (sym (run_step ms at to m head shape.head lt here own same))
+    ∙ ap (λ xs. before ++ xs) (sym (stretch_step ms at to m head shape.head lt here own same))
     ∙ h
 
 -- a step over one FIG
@@ -243,9 +243,9 @@ pub record Stepped (ms : List Marked) (at to : ℕ) (head : Head) (es : List Ent
   pub bytes : (before ++ fig_bytes head es) ++ figs_bytes (figs_of (take (to - (at + length es)) (drop (at + length es) ms))) ≡ before ++ figs_bytes (figs_of (take (to - at) (drop at ms)))
 
 pub stepped : (ms : List Marked) (at to : ℕ) (shape : Shape) (es : List Entry) (before : List ℕ) → AreSendable ms → IsShapeAt ms at shape → at < to → to ≤ length ms
-    → es ≡ run_of shape.head (take (to - at) (drop at ms)) → length before + figs_size None (take (to - at) (drop at ms)) ≤ 30 → Stepped ms at to shape.head es before
-stepped ms at to shape es before h s lt end run room =
-    let f : Fronted ms at to shape.head es = fronted ms at to s.entry shape.head es lt end s.here s.head run in
+    → es ≡ stretch_of shape.head (take (to - at) (drop at ms)) → length before + figs_size None (take (to - at) (drop at ms)) ≤ 30 → Stepped ms at to shape.head es before
+stepped ms at to shape es before h s lt end stretch room =
+    let f : Fronted ms at to shape.head es = fronted ms at to s.entry shape.head es lt end s.here s.head stretch in
     let size : figs_size None (take (to - at) (drop at ms)) ≡ length (fig_bytes shape.head es) + figs_size None (take (to - (at + length es)) (drop (at + length es) ms)) = front_size ms at to shape.head es f in
     record {
       fronted = f;

@@ -21,9 +21,9 @@ figs_of [] = []
 figs_of (m ∷ ms) = joined m (figs_of ms)
 
 -- the entries of this head at the front
-abbrev pub run_of : Head → List Marked → List Entry
-run_of head [] = []
-run_of head (m ∷ ms) = if same_head head (head_of m) then m.entry ∷ run_of head ms else []
+abbrev pub stretch_of : Head → List Marked → List Entry
+stretch_of head [] = []
+stretch_of head (m ∷ ms) = if same_head head (head_of m) then m.entry ∷ stretch_of head ms else []
 
 -- FIG 0/0, where it is given: of this ensemble, with C/N 0 and P/D 0
 abbrev pub ensemble_figs : Option EnsembleInformation → List Written

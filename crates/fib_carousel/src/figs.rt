@@ -5,7 +5,7 @@ ghost use Rattle.fib_codec.specs.Spelling.{figs_bytes, fib_bytes};
 ghost use Rattle.fib_codec.specs.Ranges.{IsEnsembleInformation};
 ghost use Rattle.fib_carousel.specs.Packing.{figs_size};
 ghost use Rattle.fib_carousel.specs.Pages.{fib_entries, rounds};
-ghost use Rattle.fib_carousel.specs.Bytes.{figs_of, run_of, ensemble_figs, page_bytes};
+ghost use Rattle.fib_carousel.specs.Bytes.{figs_of, stretch_of, ensemble_figs, page_bytes};
 ghost use Rattle.fib_carousel.specs.Row.{piece_of, AreSendable, Stands};
 ghost use Rattle.fib_carousel.specs.Carried.{IsPageable};
 
@@ -17,11 +17,11 @@ use fib_codec::{Fib, Head};
 use mux_config::{Ensemble, Entry};
 
 /// The entries of one head at the front of a piece: they share a FIG.
-fn run<R: Row>(row: &R, piece: Piece, head: Head) -> ArrayVec<Entry, 10>
+fn stretch<R: Row>(row: &R, piece: Piece, head: Head) -> ArrayVec<Entry, 10>
     requires order { piece.from ≤ piece.to }
     requires end { piece.to ≤ length (R.entries row.now) }
     requires few { piece.to ≤ piece.from + 10 }
-    ensures { result.items ≡ run_of head (piece_of piece (R.entries row.now)) }
+    ensures { result.items ≡ stretch_of head (piece_of piece (R.entries row.now)) }
 {
     let mut entries = ArrayVec::new();
     for at in piece.from..piece.to {
@@ -48,7 +48,7 @@ fn put_figs<R: Row>(row: &R, piece: Piece, fib: &mut Fib)
             from: at,
             to: piece.to,
         };
-        let entries = run(row, rest, head);
+        let entries = stretch(row, rest, head);
         let _appended = fib.try_fig(head, entries.as_slice());
         at += entries.len() as u16;
     }
