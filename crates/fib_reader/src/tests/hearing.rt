@@ -49,6 +49,11 @@ fn only_sub(picture: &Picture) -> Option<Sub> {
     }
 }
 
+/// The bit rate of the one sub-channel that a picture shows, in kbit/s.
+fn only_rate(picture: &Picture) -> Option<u16> {
+    Some(only_sub(picture)?.kbits)
+}
+
 #[test]
 fn a_configuration_heard(rt: HostRuntime) -> Result<(), Fail> {
     let listener = listener_of(&WORKED).map_err(|_| "a good FIB")?;
@@ -287,14 +292,8 @@ fn a_swap_heard(rt: HostRuntime) -> Result<(), Fail> {
     let notice = frame(Ensemble::new(0xE1C5, 1, false, 4, Some(28)), true, 72).ok_or("a FIB")?;
     assert_eq!(rt; listener.hear(&notice), Ok(()));
     assert_eq!(rt; listener.swap_at(), Some(28));
-    assert_eq!(rt;
-        only_sub(listener.current()).ok_or("one sub-channel")?.kbits,
-        128
-    );
-    assert_eq!(rt;
-        only_sub(listener.next()).ok_or("one sub-channel")?.kbits,
-        96
-    );
+    assert_eq!(rt; only_rate(listener.current()), Some(128));
+    assert_eq!(rt; only_rate(listener.next()), Some(96));
     // a frame of the notice, at another count
     let later = frame(Ensemble::new(0xE1C5, 1, false, 24, Some(28)), true, 72).ok_or("a FIB")?;
     assert_eq!(rt; listener.hear(&later), Ok(()));
@@ -305,22 +304,13 @@ fn a_swap_heard(rt: HostRuntime) -> Result<(), Fail> {
     assert_eq!(rt; listener.hear(&swap), Ok(()));
     assert_eq!(rt; listener.swap_at(), Some(52));
     assert!(rt; has(listener.current(), &[(1, 1)]));
-    assert_eq!(rt;
-        only_sub(listener.current()).ok_or("one sub-channel")?.kbits,
-        96
-    );
-    assert_eq!(rt;
-        only_sub(listener.next()).ok_or("one sub-channel")?.kbits,
-        64
-    );
+    assert_eq!(rt; only_rate(listener.current()), Some(96));
+    assert_eq!(rt; only_rate(listener.next()), Some(64));
     // its swap is missed, and seen by the flags that are gone
     let after = frame(Ensemble::new(0xE1C5, 0, false, 60, None), false, 48).ok_or("a FIB")?;
     assert_eq!(rt; listener.hear(&after), Ok(()));
     assert_eq!(rt; listener.swap_at(), None);
-    assert_eq!(rt;
-        only_sub(listener.current()).ok_or("one sub-channel")?.kbits,
-        64
-    );
+    assert_eq!(rt; only_rate(listener.current()), Some(64));
     assert!(rt; has(listener.next(), &[]));
     Ok(())
 }
