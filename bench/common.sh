@@ -28,7 +28,7 @@ run_program() {
 # stream FILE [FOLDER]: makes a file of 1,000,000 FIBs: those of real_fic.fib of the folder, or where that is missing
 # those of the example configuration at the counts of a second, over and over
 stream() {
-  local file=$1 samples=${2:-../shared/samples} count
+  local file=$1 samples=${2:-bench/samples} count
   if [ -r "$samples/real_fic.fib" ]; then
     cat "$samples/real_fic.fib" >"$work/part"
   else

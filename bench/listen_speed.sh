@@ -1,18 +1,41 @@
 #!/usr/bin/env bash
-# `dabplan listen` on a file of 1,000,000 FIBs against md5sum on the same file, in the same run: the best of
-# twenty runs each. Wanted: at most 1.5 times as long, and at most 4 MB resident beside the file.
+# `dabplan listen` on four files of 1,000,000 FIBs, each against md5sum on the same file in the same run: the best of
+# twenty runs each, turn by turn. Of each stream it says how many times as long may be wanted; and at most 4 MB resident
+# beside the file.
+#   sample     what another multiplexer wrote, over and over
+#   full       the pages of 64 sub-channels, 64 services and 64 packet components, one after another
+#   sixteen    those of 30 services with SIds 16 apart
+#   scattered  those of 60 services with scattered SIds
 #   bench/listen_speed.sh [FOLDER of real_fic.fib]
 . "$(dirname "$0")/common.sh"
 
 ./dabplan --help >/dev/null
 program=crates/dabplan/out/dabplan
+failed=0
+
+# measure NAME FILE WANTED: the ratio in thousandths, and the memory
+measure() {
+  local name=$1 file=$2 wanted=$3 listen=999999999 md5=999999999 turn took ratio beside
+  for ((turn = 0; turn < 20; turn++)); do
+    took=$(best 1 "$program" listen "$file")
+    if [ "$took" -lt "$listen" ]; then listen=$took; fi
+    took=$(best 1 md5sum "$file")
+    if [ "$took" -lt "$md5" ]; then md5=$took; fi
+  done
+  /usr/bin/time -f '%M' "$program" listen "$file" 2>"$work/resident" >/dev/null
+  beside=$(($(tail -n 1 "$work/resident") - 32000000 / 1024))
+  ratio=$((listen * 1000 / md5))
+  echo "listen $name: $((listen / 1000)) ms for 1,000,000 FIBs, md5sum $((md5 / 1000)) ms: $(thousandths "$ratio") times (at most $(thousandths "$wanted")), $beside KB resident beside the file"
+  if [ "$ratio" -gt "$wanted" ] || [ "$beside" -gt 4096 ]; then failed=1; fi
+}
+
 stream "$work/stream" "$@"
-listen=$(best 20 "$program" listen "$work/stream")
-md5=$(best 20 md5sum "$work/stream")
-/usr/bin/time -f '%M' "$program" listen "$work/stream" 2>"$work/resident" >/dev/null
-beside=$(($(tail -n 1 "$work/resident") - 32000000 / 1024))
-echo "listen: $((listen / 1000)) ms for 1,000,000 FIBs, md5sum $((md5 / 1000)) ms: $(thousandths $((listen * 1000 / md5))) times, $beside KB resident beside the file"
-if [ $((listen * 2)) -gt $((md5 * 3)) ] || [ "$beside" -gt 4096 ]; then
-  echo "listen: over 1.5 times or 4 MB"
+measure sample "$work/stream" 1200
+for kind in full:2000 sixteen:1500 scattered:2000; do
+  python3 bench/fib_streams.py "${kind%:*}" 1000000 "$work/stream"
+  measure "${kind%:*}" "$work/stream" "${kind#*:}"
+done
+if [ "$failed" -ne 0 ]; then
+  echo "listen: over what is wanted"
   exit 1
 fi

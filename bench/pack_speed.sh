@@ -1,7 +1,7 @@
 #!/usr/bin/env bash
 # Packs all pages of the largest pair of configurations, each of 64 sub-channels, 64 services of 12 components and
-# 64 packet components, a thousand times over, and computes as many check words of 30 bytes as those pages have
-# FIBs, in one run. It says how long each took.
+# 64 packet components, a thousand times over in mode I, and computes as many check words of 30 bytes as those pages
+# have FIBs, in one run. It says how long each took.
 . "$(dirname "$0")/common.sh"
 
 run_program pack_bench /dev/null mux_eep mux_config fib_codec fib_carousel <<'PROGRAM'
@@ -11,13 +11,15 @@ run_program pack_bench /dev/null mux_eep mux_config fib_codec fib_carousel <<'PR
 ghost use Rattle.std.specs.Prelude.{◌<◌};
 
 use fib_carousel::{page, pages};
-use fib_codec::crc16;
+use fib_codec::{Mode, crc16};
 use mux_config::{Component, Config, Packet, ScId, ScTy, Sid, Store, Sub, SubId};
 use mux_eep::{EepSet, Protection};
 use std::io;
 use std::time::Instant;
 
 const ROUNDS: u32 = 1000;
+const FIBS: u32 = 3 * 81;
+const ROW: usize = 4096 + 30;
 
 /// Adds a sub-channel, a service of 12 components and a packet component.
 fn add_each(config: &mut Config, k: u8) -> Option<()>
@@ -48,24 +50,33 @@ fn largest() -> Option<Config> {
     Some(config)
 }
 
-// all pages, of which the largest pair has this many
-type Pages = [[u8; 96]; 81];
+// a byte of each page is added up, so that each page is wanted
+fn pack(current: &Config, next: &Config, round: u32) -> u32 {
+    let mut sum = 0u32;
+    for k in 0..pages(Mode::I, current, Some(next)) {
+        let page = page(Mode::I, current, Some(next), k, None);
+        let byte = page.bytes().get((round % 96) as usize).copied().unwrap_or(0);
+        sum = sum.wrapping_add(u32::from(byte));
+    }
+    sum
+}
 
-fn pack(current: &Config, next: &Config, all: &mut Pages) {
-    for k in 0..pages(current, Some(next)).min(81) {
-        all[k] = page(current, Some(next), k, None);
+/// Fills a row with bytes of a linear congruential generator.
+fn fill(row: &mut [u8; ROW]) {
+    let mut state = 1u32;
+    for byte in row {
+        state = state.wrapping_mul(1_664_525).wrapping_add(1_013_904_223);
+        *byte = (state >> 24) as u8;
     }
 }
 
-// a byte of each FIB is another in each round, so that no word is known beforehand, and the words are added up,
-// so that each is wanted
-fn check(all: &mut Pages, round: u32) -> u32 {
+// each block is the one before moved on by a byte of the row, so that all of it is another, and the words are added
+// up, so that each is wanted
+fn check(row: &[u8; ROW]) -> u32 {
     let mut sum = 0u32;
-    for page in all {
-        for fib in page.as_chunks_mut::<32>().0 {
-            fib[3] = (round % 256) as u8;
-            sum = sum.wrapping_add(u32::from(crc16(&fib[..30])));
-        }
+    for turn in 0..FIBS * ROUNDS {
+        let at = (turn % 4096) as usize;
+        sum = sum.wrapping_add(u32::from(crc16(&row[at..at + 30])));
     }
     sum
 }
@@ -75,20 +86,19 @@ fn main(rt: HostRuntime) -> io::Result<()> {
         println!(rt; "no such configurations")?;
         return Ok(());
     };
-    let count = pages(&current, Some(&next));
-    let mut all = [[0u8; 96]; 81];
+    let count = pages(Mode::I, &current, Some(&next));
+    let mut row = [0u8; ROW];
+    fill(&mut row);
     let start = Instant::now(&rt)?;
-    for _ in 0..ROUNDS {
-        pack(&current, &next, &mut all);
+    let mut packed = 0u32;
+    for round in 0..ROUNDS {
+        packed = packed.wrapping_add(pack(&current, &next, round));
     }
     let packing = start.elapsed(&rt)?.as_micros();
     let start = Instant::now(&rt)?;
-    let mut sum = 0u32;
-    for round in 0..ROUNDS {
-        sum = sum.wrapping_add(check(&mut all, round));
-    }
+    let sum = check(&row);
     let checking = start.elapsed(&rt)?.as_micros();
-    println!(rt; "pack: {ROUNDS} times all {count} pages {packing} us, the check words of as many FIBs {checking} us (sum {sum})")?;
+    println!(rt; "pack: {ROUNDS} times all {count} pages {packing} us, the check words of as many FIBs {checking} us (sums {packed} {sum})")?;
     Ok(())
 }
 PROGRAM

@@ -3,7 +3,7 @@
 # ODR-DabMux 5.1. It must print exactly what stands beside it in real_fic.listen.
 set -euo pipefail
 cd "$(dirname "$0")/.."
-samples=${1:-../shared/samples}
+samples=${1:-bench/samples}
 if [ ! -r "$samples/real_fic.fib" ]; then
   echo "real stream: no $samples/real_fic.fib; hand in the folder of the samples"
   exit 2

@@ -5,31 +5,40 @@ use Rattle.mux_config.specs.Entries.{EnsembleInformation}
 use Rattle.mux_config.specs.Reading.{Reads, config_at}
 use Rattle.mux_config.specs.Sound.{sound_or_fault}
 use Rattle.mux_config.specs.declared.fault.ConfigFault.{ConfigFault}
+use Rattle.fib_codec.specs.Modes.{count_step}
+use Rattle.fib_codec.specs.declared.modes.Mode.{Mode}
+use Rattle.fib_codec.specs.declared.modes.Mode.TheVariants.{I, II, III, IV}
 use Rattle.fib_carousel.specs.Pages.{page_set, rounds}
 use Rattle.fib_carousel.specs.Bytes.{page_bytes}
 use Rattle.dabplan.specs.declared.frame.FrameFault.{FrameFault}
 use Rattle.dabplan.specs.declared.frame.FrameFault.TheVariants.{Record, Trailing, Unsound, NoSuchPage}
 
--- FIG 0/0 goes out in the frames whose count is a multiple of four
-abbrev pub sent : EnsembleInformation → Option EnsembleInformation
-sent ensemble = if ensemble.count % 4 == 0 then Some ensemble else None
+-- FIG 0/0 goes out in the frames whose count the mode's step divides
+abbrev pub sent : Mode → EnsembleInformation → Option EnsembleInformation
+sent mode ensemble = if ensemble.count % count_step mode == 0 then Some ensemble else None
 
-abbrev pub page_or_fault : EnsembleInformation → ℕ → Configuration → Result (List ℕ) FrameFault
-page_or_fault ensemble page c =
-    if nat_lt page (rounds (page_set c None)) then Ok (page_bytes (sent ensemble) page (page_set c None))
+abbrev pub page_or_fault : Mode → EnsembleInformation → ℕ → Configuration → Result (List ℕ) FrameFault
+page_or_fault mode ensemble page c =
+    if nat_lt page (rounds mode (page_set c None)) then Ok (page_bytes mode (sent mode ensemble) page (page_set c None))
     else Err NoSuchPage
 
 abbrev pub judged : Result (Unit {0}) ConfigFault → Result (List ℕ) FrameFault → Result (List ℕ) FrameFault
 judged (Err fault) page = Err (Unsound fault)
 judged (Ok sound) page = page
 
-abbrev pub frame_of_read : EnsembleInformation → ℕ → Reads Configuration → Result (List ℕ) FrameFault
-frame_of_read ensemble page (Err fault) = Err (Record fault)
-frame_of_read ensemble page (Ok (c, rest)) =
+abbrev pub frame_of_read : Mode → EnsembleInformation → ℕ → Reads Configuration → Result (List ℕ) FrameFault
+frame_of_read mode ensemble page (Err fault) = Err (Record fault)
+frame_of_read mode ensemble page (Ok (c, rest)) =
     if nat_lt 0 (length rest) then Err Trailing
-    else judged (sound_or_fault c) (page_or_fault ensemble page c)
+    else judged (sound_or_fault c) (page_or_fault mode ensemble page c)
 
--- the 96 bytes of a page of the configuration in the record, or the first fault: of the record, bytes after
--- it, of the configuration, of the page
-abbrev pub frame_of : EnsembleInformation → ℕ → List ℕ → Result (List ℕ) FrameFault
-frame_of ensemble page bytes = frame_of_read ensemble page (config_at bytes)
+-- the bytes of a page of the configuration in the record, or the first fault: of the record, bytes after it, of
+-- the configuration, of the page
+abbrev pub frame_of : Mode → EnsembleInformation → ℕ → List ℕ → Result (List ℕ) FrameFault
+frame_of mode ensemble page bytes = frame_of_read mode ensemble page (config_at bytes)
+
+-- modes are numbered 1 to 4
+abbrev pub mode_of : ℕ → Option Mode
+mode_of n =
+    if n == 1 then Some I
+    else (if n == 2 then Some II else (if n == 3 then Some III else (if n == 4 then Some IV else None)))

@@ -1,9 +1,14 @@
 //! The words after the program's name, read into what is asked for.
 
+ghost use Rattle.std.specs.Prelude.{◌≡◌};
+ghost use Rattle.dabplan.specs.Frame.{mode_of};
+
 use crate::{help, hexadecimal};
 use clap::error::ErrorKind;
 use clap::{Arg, ArgMatches, Command, value_parser};
+use fib_codec::Mode;
 use mux_config::Ensemble;
+use plan_code::Contacts;
 use std::alloc::{AllocError, Global};
 use std::convert::AsStr;
 
@@ -14,6 +19,27 @@ pub enum Request<'a> {
     Frame(FrameRequest<'a>),
     /// `listen`, and the path of its file.
     Listen(&'a str),
+    /// `verify`, and the path of its code file.
+    Verify(&'a str),
+    /// `play`.
+    Play(PlayRequest<'a>),
+}
+
+/// The files and options of `play`.
+#[derive(Clone, Copy)]
+pub struct PlayRequest<'a> {
+    /// The path of the code file.
+    pub code: &'a str,
+    /// The path of the event file.
+    pub events: &'a str,
+    /// The path of the file that the frames are written to.
+    pub out: &'a str,
+    /// The CIF count of the first frame.
+    pub count: u16,
+    /// The frame of the day of the first frame.
+    pub day: u32,
+    /// The contacts that are closed at first.
+    pub contacts: Contacts,
 }
 
 /// The options of `frame`.
@@ -21,6 +47,8 @@ pub enum Request<'a> {
 pub struct FrameRequest<'a> {
     /// The path of the configuration record, or `-` for standard input.
     pub config: &'a str,
+    /// The transmission mode.
+    pub mode: Mode,
     /// The identifier of the ensemble and the CIF count, without change flags.
     pub ensemble: Ensemble,
     /// Which page of the configuration, from 0.
@@ -69,6 +97,8 @@ pub fn request_of<'a, S: AsStr>(alloc: Global, words: &'a [S]) -> Result<Request
     match matches.subcommand() {
         Some(("frame", options)) => frame_request(options),
         Some(("listen", options)) => listen_request(options),
+        Some(("verify", options)) => verify_request(options),
+        Some(("play", options)) => play_request(options),
         _ => Err(Unasked::Nothing),
     }
 }
@@ -80,7 +110,9 @@ fn program<'a>(alloc: Global) -> Result<Command<'a>, AllocError> {
         .after_help(help::AFTER_PROGRAM)
         .override_usage("dabplan <COMMAND>")
         .subcommand(frame(alloc)?)?
-        .subcommand(listen(alloc)?)
+        .subcommand(listen(alloc)?)?
+        .subcommand(verify(alloc)?)?
+        .subcommand(play(alloc)?)
 }
 
 fn frame<'a>(alloc: Global) -> Result<Command<'a>, AllocError> {
@@ -99,7 +131,9 @@ fn frame<'a>(alloc: Global) -> Result<Command<'a>, AllocError> {
         .required(true)
         .allow_negative_numbers(true)
         .value_parser(value_parser!(u16).range(..5000))
-        .help("The CIF count of the frame, 0 to 4999; FIG 0/0 is sent where 4 divides it");
+        .help(
+            "The CIF count of the frame, 0 to 4999; FIG 0/0 is sent where the mode's 4, 1, 1 or 2 divides it",
+        );
     let page = Arg::new(alloc, "page")
         .long("page")
         .value_name("K")
@@ -107,6 +141,13 @@ fn frame<'a>(alloc: Global) -> Result<Command<'a>, AllocError> {
         .allow_negative_numbers(true)
         .value_parser(value_parser!(u16))
         .help("Which frame of a configuration that needs more than one, from 0");
+    let mode = Arg::new(alloc, "mode")
+        .long("mode")
+        .value_name("M")
+        .default_value("1")
+        .allow_negative_numbers(true)
+        .value_parser(value_parser!(u16).range(1..5))
+        .help("The transmission mode, 1 to 4; in mode 3 a frame has four FIBs, else three");
     Command::new(alloc, "frame")
         .about(help::FRAME)
         .long_about(help::LONG_FRAME)
@@ -115,7 +156,8 @@ fn frame<'a>(alloc: Global) -> Result<Command<'a>, AllocError> {
         .arg(config)?
         .arg(ensemble)?
         .arg(count)?
-        .arg(page)
+        .arg(page)?
+        .arg(mode)
 }
 
 fn listen<'a>(alloc: Global) -> Result<Command<'a>, AllocError> {
@@ -131,6 +173,66 @@ fn listen<'a>(alloc: Global) -> Result<Command<'a>, AllocError> {
         .arg(file)
 }
 
+fn verify<'a>(alloc: Global) -> Result<Command<'a>, AllocError> {
+    let code = Arg::new(alloc, "code")
+        .value_name("CODE")
+        .required(true)
+        .help("The code file");
+    Command::new(alloc, "verify")
+        .about(help::VERIFY)
+        .long_about(help::LONG_VERIFY)
+        .after_long_help(help::AFTER_VERIFY)
+        .override_usage(help::VERIFY_USAGE)
+        .arg(code)
+}
+
+fn play<'a>(alloc: Global) -> Result<Command<'a>, AllocError> {
+    let code = Arg::new(alloc, "code")
+        .value_name("CODE")
+        .required(true)
+        .help("The code file");
+    let events = Arg::new(alloc, "events")
+        .value_name("EVENTS")
+        .required(true)
+        .help("The event file");
+    let out = Arg::new(alloc, "out")
+        .value_name("OUT")
+        .required(true)
+        .help("The file that the frames are written to");
+    let count = Arg::new(alloc, "count")
+        .long("count")
+        .value_name("N")
+        .default_value("0")
+        .allow_negative_numbers(true)
+        .value_parser(value_parser!(u16))
+        .help("The CIF count of the first frame, 0 to 4999");
+    let day = Arg::new(alloc, "day")
+        .long("day")
+        .value_name("N")
+        .default_value("0")
+        .allow_negative_numbers(true)
+        .value_parser(value_parser!(u32))
+        .help("The frame of the day of the first frame, 0 to 3599999, in frames of 24 ms");
+    let contacts = Arg::new(alloc, "contacts")
+        .long("contacts")
+        .value_name("HHHH")
+        .default_value("0000")
+        .help(
+            "The contacts that are closed at first: four hexadecimal digits, contact 0 the lowest bit",
+        );
+    Command::new(alloc, "play")
+        .about(help::PLAY)
+        .long_about(help::LONG_PLAY)
+        .after_long_help(help::AFTER_PLAY)
+        .override_usage(help::PLAY_USAGE)
+        .arg(code)?
+        .arg(events)?
+        .arg(out)?
+        .arg(count)?
+        .arg(day)?
+        .arg(contacts)
+}
+
 fn frame_request<'a>(options: &ArgMatches<'a>) -> Result<Request<'a>, Unasked<'a>> {
     let digits = options.get_str("ensemble").unwrap_or("");
     let Some(eid) = hexadecimal::word_of(digits) else {
@@ -142,15 +244,59 @@ fn frame_request<'a>(options: &ArgMatches<'a>) -> Result<Request<'a>, Unasked<'a
     let config = options.get_str("config").ok_or(Unasked::Nothing)?;
     let count = options.get_one::<u16>("count").ok_or(Unasked::Nothing)?;
     let page = options.get_one::<u16>("page").ok_or(Unasked::Nothing)?;
+    let mode = options.get_one::<u16>("mode").ok_or(Unasked::Nothing)?;
+    let mode = mode_of(mode).ok_or(Unasked::Nothing)?;
     let ensemble = Ensemble::new(eid, 0, false, count, None).ok_or(Unasked::Nothing)?;
     Ok(Request::Frame(FrameRequest {
         config,
+        mode,
         ensemble,
         page,
     }))
 }
 
+/// The mode of this number; None where it is not 1 to 4.
+fn mode_of(number: u16) -> Option<Mode>
+    ensures { result ≡ mode_of number }
+{
+    match number {
+        1 => Some(Mode::I),
+        2 => Some(Mode::II),
+        3 => Some(Mode::III),
+        4 => Some(Mode::IV),
+        _ => None,
+    }
+}
+
 fn listen_request<'a>(options: &ArgMatches<'a>) -> Result<Request<'a>, Unasked<'a>> {
     let file = options.get_str("file").ok_or(Unasked::Nothing)?;
     Ok(Request::Listen(file))
+}
+
+fn verify_request<'a>(options: &ArgMatches<'a>) -> Result<Request<'a>, Unasked<'a>> {
+    let code = options.get_str("code").ok_or(Unasked::Nothing)?;
+    Ok(Request::Verify(code))
+}
+
+fn play_request<'a>(options: &ArgMatches<'a>) -> Result<Request<'a>, Unasked<'a>> {
+    let digits = options.get_str("contacts").unwrap_or("");
+    let Some(contacts) = hexadecimal::word_of(digits) else {
+        return Err(Unasked::Digits {
+            option: "--contacts <HHHH>",
+            value: digits,
+        });
+    };
+    let code = options.get_str("code").ok_or(Unasked::Nothing)?;
+    let events = options.get_str("events").ok_or(Unasked::Nothing)?;
+    let out = options.get_str("out").ok_or(Unasked::Nothing)?;
+    let count = options.get_one::<u16>("count").ok_or(Unasked::Nothing)?;
+    let day = options.get_one::<u32>("day").ok_or(Unasked::Nothing)?;
+    Ok(Request::Play(PlayRequest {
+        code,
+        events,
+        out,
+        count,
+        day,
+        contacts: Contacts(contacts),
+    }))
 }

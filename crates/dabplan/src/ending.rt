@@ -24,6 +24,9 @@ pub enum Failure<'a> {
     /// The file of this path could not be read.
     #[error("cannot read {0}")]
     Read(&'a str),
+    /// The file of this path could not be made.
+    #[error("cannot write {0}")]
+    Create(&'a str),
     /// Standard output failed. Nothing more is printed.
     #[error("cannot write")]
     Output,
@@ -34,6 +37,14 @@ impl<'a> Failure<'a> {
     pub fn of_file(fault: FileFault, path: &'a str) -> Self {
         match fault {
             FileFault::Failed => Failure::Read(path),
+            FileFault::Memory => Failure::Memory,
+        }
+    }
+
+    /// What it means that the file of this path can't be made.
+    pub fn of_output(fault: FileFault, path: &'a str) -> Self {
+        match fault {
+            FileFault::Failed => Failure::Create(path),
             FileFault::Memory => Failure::Memory,
         }
     }

@@ -1,7 +1,7 @@
-//! The files that the program reads.
+//! The files that the program reads and writes.
 
 use std::alloc::Global;
-use std::io::{self, ErrorKind, Input, Read};
+use std::io::{self, ErrorKind, Input, Read, Write};
 use std::rt;
 
 /// Why a file can't be had.
@@ -15,11 +15,17 @@ pub enum FileFault {
 
 /// Where the program's files come from.
 pub trait Files {
+    /// A file that is written.
+    type Out: Write + Drop;
+
     /// All bytes of the file of this path.
     fn read(&mut self, alloc: Global, path: &str) -> Result<Vec<u8>, FileFault>;
 
     /// All bytes of standard input, to its end.
     fn input(&mut self, alloc: Global) -> Result<Vec<u8>, FileFault>;
+
+    /// The file of this path, empty, to be written; what it held before is gone.
+    fn create(&mut self, path: &str) -> Result<Self::Out, FileFault>;
 }
 
 /// The files of the system.
@@ -36,6 +42,8 @@ impl<'a, R> System<'a, R> {
 }
 
 impl<'a, R: rt::Files + Input + AllocGlobal> Files for System<'a, R> {
+    type Out = R::File;
+
     fn read(&mut self, _alloc: Global, path: &str) -> Result<Vec<u8>, FileFault> {
         match std::fs::read(self.rt, path) {
             Ok(bytes) => Ok(bytes),
@@ -47,6 +55,13 @@ impl<'a, R: rt::Files + Input + AllocGlobal> Files for System<'a, R> {
         let mut bytes = Vec::new(alloc);
         match self.rt.reader().read_to_end(&mut bytes) {
             Ok(_) => Ok(bytes),
+            Err(error) => Err(fault_of(&error)),
+        }
+    }
+
+    fn create(&mut self, path: &str) -> Result<Self::Out, FileFault> {
+        match std::fs::create(self.rt, path) {
+            Ok(file) => Ok(file),
             Err(error) => Err(fault_of(&error)),
         }
     }

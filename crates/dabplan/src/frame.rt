@@ -8,6 +8,7 @@ use crate::ending::{Failure, Status};
 use crate::files::Files;
 use crate::hexadecimal::digits_of_fib;
 use fib_carousel::{page, pages};
+use fib_codec::{FibFrame, Mode};
 use mux_config::{Config, ConfigFault, Ensemble, RecordFault, read_config, soundness};
 use std::alloc::Global;
 use std::io::{self, Write};
@@ -30,7 +31,7 @@ pub enum FrameFault {
     NoSuchPage,
 }
 
-/// Does what `frame` is asked for: prints the three FIBs, a line each.
+/// Does what `frame` is asked for: prints the FIBs of the frame, three or in mode III four, a line each.
 pub fn show_frame<'a, F: Files, W: Write>(
     alloc: Global,
     request: &FrameRequest<'a>,
@@ -43,7 +44,12 @@ pub fn show_frame<'a, F: Files, W: Write>(
         files.read(alloc, request.config)
     };
     let record = record.map_err(|fault| Failure::of_file(fault, request.config))?;
-    match frame_of(record.as_slice(), request.ensemble, request.page) {
+    match frame_of(
+        record.as_slice(),
+        request.mode,
+        request.ensemble,
+        request.page,
+    ) {
         Ok(frame) => {
             print_fibs(&frame, out)?;
             Ok(Status::Done)
@@ -55,12 +61,17 @@ pub fn show_frame<'a, F: Files, W: Write>(
     }
 }
 
-/// The three FIBs of page `place` of the configuration in a record, with FIG 0/0 of `ensemble` where its
-/// count is a multiple of four (EN 300 401 clause 6.4).
+/// The FIBs of page `index` of the configuration in a record, with FIG 0/0 of `ensemble` where its count is a
+/// multiple of the mode's step: 4, 1, 1 or 2 (EN 300 401 clauses 5.1 and 6.4).
 ///
 /// The first fault is answered: `Record`, `Trailing`, `Unsound`, `NoSuchPage`.
-pub fn frame_of(bytes: &[u8], ensemble: Ensemble, place: u16) -> Result<[u8; 96], FrameFault>
-    ensures { result ≡ frame_of ensemble place bytes.now }
+pub fn frame_of(
+    bytes: &[u8],
+    mode: Mode,
+    ensemble: Ensemble,
+    index: u16,
+) -> Result<FibFrame, FrameFault>
+    ensures { result ≡ frame_of mode ensemble index bytes.now }
 {
     let (config, length) = match read_config(bytes) {
         Ok(read) => read,
@@ -72,35 +83,40 @@ pub fn frame_of(bytes: &[u8], ensemble: Ensemble, place: u16) -> Result<[u8; 96]
     if let Err(fault) = soundness(&config) {
         return Err(FrameFault::Unsound(fault));
     }
-    page_of(&config, ensemble, place)
+    page_of(&config, mode, ensemble, index)
 }
 
-/// The three FIBs of page `place` of a configuration alone; `NoSuchPage` where there is no such page.
-fn page_of<'a>(config: &'a Config, ensemble: Ensemble, place: u16) -> Result<[u8; 96], FrameFault>
-    ensures { result ≡ page_or_fault ensemble place config.now }
+/// The FIBs of page `index` of a configuration alone; `NoSuchPage` where there is no such page.
+fn page_of<'a>(
+    config: &'a Config,
+    mode: Mode,
+    ensemble: Ensemble,
+    index: u16,
+) -> Result<FibFrame, FrameFault>
+    ensures { result ≡ page_or_fault mode ensemble index config.now }
 {
     let alone: Option<&'a Config> = None;
-    let place = usize::from(place);
-    if place >= pages(config, alone) {
+    let index = usize::from(index);
+    if index >= pages(mode, config, alone) {
         return Err(FrameFault::NoSuchPage);
     }
-    Ok(page(config, alone, place, sent(ensemble)))
+    Ok(page(mode, config, alone, index, sent(mode, ensemble)))
 }
 
-/// The ensemble information that goes out: in the frames whose count is a multiple of four.
-fn sent(ensemble: Ensemble) -> Option<Ensemble>
-    ensures { result ≡ sent ensemble }
+/// The ensemble information that goes out: in the frames whose count is a multiple of the mode's step.
+fn sent(mode: Mode, ensemble: Ensemble) -> Option<Ensemble>
+    ensures { result ≡ sent mode ensemble }
 {
-    if ensemble.count() % 4 == 0 {
+    if ensemble.count() % mode.step() == 0 {
         Some(ensemble)
     } else {
         None
     }
 }
 
-/// Prints FIBs as 64 hexadecimal digits each.
-fn print_fibs<W: Write>(frame: &[u8; 96], out: &mut W) -> io::Result<()> {
-    for fib in frame.as_chunks::<32>().0 {
+/// Prints the FIBs of a frame as 64 hexadecimal digits each.
+fn print_fibs<W: Write>(frame: &FibFrame, out: &mut W) -> io::Result<()> {
+    for fib in frame.bytes().as_chunks::<32>().0 {
         out.write_all(digits_of_fib(fib).as_slice())?;
         out.write_all(b"\n")?;
     }

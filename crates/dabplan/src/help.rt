@@ -2,14 +2,19 @@
 
 pub const PROGRAM: &str = "\
 Writes and hears what the Fast Information Channel of a DAB ensemble says of its multiplex:
-sub-channels, services and their components (EN 300 401, FIG 0/0 to 0/3).";
+sub-channels, services and their components (EN 300 401, FIG 0/0 to 0/3), and verifies plans
+of its reconfigurations.";
 
 pub const AFTER_PROGRAM: &str = "\
 What goes in and comes out:
   frame   reads a configuration record, a short binary file: how many sub-channels, services and
-          packet components there are, and then each of them, field by field. It prints three
-          FIBs of 32 bytes as hexadecimal digits.
+          packet components there are, and then each of them, field by field. It prints the
+          three FIBs of a frame, in mode 3 four, of 32 bytes each as hexadecimal digits.
   listen  reads a binary file of FIBs, and prints the multiplex that they describe.
+  verify  reads a code file, the binary form of a plan of reconfigurations. It says whether the
+          plan can be played without going wrong, or what is wrong with it and where.
+  play    plays a plan over a file of events, frames and changes of contacts, and writes the
+          FIBs of each frame to a file.
 'dabplan help COMMAND' tells more: each field, each line, an example.
 
 Example: sub-channel 1 of 128 kbit/s at 3-A, and service C221 with audio of type 63 on it
@@ -21,16 +26,17 @@ Exit status:
   1  refused: the one line printed says what is wrong with the input, or which file can't be read
   2  the command line is wrong";
 
-pub const FRAME: &str = "Writes the three FIBs of one frame of a configuration";
+pub const FRAME: &str = "Writes the FIBs of one frame of a configuration";
 
 pub const LONG_FRAME: &str = "\
-Writes the three FIBs of one frame of a configuration.
+Writes the FIBs of one frame of a configuration.
 
-In goes a configuration record, a short binary file. Out come three lines of 64 hexadecimal
-digits: the three FIBs of 32 bytes that a frame of 24 ms carries in transmission mode I, check
-words included. Where the configuration needs more than one frame, --page picks the frame.";
+In goes a configuration record, a short binary file. Out come lines of 64 hexadecimal digits: the
+FIBs of 32 bytes that a frame of 24 ms carries, CRCs included. There are three, in transmission
+mode 3 four. Where the configuration needs more than one frame, --page picks the frame.";
 
-pub const FRAME_USAGE: &str = "dabplan frame <CONFIG> --ensemble <HHHH> --count <N> [--page <K>]";
+pub const FRAME_USAGE: &str =
+    "dabplan frame <CONFIG> --ensemble <HHHH> --count <N> [--page <K>] [--mode <M>]";
 
 pub const AFTER_FRAME: &str = "\
 The record, field by field (in brackets the bytes of a field, its high byte first):
@@ -52,7 +58,7 @@ Example: sub-channel 1 of 128 kbit/s at 3-A, and service C221 with audio of type
     dabplan frame - --ensemble E1C5 --count 0
 
 Exit status:
-  0  the three FIBs were printed
+  0  the FIBs were printed
   1  the record is no record ('record: Field 4' names its byte, from 0), or is refused as a
      configuration ('refused: Overlap 1 2'), or CONFIG can't be read
   2  the command line is wrong";
@@ -91,4 +97,93 @@ Example: the FIBs that 'dabplan frame' writes, heard again
 Exit status:
   0  the listing was printed
   1  the file holds no whole FIBs or more than 64 services or packet components, or can't be read
+  2  the command line is wrong";
+
+pub const VERIFY: &str = "Tells whether a plan of reconfigurations can be played";
+
+pub const LONG_VERIFY: &str = "\
+Tells whether a plan of reconfigurations can be played.
+
+In goes a code file, the binary form of a plan: instructions that edit the configuration of the
+multiplex, commit it, and wait for frames, hours and contacts. Out comes one line: 'accepted', or
+where the plan is refused and why. An accepted plan never goes wrong, whatever the contacts do:
+each configuration that it commits is sound, each swap can be announced in time and comes when it
+was announced, and no frame takes more instructions than the plan's budget.";
+
+pub const VERIFY_USAGE: &str = "dabplan verify <CODE>";
+
+pub const AFTER_VERIFY: &str = "\
+The line:
+  accepted
+  refused at 3 line 10: Notice  instruction 3, counted from 0, which comes from line 10; line 0
+                                stands for no instruction
+  code: Field 98                the bytes are no code file; the field that begins at byte 98,
+                                counted from 0, is out of its range
+
+The causes of a refusal:
+  Target         no label stands where the instruction jumps to
+  Table          no label stands where one has to, or one stands past the last instruction
+  Edit FAULT     the edit is impossible: IdUsed, IdAbsent, TooManyComponents, TableFull, PastEnd,
+                 BadRate, BadAddress
+  Config FAULT   the configuration is not sound: Overlap A B (sub-channels A and B share a
+                 capacity unit), Orphan, AddressUsed, EmptyService
+  Pending        an edit or a commit while a swap is pending, or may be
+  NoChange       what is committed is the current configuration already
+  Notice         the commit leaves less than the plan's notice before the swap
+  Count          no swap can fall on this CIF count
+  JoinIdle       nothing is there to join: no swap is pending, or perhaps none is
+  SwapUncertain  the wait may end before the swap or after it
+  CounterUnset   the loop's counter may not be set
+  Mismatch       what is known where the machine comes to a label is not what the label declares
+  Cost           more instructions may run in one frame than the budget or a label allows
+  Round          the configurations take too many frames to go out within the period, or three
+                 times within the notice
+  FallsOff       the plan does not end with an instruction that ends it
+
+Example: a plan that lowers and raises a rate as contact 3 is closed and opened
+  dabplan verify docs/examples/contact_lowers_a_rate.code
+
+Exit status:
+  0  the plan is accepted
+  1  it is refused, the file is no code file, or can't be read
+  2  the command line is wrong";
+
+pub const PLAY: &str = "Plays a plan of reconfigurations, frame by frame";
+
+pub const LONG_PLAY: &str = "\
+Plays a plan of reconfigurations, frame by frame.
+
+In go a code file, the binary form of a plan, and a text of events: frames of 24 ms, and contacts
+that are closed or opened between them. The FIBs of the frames go to OUT, one frame after
+another: three FIBs of 32 bytes, in transmission mode 3 four. One line says how many frames.";
+
+pub const PLAY_USAGE: &str =
+    "dabplan play <CODE> <EVENTS> <OUT> [--count <N>] [--day <N>] [--contacts <HHHH>]";
+
+pub const AFTER_PLAY: &str = "\
+The events, in order, with blanks, line ends and comments ('#' to the end of the line) between:
+  frames N             N frames are made, 1 to 3600000
+  contact C closed     contact C, 0 to 15, is closed
+  contact C open       it is opened
+
+The line:
+  played 70 frames
+  code: Magic                   the bytes of CODE are no code file
+  refused at 3 line 10: Notice  the plan is refused, as 'dabplan verify' says
+  start: Count                  --count is 5000 or more; 'start: Day': --day is 3600000 or more
+  events 1:8: Number            line 1, column 8 of EVENTS has no number in range; 'Expected':
+                                another word has to stand there; 'Byte': no such byte may
+  write failed after 3 frames and 40 bytes
+                                OUT took no more
+
+CODE and EVENTS are read before OUT is made. Where the plan or the events are refused OUT is empty.
+
+Example: a plan that lowers and raises a rate as contact 3 is closed and opened
+  printf 'frames 1 contact 3 closed frames 40 contact 3 open frames 30' > day.events
+  dabplan play docs/examples/contact_lowers_a_rate.code day.events day.fib
+  dabplan listen day.fib
+
+Exit status:
+  0  all frames were written
+  1  the plan, the start or the events are refused, or a file can't be read or written
   2  the command line is wrong";

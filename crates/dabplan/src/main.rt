@@ -1,5 +1,5 @@
 //! The program `dabplan`: what the Fast Information Channel of a DAB ensemble says of its multiplex
-//! (EN 300 401), written and heard.
+//! (EN 300 401), written and heard, and whether a plan of its reconfigurations can be played.
 //!
 //! `answer` is the whole program over its words, its files and its output. `command_line` reads the words,
 //! and each subcommand has a file of its own.
@@ -15,6 +15,8 @@ mod hexadecimal;
 mod listen;
 mod listing;
 mod output;
+mod play;
+mod verify;
 
 use std::process::ExitCode;
 use std::{env, io};

@@ -3,3 +3,5 @@ mod fake;
 mod frame;
 mod listen;
 mod output;
+mod play;
+mod verify;

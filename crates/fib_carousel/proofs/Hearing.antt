@@ -1,6 +1,7 @@
 -- What stands in the bytes of a page.
-use Rattle.std.proofs.Common.{◌≡◌, ℕ, ◌+◌, ◌*◌, ◌≤◌, ◌==◌, ◌↔◌, Bool, true, false, List, [], ◌∷◌, ◌++◌, zero, suc, length, take, drop, map, flat_map, Option, Some, None, IfSome, IsSome, Contains, ◌%◌, ◌/◌, refl, sym, ◌∙◌, ap, subst, inl, inr, ◌⊎◌, if◌then◌else◌, arith, append_assoc}
-use Rattle.std.proofs.lemmas.List.{length-append, take_at, drop_at, drop_all, drop-drop, append-nil}
+use Rattle.std.proofs.Common.{◌≡◌, ℕ, ◌+◌, ◌*◌, ◌≤◌, ◌==◌, ◌↔◌, Bool, true, false, List, [], ◌∷◌, ◌++◌, zero, suc, length, take, drop, map, flat_map, Option, Some, None, IfSome, IsSome, Contains, ◌%◌, ◌/◌, refl, sym, ◌∙◌, ap, subst, inl, inr, ◌⊎◌, if◌then◌else◌, arith, append_assoc, ◌-◌}
+use Rattle.fib_codec.specs.declared.modes.Mode.{Mode}
+use Rattle.std.proofs.lemmas.List.{length-append, take_at, drop_at, drop_all, drop-drop}
 use Rattle.std.proofs.lemmas.List.Elements.{Contains-append_cases, Contains-append_left, Contains-append_right}
 use Rattle.mux_config.specs.Configuration.{Each, Configuration, IsConfiguration}
 use Rattle.mux_config.specs.Entries.{EnsembleInformation}
@@ -13,10 +14,15 @@ use Rattle.fib_codec.specs.Grammar.{Fig, Open, Other, IsFig, AreFigs, IsValid, I
 use Rattle.fib_codec.specs.Heard.{IsInFib, IsHeardInRow, IsEnsembleHeardInRow, fib_at, marked_of}
 use Rattle.fib_codec.proofs.Finished.{length-filled, fib_is, valid_is}
 use Rattle.fib_codec.proofs.Sent.{heard_is_written}
-use Rattle.fib_carousel.specs.Packing.{same_head, room, entries_where, packing, IsPacking}
-use Rattle.fib_carousel.specs.Pages.{page_set, fib_entries, page_entries}
+use Rattle.fib_carousel.specs.Packing.{same_head, room, entries_where, IsPacking}
+use Rattle.fib_carousel.specs.Greedy.{packing}
+use Rattle.fib_carousel.specs.Pages.{page_set, fib_entries, page_entries, first_fib, later_fibs}
+use Rattle.fib_codec.specs.Modes.{fib_count}
+use Rattle.fib_carousel.proofs.Widths.{some_fibs, first_of_page}
+use Rattle.std.proofs.lemmas.List.{length-map}
+use Rattle.std.proofs.lemmas.List.FromFn.{length-range_with_len}
 use Rattle.fib_carousel.specs.Bytes.{joined, figs_of, ensemble_figs, page_figs, page_bytes, figs_by, AreFibs}
-use Rattle.fib_carousel.specs.Row.{IsSendable, AreSendable}
+use Rattle.fib_carousel.specs.Carried.{IsSendable, AreSendable}
 use Rattle.fib_carousel.specs.Carried.{IsPageable}
 use Rattle.fib_carousel.proofs.Least.{of_packing}
 use Rattle.fib_carousel.proofs.Pieces.{page_is_fibs}
@@ -83,7 +89,7 @@ ensemble_none : (o : Option EnsembleInformation) → o ≡ None → length (figs
 ensemble_none None h = refl
 ensemble_none (Some e) h = cc
 
-ensemble_low : (o : Option EnsembleInformation) → length (figs_bytes (ensemble_figs o)) ≤ 7
+pub ensemble_low : (o : Option EnsembleInformation) → length (figs_bytes (ensemble_figs o)) ≤ 7
 ensemble_low None = omega arith
 ensemble_low (Some e) = occurrence_low e.occurrence
 
@@ -99,26 +105,29 @@ length-figs_bytes (f ∷ xs) ys =
     length-append (fig_bytes f.head f.entries) (figs_bytes (xs ++ ys))
     ∙ omega (arith, length-figs_bytes xs ys, length-append (fig_bytes f.head f.entries) (figs_bytes xs))
 
-fits_in : (o : Option EnsembleInformation) (n : ℕ) (ms : List Marked) → IsPageable o ms → (IsSome o → n % 3 ≡ 0) → Fits (ensemble_figs o ++ figs_of (fib_entries n ms))
-fits_in o n ms h first =
-    let here : List Marked = fib_entries n ms in
-    let cost : length (figs_bytes (figs_of here)) ≤ room n = rw (figs_cost here) (fib_fits ms n h.entries) in
+fits_in : (mode : Mode) (o : Option EnsembleInformation) (n : ℕ) (ms : List Marked) → IsPageable o ms → (IsSome o → n % fib_count mode ≡ 0) → Fits (ensemble_figs o ++ figs_of (fib_entries mode n ms))
+fits_in mode o n ms h first =
+    let here : List Marked = fib_entries mode n ms in
+    let cost : length (figs_bytes (figs_of here)) ≤ room mode n = rw (figs_cost here) (fib_fits mode ms n h.entries) in
     record {
-      written = each_append IsWritten (ensemble_figs o) (figs_of here) (ensemble_written o h.ensemble_within) (written_figs here (sendable_where (λ m. m == n) ms (packing ms) h.entries));
+      written = each_append IsWritten (ensemble_figs o) (figs_of here) (ensemble_written o h.ensemble_within) (written_figs here (sendable_where (λ m. m == n) ms (packing mode ms) h.entries));
       ours = each_append IsOurs (ensemble_figs o) (figs_of here) (ensemble_ours o) (ours_figs here);
-      short = rw (length-figs_bytes (ensemble_figs o) (figs_of here)) (fib_room o n (length (figs_bytes (ensemble_figs o))) (length (figs_bytes (figs_of here))) (ensemble_low o) (ensemble_none o) first cost);
+      short = rw (length-figs_bytes (ensemble_figs o) (figs_of here)) (fib_room mode o n (length (figs_bytes (ensemble_figs o))) (length (figs_bytes (figs_of here))) (ensemble_low o) (ensemble_none o) first cost);
     }
 
--- the three FIBs of a page
-page_fits : (o : Option EnsembleInformation) (k : ℕ) (ms : List Marked) → IsPageable o ms → Each Fits (page_figs o k ms)
-page_fits o k ms h =
-    let plain : IsPageable None ms = record { entries = h.entries; ensemble_within = tt } in
-    let first : Fits (ensemble_figs o ++ figs_of (fib_entries (3 * k) ms)) = fits_in o (3 * k) ms h (λ _. omega arith) in
-    let second : Fits (figs_of (fib_entries (3 * k + 1) ms)) = fits_in None (3 * k + 1) ms plain (λ e. absurd (cc e)) in
-    let third : Fits (figs_of (fib_entries (3 * k + 2) ms)) = fits_in None (3 * k + 2) ms plain (λ e. absurd (cc e)) in
-    (first, (second, (third, tt)))
+-- the FIBs of a page
+each_of : {A B : Type 0} (P : B → Type 0) (f : A → B) → ((x : A) → P (f x)) → (xs : List A) → Each P (map f xs)
+each_of P f h [] = tt
+each_of P f h (x ∷ xs) = (h x, each_of P f h xs)
 
-length-fib_bytes : (figs : List Written) → Fits figs → length (fib_bytes figs) ≡ 32
+pub page_fits : (mode : Mode) (o : Option EnsembleInformation) (k : ℕ) (ms : List Marked) → IsPageable o ms → Each Fits (page_figs mode o k ms)
+page_fits mode o k ms h =
+    let plain : IsPageable None ms = record { entries = h.entries; ensemble_within = tt } in
+    let first : Fits (ensemble_figs o ++ figs_of (fib_entries mode (first_fib mode k) ms)) = fits_in mode o (first_fib mode k) ms h (λ _. first_of_page mode k) in
+    let other : (n : ℕ) → Fits (figs_of (fib_entries mode n ms)) = λ n. fits_in mode None n ms plain (λ e. absurd (cc e)) in
+    (first, each_of Fits (λ n. figs_of (fib_entries mode n ms)) other (later_fibs mode k))
+
+pub length-fib_bytes : (figs : List Written) → Fits figs → length (fib_bytes figs) ≡ 32
 length-fib_bytes figs f =
     length-append (filled (figs_bytes figs)) _
     ∙ omega (arith, length-filled (figs_bytes figs) f.short)
@@ -132,8 +141,23 @@ are_fibs (figs ∷ rest) f =
       subst (λ (bytes : List ℕ). AreFibs rest bytes) (sym (drop_at (fib_bytes figs) (flat_map fib_bytes rest) 32 long)) (are_fibs rest f.1),
     )
 
-pub pages_are_valid : (o : Option EnsembleInformation) (k : ℕ) (ms : List Marked) → IsPageable o ms → AreFibs (page_figs o k ms) (page_bytes o k ms)
-pages_are_valid o k ms h = are_fibs (page_figs o k ms) (page_fits o k ms h)
+length-fibs : (all : List (List Written)) → Each Fits all → length (flat_map fib_bytes all) ≡ 32 * length all
+length-fibs [] f = refl
+length-fibs (figs ∷ rest) f =
+    length-append (fib_bytes figs) (flat_map fib_bytes rest)
+    ∙ omega (arith, length-fib_bytes figs f.0, length-fibs rest f.1)
+
+length-page_figs : (mode : Mode) (o : Option EnsembleInformation) (k : ℕ) (ms : List Marked) → length (page_figs mode o k ms) ≡ fib_count mode
+length-page_figs mode o k ms =
+    let later : length (map (λ n. figs_of (fib_entries mode n ms)) (later_fibs mode k)) ≡ fib_count mode - 1 =
+    length-map (later_fibs mode k) (λ n. figs_of (fib_entries mode n ms)) ∙ length-range_with_len (first_fib mode k + 1) (fib_count mode - 1) in
+    omega (arith, later, some_fibs mode)
+
+pub pages_are_valid : (mode : Mode) (o : Option EnsembleInformation) (k : ℕ) (ms : List Marked) → IsPageable o ms → AreFibs (page_figs mode o k ms) (page_bytes mode o k ms) × (length (page_bytes mode o k ms) ≡ 32 * fib_count mode)
+pages_are_valid mode o k ms h = (
+  are_fibs (page_figs mode o k ms) (page_fits mode o k ms h),
+  length-fibs (page_figs mode o k ms) (page_fits mode o k ms h) ∙ ap (λ n. 32 * n) (length-page_figs mode o k ms),
+)
 
 -- what stands in a FIB that holds such FIGs
 fib_says : (figs : List Written) (m : Marked) → Fits figs → IsInFib (fib_bytes figs) m ↔ Contains (marked_of figs) m
@@ -197,26 +221,29 @@ first_says : (o : Option EnsembleInformation) (ms : List Marked) → marked_of (
 first_says None ms = figs_say ms
 first_says (Some e) ms = ap (λ xs. marked false (EnsembleOf e) ∷ xs) (figs_say ms)
 
-page_says : (o : Option EnsembleInformation) (k : ℕ) (ms : List Marked) → flat_map marked_of (page_figs o k ms) ≡ ensemble_marked o ++ page_entries k ms
-page_says o k ms =
-    let a : List Marked = fib_entries (3 * k) ms in
-    let b : List Marked = fib_entries (3 * k + 1) ms in
-    let c : List Marked = fib_entries (3 * k + 2) ms in
-    ap (λ xs. xs ++ (marked_of (figs_of b) ++ (marked_of (figs_of c) ++ []))) (first_says o a)
-    ∙ ap (λ xs. (ensemble_marked o ++ a) ++ (xs ++ (marked_of (figs_of c) ++ []))) (figs_say b)
-    ∙ ap (λ xs. (ensemble_marked o ++ a) ++ (b ++ (xs ++ []))) (figs_say c)
-    ∙ ap (λ xs. (ensemble_marked o ++ a) ++ (b ++ xs)) (append-nil c)
-    ∙ append_assoc (ensemble_marked o) a (b ++ c)
-    ∙ ap (λ xs. ensemble_marked o ++ xs) (sym (append_assoc a b c) ∙ sym (page_is_fibs ms k))
+later_say : (mode : Mode) (ms : List Marked) (ns : List ℕ) → flat_map marked_of (map (λ n. figs_of (fib_entries mode n ms)) ns) ≡ flat_map (λ n. fib_entries mode n ms) ns
+later_say mode ms [] = refl
+later_say mode ms (n ∷ ns) =
+    ap (λ xs. xs ++ flat_map marked_of (map (λ n. figs_of (fib_entries mode n ms)) ns)) (figs_say (fib_entries mode n ms))
+    ∙ ap (λ xs. fib_entries mode n ms ++ xs) (later_say mode ms ns)
 
-in_page : (o : Option EnsembleInformation) (k : ℕ) (ms : List Marked) (m : Marked) → IsPageable o ms → StandsIn (page_bytes o k ms) m → Contains (ensemble_marked o) m ⊎ Contains (page_entries k ms) m
-in_page o k ms m h (place, inside) =
-    Contains-append_cases (ensemble_marked o) (page_entries k ms) m
-    (subst (λ (xs : List Marked). Contains xs m) (page_says o k ms) (row_heard (page_figs o k ms) m (page_fits o k ms h) place inside))
+page_says : (mode : Mode) (o : Option EnsembleInformation) (k : ℕ) (ms : List Marked) → flat_map marked_of (page_figs mode o k ms) ≡ ensemble_marked o ++ page_entries mode k ms
+page_says mode o k ms =
+    let first : List Marked = fib_entries mode (first_fib mode k) ms in
+    let later : List Marked = flat_map (λ n. fib_entries mode n ms) (later_fibs mode k) in
+    ap (λ xs. xs ++ flat_map marked_of (map (λ n. figs_of (fib_entries mode n ms)) (later_fibs mode k))) (first_says o first)
+    ∙ ap (λ xs. (ensemble_marked o ++ first) ++ xs) (later_say mode ms (later_fibs mode k))
+    ∙ append_assoc (ensemble_marked o) first later
+    ∙ ap (λ xs. ensemble_marked o ++ xs) (sym (page_is_fibs mode ms k))
 
-of_page : (o : Option EnsembleInformation) (k : ℕ) (ms : List Marked) (m : Marked) → IsPageable o ms → Contains (ensemble_marked o ++ page_entries k ms) m → StandsIn (page_bytes o k ms) m
-of_page o k ms m h inside =
-    row_sent (page_figs o k ms) m (page_fits o k ms h) (subst (λ (xs : List Marked). Contains xs m) (sym (page_says o k ms)) inside)
+in_page : (mode : Mode) (o : Option EnsembleInformation) (k : ℕ) (ms : List Marked) (m : Marked) → IsPageable o ms → StandsIn (page_bytes mode o k ms) m → Contains (ensemble_marked o) m ⊎ Contains (page_entries mode k ms) m
+in_page mode o k ms m h (place, inside) =
+    Contains-append_cases (ensemble_marked o) (page_entries mode k ms) m
+    (subst (λ (xs : List Marked). Contains xs m) (page_says mode o k ms) (row_heard (page_figs mode o k ms) m (page_fits mode o k ms h) place inside))
+
+of_page : (mode : Mode) (o : Option EnsembleInformation) (k : ℕ) (ms : List Marked) (m : Marked) → IsPageable o ms → Contains (ensemble_marked o ++ page_entries mode k ms) m → StandsIn (page_bytes mode o k ms) m
+of_page mode o k ms m h inside =
+    row_sent (page_figs mode o k ms) m (page_fits mode o k ms h) (subst (λ (xs : List Marked). Contains xs m) (sym (page_says mode o k ms)) inside)
 
 -- entries of a page are of FIG 0/1 to 0/3, and ensemble information is not
 each_contains : {A : Type 0} (P : A → Type 0) (xs : List A) (x : A) → Each P xs → Contains xs x → P x
@@ -224,9 +251,9 @@ each_contains P [] x h inside = absurd (omega (arith, inside.1))
 each_contains P (y ∷ xs) x h (zero, lt, is) = subst P is h.0
 each_contains P (y ∷ xs) x h (suc i, lt, is) = each_contains P xs x h.1 (i, omega (arith, lt), is)
 
-organized : (k : ℕ) (ms : List Marked) (m : Marked) → AreSendable ms → Contains (page_entries k ms) m → 1 ≤ ext_of m.entry
-organized k ms m h inside =
-    let s : IsSendable m = each_contains IsSendable (page_entries k ms) m (sendable_where (λ n. n / 3 == k) ms (packing ms) h) inside in
+organized : (mode : Mode) (k : ℕ) (ms : List Marked) (m : Marked) → AreSendable ms → Contains (page_entries mode k ms) m → 1 ≤ ext_of m.entry
+organized mode k ms m h inside =
+    let s : IsSendable m = each_contains IsSendable (page_entries mode k ms) m (sendable_where (λ n. n / fib_count mode == k) ms (packing mode ms) h) inside in
     s.organization
 
 ensemble_is : (o : Option EnsembleInformation) (m : Marked) → Contains (ensemble_marked o) m → (e : EnsembleInformation) × (o ≡ Some e) × (m ≡ marked false (EnsembleOf e))
@@ -234,10 +261,10 @@ ensemble_is None m inside = absurd (omega (arith, inside.1))
 ensemble_is (Some e) m (zero, lt, is) = (e, refl, sym is)
 ensemble_is (Some e) m (suc i, lt, is) = absurd (omega (arith, lt))
 
-pub pages_are_heard : (o : Option EnsembleInformation) (k : ℕ) (ms : List Marked) → IsPageable o ms → (m : Marked) → IsHeardInRow (page_bytes o k ms) m ↔ Contains (page_entries k ms) m
-pages_are_heard o k ms h m = (
+pub pages_are_heard : (mode : Mode) (o : Option EnsembleInformation) (k : ℕ) (ms : List Marked) → IsPageable o ms → (m : Marked) → IsHeardInRow (page_bytes mode o k ms) m ↔ Contains (page_entries mode k ms) m
+pages_are_heard mode o k ms h m = (
   λ heard.
-      elim (in_page o k ms m h (heard.0, heard.1.inside)) [
+      elim (in_page mode o k ms m h (heard.0, heard.1.inside)) [
         | inl first ↦
             let e = ensemble_is o m first in
             let none : ext_of m.entry ≡ 0 = ap (λ (n : Marked). ext_of n.entry) e.2 in
@@ -245,28 +272,28 @@ pages_are_heard o k ms h m = (
         | inr here ↦ here
       ],
   λ here.
-      let found = of_page o k ms m h (Contains-append_right (ensemble_marked o) (page_entries k ms) m here) in
-      (found.0, record { organization = organized k ms m h.entries here; inside = found.1 }),
+      let found = of_page mode o k ms m h (Contains-append_right (ensemble_marked o) (page_entries mode k ms) m here) in
+      (found.0, record { organization = organized mode k ms m h.entries here; inside = found.1 }),
 )
 
-pub ensemble_is_heard : (o : Option EnsembleInformation) (k : ℕ) (ms : List Marked) → IsPageable o ms → (next : Bool) (e : EnsembleInformation) → IsEnsembleHeardInRow (page_bytes o k ms) next e ↔ ((next ≡ false) × (o ≡ Some e))
-ensemble_is_heard o k ms h next e = (
+pub ensemble_is_heard : (mode : Mode) (o : Option EnsembleInformation) (k : ℕ) (ms : List Marked) → IsPageable o ms → (next : Bool) (e : EnsembleInformation) → IsEnsembleHeardInRow (page_bytes mode o k ms) next e ↔ ((next ≡ false) × (o ≡ Some e))
+ensemble_is_heard mode o k ms h next e = (
   λ heard.
-      elim (in_page o k ms (marked next (EnsembleOf e)) h (heard.0, heard.1)) [
+      elim (in_page mode o k ms (marked next (EnsembleOf e)) h (heard.0, heard.1)) [
         | inl first ↦
             let found = ensemble_is o (marked next (EnsembleOf e)) first in
             let flag : next ≡ false = ap (λ (n : Marked). n.next) found.2 in
             let entry : EnsembleOf e ≡ EnsembleOf found.0 = ap (λ (n : Marked). n.entry) found.2 in
             let same : e ≡ found.0 = cc entry in
             (flag, found.1 ∙ ap (λ (x : EnsembleInformation). Some x) (sym same))
-        | inr here ↦ absurd (omega (arith, organized k ms (marked next (EnsembleOf e)) h.entries here))
+        | inr here ↦ absurd (omega (arith, organized mode k ms (marked next (EnsembleOf e)) h.entries here))
       ],
   λ told.
       let marks : ensemble_marked o ≡ marked next (EnsembleOf e) ∷ [] =
       ap (λ (x : Option EnsembleInformation). ensemble_marked x) told.1 ∙ ap (λ (b : Bool). marked b (EnsembleOf e) ∷ []) (sym told.0) in
       let inside : Contains (ensemble_marked o) (marked next (EnsembleOf e)) =
       subst (λ (xs : List Marked). Contains xs (marked next (EnsembleOf e))) (sym marks) (0, omega arith, refl) in
-      let found = of_page o k ms (marked next (EnsembleOf e)) h (Contains-append_left (ensemble_marked o) (page_entries k ms) (marked next (EnsembleOf e)) inside) in
+      let found = of_page mode o k ms (marked next (EnsembleOf e)) h (Contains-append_left (ensemble_marked o) (page_entries mode k ms) (marked next (EnsembleOf e)) inside) in
       (found.0, found.1),
 )
 
@@ -274,10 +301,10 @@ pub page_sets_are_pageable : (c : Configuration) (n : Option Configuration) (o :
 page_sets_are_pageable c n o h next e = record { entries = sendable_page_set c n h next; ensemble_within = e }
 
 -- the bytes of a page, whose entries are known by another name
-pub valid_page : (o : Option EnsembleInformation) (k : ℕ) (ms known : List Marked) (bytes : List ℕ) → known ≡ ms → IsPageable o known → bytes ≡ page_bytes o k known → AreFibs (page_figs o k ms) bytes
-valid_page o k ms known bytes e h b =
-    subst (λ (xs : List Marked). AreFibs (page_figs o k xs) bytes) e
-    (subst (λ (xs : List ℕ). AreFibs (page_figs o k known) xs) (sym b) (pages_are_valid o k known h))
+pub valid_page : (mode : Mode) (o : Option EnsembleInformation) (k : ℕ) (ms known : List Marked) (bytes : List ℕ) → known ≡ ms → IsPageable o known → bytes ≡ page_bytes mode o k known → AreFibs (page_figs mode o k ms) bytes
+valid_page mode o k ms known bytes e h b =
+    subst (λ (xs : List Marked). AreFibs (page_figs mode o k xs) bytes) e
+    (subst (λ (xs : List ℕ). AreFibs (page_figs mode o k known) xs) (sym b) (pages_are_valid mode o k known h).0)
 
-pub packed_page : (o : Option EnsembleInformation) (k : ℕ) (ms : List Marked) (bytes : List ℕ) → AreFibs (page_figs o k ms) bytes → (ns : List ℕ) → IsPacking ms ns → AreFibs (figs_by ns o k ms) bytes
-packed_page o k ms bytes valid ns p = subst (λ (numbers : List ℕ). AreFibs (figs_by numbers o k ms) bytes) (of_packing (λ (numbers : List ℕ). numbers) ms ns p) valid
+pub packed_page : (mode : Mode) (o : Option EnsembleInformation) (k : ℕ) (ms : List Marked) (bytes : List ℕ) → AreFibs (page_figs mode o k ms) bytes → (ns : List ℕ) → IsPacking mode ms ns → AreFibs (figs_by mode ns o k ms) bytes
+packed_page mode o k ms bytes valid ns p = subst (λ (numbers : List ℕ). AreFibs (figs_by mode numbers o k ms) bytes) (of_packing mode (λ (numbers : List ℕ). numbers) ms ns p) valid

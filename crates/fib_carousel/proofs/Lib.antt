@@ -1,10 +1,15 @@
+pub mod Widths
 pub mod Steps
 pub mod Least
 pub mod Pieces
 pub mod Walk
 pub mod Sharing
 pub mod Sendable
+pub mod Components
 pub mod Sent
+pub mod Rows
+pub mod Turning
+pub mod Headed
 pub mod Hearing
 pub mod Sides
 pub mod Most

@@ -1,5 +1,9 @@
 -- How many pages configurations can need.
 use Rattle.std.proofs.Common.{◌≡◌, ℕ, ◌+◌, ◌-◌, ◌*◌, ◌%◌, ◌<◌, ◌≤◌, ◌==◌, Bool, true, false, List, [], ◌∷◌, ◌++◌, zero, suc, length, map, Option, Some, None, refl, sym, ◌∙◌, ap, subst, inl, inr, ◌⊎◌, if◌then◌else◌, arith, eq-eqb}
+use Rattle.fib_codec.specs.declared.modes.Mode.{Mode}
+use Rattle.fib_codec.specs.declared.modes.Mode.TheVariants.{I, II, III, IV}
+use Rattle.fib_codec.specs.Modes.{fib_count}
+use Rattle.fib_carousel.specs.Most.{most_alone, most_together}
 use Rattle.std.proofs.lemmas.Bool.{ne_eqb, cases_lt}
 use Rattle.std.proofs.Math.Nat.{mul-le-mul_left}
 use Rattle.std.proofs.lemmas.List.{length-map, map-append}
@@ -11,98 +15,152 @@ use Rattle.mux_config.specs.declared.parts.Service.{Service}
 use Rattle.mux_config.specs.declared.parts.Packet.{Packet}
 use Rattle.fib_codec.specs.declared.head.Head.{Head}
 use Rattle.fib_codec.specs.Spelling.{head_of}
-use Rattle.fib_carousel.specs.declared.place.Place.{Place}
-use Rattle.fib_carousel.specs.Packing.{room, size_of, cost, last_number, numbers_from, placed, extended, opened, start, packing}
+use Rattle.fib_carousel.specs.declared.pack_state.PackState.{PackState}
+use Rattle.fib_carousel.specs.Packing.{room, size_of, cost, last_number}
+use Rattle.fib_carousel.specs.Greedy.{numbers_from, placed, extended, opened, start, packing}
 use Rattle.fib_carousel.specs.Pages.{page_set, rounds}
 use Rattle.fib_carousel.proofs.Least.{room_cases, placed_cases, Leaves}
 use Rattle.fib_carousel.proofs.Sent.{same_head_own}
 use Rattle.fib_carousel.proofs.Sendable.{each_map, service_small, length-component_entries}
 
--- a FIB takes so many entries of a kind, a page's first one a of them and each other one b
-abbrev cap : ℕ → ℕ → ℕ → ℕ
-cap a b n = if n % 3 == 0 then a else b
+-- a FIB takes so many entries of a kind, a page's first one a of them and each other one b, where a page has w FIBs
+abbrev cap : ℕ → ℕ → ℕ → ℕ → ℕ
+cap w a b n = if n % w == 0 then a else b
 
 -- what the FIBs before FIB n take
-abbrev total : ℕ → ℕ → ℕ → ℕ
-total a b zero = 0
-total a b (suc n) = total a b n + cap a b n
+abbrev total : ℕ → ℕ → ℕ → ℕ → ℕ
+total w a b zero = 0
+total w a b (suc n) = total w a b n + cap w a b n
 
-cap_first : (a b n : ℕ) → n % 3 ≡ 0 → cap a b n ≡ a
-cap_first a b n h = rw (eq-eqb (n % 3) 0 h) refl
+cap_first : (w a b n : ℕ) → n % w ≡ 0 → cap w a b n ≡ a
+cap_first w a b n h = rw (eq-eqb (n % w) 0 h) refl
 
-cap_other : (a b n : ℕ) → (n % 3 ≡ 0 → ⊥) → cap a b n ≡ b
-cap_other a b n h = rw (ne_eqb (n % 3) 0 h) refl
+cap_other : (w a b n : ℕ) → (n % w ≡ 0 → ⊥) → cap w a b n ≡ b
+cap_other w a b n h = rw (ne_eqb (n % w) 0 h) refl
+
+cap_low : (w a b n : ℕ) → a ≤ b → a ≤ cap w a b n
+cap_low w a b n h = elim (n % w == 0) as (λ x. a ≤ (if x then a else b)) [ true ↦ omega arith | false ↦ h ]
 
 -- three successive FIBs are a page's number of them, wherever they begin
-cap_three : (a b n : ℕ) → cap a b n + cap a b (suc n) + cap a b (suc (suc n)) ≡ a + b + b
+cap_three : (a b n : ℕ) → cap 3 a b n + cap 3 a b (suc n) + cap 3 a b (suc (suc n)) ≡ a + b + b
 cap_three a b n =
     elim (cases_lt (n % 3) 1) [
       | inl zero_left ↦
-          let x = cap_first a b n (omega (arith, zero_left)) in
-          let y = cap_other a b (suc n) (λ q. omega (arith, zero_left, q)) in
-          let z = cap_other a b (suc (suc n)) (λ q. omega (arith, zero_left, q)) in
+          let x = cap_first 3 a b n (omega (arith, zero_left)) in
+          let y = cap_other 3 a b (suc n) (λ q. omega (arith, zero_left, q)) in
+          let z = cap_other 3 a b (suc (suc n)) (λ q. omega (arith, zero_left, q)) in
           omega (arith, x, y, z)
       | inr some_left ↦
-          let x = cap_other a b n (λ q. omega (arith, some_left, q)) in
+          let x = cap_other 3 a b n (λ q. omega (arith, some_left, q)) in
           elim (cases_lt (n % 3) 2) [
             | inl one_left ↦
-                let y = cap_other a b (suc n) (λ q. omega (arith, some_left, one_left, q)) in
-                let z = cap_first a b (suc (suc n)) (omega (arith, some_left, one_left)) in
+                let y = cap_other 3 a b (suc n) (λ q. omega (arith, some_left, one_left, q)) in
+                let z = cap_first 3 a b (suc (suc n)) (omega (arith, some_left, one_left)) in
                 omega (arith, x, y, z)
             | inr two_left ↦
-                let y = cap_first a b (suc n) (omega (arith, two_left)) in
-                let z = cap_other a b (suc (suc n)) (λ q. omega (arith, two_left, q)) in
+                let y = cap_first 3 a b (suc n) (omega (arith, two_left)) in
+                let z = cap_other 3 a b (suc (suc n)) (λ q. omega (arith, two_left, q)) in
                 omega (arith, x, y, z)
           ]
     ]
 
-total_three : (a b n : ℕ) → total a b (suc (suc (suc n))) ≡ total a b n + (a + b + b)
-total_three a b n = omega (arith, cap_three a b n)
+-- and four in mode III
+cap_four : (a b n : ℕ) → cap 4 a b n + cap 4 a b (suc n) + cap 4 a b (suc (suc n)) + cap 4 a b (suc (suc (suc n))) ≡ a + b + b + b
+cap_four a b n =
+    elim (cases_lt (n % 4) 1) [
+      | inl zero_left ↦
+          let x = cap_first 4 a b n (omega (arith, zero_left)) in
+          let y = cap_other 4 a b (suc n) (λ q. omega (arith, zero_left, q)) in
+          let z = cap_other 4 a b (suc (suc n)) (λ q. omega (arith, zero_left, q)) in
+          let t = cap_other 4 a b (suc (suc (suc n))) (λ q. omega (arith, zero_left, q)) in
+          omega (arith, x, y, z, t)
+      | inr some_left ↦
+          let x = cap_other 4 a b n (λ q. omega (arith, some_left, q)) in
+          elim (cases_lt (n % 4) 2) [
+            | inl one_left ↦
+                let y = cap_other 4 a b (suc n) (λ q. omega (arith, some_left, one_left, q)) in
+                let z = cap_other 4 a b (suc (suc n)) (λ q. omega (arith, some_left, one_left, q)) in
+                let t = cap_first 4 a b (suc (suc (suc n))) (omega (arith, some_left, one_left)) in
+                omega (arith, x, y, z, t)
+            | inr two_left ↦
+                elim (cases_lt (n % 4) 3) [
+                  | inl at_two ↦
+                      let y = cap_other 4 a b (suc n) (λ q. omega (arith, two_left, at_two, q)) in
+                      let z = cap_first 4 a b (suc (suc n)) (omega (arith, two_left, at_two)) in
+                      let t = cap_other 4 a b (suc (suc (suc n))) (λ q. omega (arith, two_left, at_two, q)) in
+                      omega (arith, x, y, z, t)
+                  | inr at_three ↦
+                      let y = cap_first 4 a b (suc n) (omega (arith, at_three)) in
+                      let z = cap_other 4 a b (suc (suc n)) (λ q. omega (arith, at_three, q)) in
+                      let t = cap_other 4 a b (suc (suc (suc n))) (λ q. omega (arith, at_three, q)) in
+                      omega (arith, x, y, z, t)
+                ]
+          ]
+    ]
 
-total_pages : (a b w n t : ℕ) → w ≡ a + b + b → total a b (n + 3 * t) ≡ total a b n + t * w
-total_pages a b w n zero e =
-    let same : n + 3 * 0 ≡ n = omega arith in
-    let none : total a b n ≡ total a b n + 0 * w = omega arith in
-    ap (λ k. total a b k) same ∙ none
-total_pages a b w n (suc t) e =
-    let next : n + 3 * suc t ≡ suc (suc (suc (n + 3 * t))) = omega arith in
-    ap (λ k. total a b k) next ∙ total_three a b (n + 3 * t) ∙ omega (arith, total_pages a b w n t e, e)
+-- what a page takes
+abbrev Takes : ℕ → ℕ → ℕ → ℕ → Type 0
+Takes w a b page = (n : ℕ) → total w a b (n + w) ≡ total w a b n + page
 
-total_more : (a b n k : ℕ) → total a b n ≤ total a b (n + k)
-total_more a b n zero = let same : n + 0 ≡ n = omega arith in subst (λ m. total a b n ≤ total a b m) (sym same) (omega arith)
-total_more a b n (suc k) =
+page_three : (a b page : ℕ) → page ≡ a + b + b → Takes 3 a b page
+page_three a b page e n =
+    let next : n + 3 ≡ suc (suc (suc n)) = omega arith in
+    ap (λ k. total 3 a b k) next ∙ omega (arith, cap_three a b n, e)
+
+page_four : (a b page : ℕ) → page ≡ a + b + b + b → Takes 4 a b page
+page_four a b page e n =
+    let next : n + 4 ≡ suc (suc (suc (suc n))) = omega arith in
+    ap (λ k. total 4 a b k) next ∙ omega (arith, cap_four a b n, e)
+
+total_pages : (w a b page n t : ℕ) → Takes w a b page → total w a b (n + w * t) ≡ total w a b n + t * page
+total_pages w a b page n zero e =
+    let same : n + w * 0 ≡ n = omega arith in
+    let none : total w a b n ≡ total w a b n + 0 * page = omega arith in
+    ap (λ k. total w a b k) same ∙ none
+total_pages w a b page n (suc t) e =
+    let next : n + w * suc t ≡ n + w * t + w = omega arith in
+    ap (λ k. total w a b k) next ∙ e (n + w * t) ∙ omega (arith, total_pages w a b page n t e)
+
+total_more : (w a b n k : ℕ) → total w a b n ≤ total w a b (n + k)
+total_more w a b n zero = let same : n + 0 ≡ n = omega arith in subst (λ m. total w a b n ≤ total w a b m) (sym same) (omega arith)
+total_more w a b n (suc k) =
     let same : n + suc k ≡ suc (n + k) = omega arith in
-    subst (λ m. total a b n ≤ total a b m) (sym same) (omega (arith, total_more a b n k))
+    subst (λ m. total w a b n ≤ total w a b m) (sym same) (omega (arith, total_more w a b n k))
 
-total_mono : (a b m n : ℕ) → m ≤ n → total a b m ≤ total a b n
-total_mono a b m n h = let whole : m + (n - m) ≡ n = omega (arith, h) in subst (λ k. total a b m ≤ total a b k) whole (total_more a b m (n - m))
+total_mono : (w a b m n : ℕ) → m ≤ n → total w a b m ≤ total w a b n
+total_mono w a b m n h = let whole : m + (n - m) ≡ n = omega (arith, h) in subst (λ k. total w a b m ≤ total w a b k) whole (total_more w a b m (n - m))
+
+total_two : (w a b n k : ℕ) → k ≡ n + 2 → a ≤ b → total w a b n + (a + a) ≤ total w a b k
+total_two w a b n k e h =
+    let two : k ≡ suc (suc n) = omega (arith, e) in
+    subst (λ i. total w a b n + (a + a) ≤ total w a b i) (sym two) (omega (arith, cap_low w a b n h, cap_low w a b (suc n) h))
 
 -- entries of one kind: no larger than s, and of one head, or so large that no two share a FIB
 abbrev IsOfKind : ℕ → ℕ → ℕ → Head → Marked → Type 0
 IsOfKind a b s h m = (size_of m ≤ s) × ((head_of m ≡ h) ⊎ ((a ≤ 1) × (b ≤ 1)))
 
 -- as many of them as a FIB takes do fit it
-abbrev Holds : ℕ → ℕ → ℕ → Type 0
-Holds a b s = (n : ℕ) → 1 ≤ cap a b n → 2 + s * cap a b n ≤ room n
+abbrev Holds : (mode : Mode) → ℕ → ℕ → ℕ → Type 0
+Holds mode a b s = (n : ℕ) → 1 ≤ cap (fib_count mode) a b n → 2 + s * cap (fib_count mode) a b n ≤ room mode n
 
-cap_small : (a b n : ℕ) → (a ≤ 1) × (b ≤ 1) → cap a b n ≤ 1
-cap_small a b n h =
-    elim (room_cases n) [
-      | inl c ↦ subst (λ k. k ≤ 1) (sym (cap_first a b n c.0)) h.0
-      | inr c ↦ subst (λ k. k ≤ 1) (sym (cap_other a b n c.0)) h.1
+cap_small : (mode : Mode) (a b n : ℕ) → (a ≤ 1) × (b ≤ 1) → cap (fib_count mode) a b n ≤ 1
+cap_small mode a b n h =
+    elim (room_cases mode n) [
+      | inl c ↦ subst (λ k. k ≤ 1) (sym (cap_first (fib_count mode) a b n c.0)) h.0
+      | inr c ↦ subst (λ k. k ≤ 1) (sym (cap_other (fib_count mode) a b n c.0)) h.1
     ]
 
 -- how far i entries of a kind have come, where the entry before them stands in FIB f: still there, or further on,
 -- with as many FIBs filled between
-pub record Further (a b s f i : ℕ) (h : Head) (q : Place) : Type 0 where
+pub record Further (mode : Mode) (a b s f i : ℕ) (h : Head) (q : PackState) : Type 0 where
   pub above : f < q.fib
   pub count : ℕ
   pub some : 1 ≤ count
-  pub spent : total a b q.fib + count ≤ total a b (f + 1) + i
-  pub filled : (cap a b q.fib ≤ count) ⊎ ((q.head ≡ Some h) × (q.used ≤ 2 + s * count))
+  pub spent : total (fib_count mode) a b q.fib + count ≤ total (fib_count mode) a b (f + 1) + i
+  pub filled : (cap (fib_count mode) a b q.fib ≤ count) ⊎ ((q.head ≡ Some h) × (q.used ≤ 2 + s * count))
 
-abbrev Comes : ℕ → ℕ → ℕ → ℕ → ℕ → Head → Place → Type 0
-Comes a b s f i h q = (q.fib ≡ f) ⊎ Further a b s f i h q
+abbrev Comes : (mode : Mode) → ℕ → ℕ → ℕ → ℕ → ℕ → Head → PackState → Type 0
+Comes mode a b s f i h q = (q.fib ≡ f) ⊎ Further mode a b s f i h q
 
 -- behind an entry of its head an entry costs its size
 cost_alike : (h : Option Head) (k : Head) (m : Marked) → h ≡ Some k → head_of m ≡ k → cost h m ≡ size_of m
@@ -111,8 +169,8 @@ cost_alike h k m e own =
     ap (λ (g : Option Head). cost g m) e ∙ same
 
 -- a step within a FIB
-further_stays : (a b s f i : ℕ) (h : Head) (m : Marked) (q : Place) → IsOfKind a b s h m → Further a b s f i h q → Further a b s f (suc i) h (extended m q)
-further_stays a b s f i h m q kind c = record {
+further_stays : (mode : Mode) (a b s f i : ℕ) (h : Head) (m : Marked) (q : PackState) → IsOfKind a b s h m → Further mode a b s f i h q → Further mode a b s f (suc i) h (extended m q)
+further_stays mode a b s f i h m q kind c = record {
   above = c.above;
   count = suc c.count;
   some = omega arith;
@@ -125,52 +183,52 @@ further_stays a b s f i h m q kind c = record {
               | inl own ↦
                   let price : cost q.head m ≡ size_of m = cost_alike q.head h m open_.0 own in
                   inr (ap (λ (g : Head). Some g) own, omega (arith, open_.1, price, kind.0))
-              | inr few ↦ inl (omega (arith, cap_small a b q.fib few))
+              | inr few ↦ inl (omega (arith, cap_small mode a b q.fib few))
             ]
       ];
 }
 
 -- the FIB that a step goes on to, and those that it passes over
-passed_over : (a b s : ℕ) (h : Head) (m : Marked) (q : Place) → Holds a b s → IsOfKind a b s h m → (c : Leaves m q) → total a b c.to ≡ total a b (suc q.fib)
-passed_over a b s h m q holds kind c =
+passed_over : (mode : Mode) (a b s : ℕ) (h : Head) (m : Marked) (q : PackState) → Holds mode a b s → IsOfKind a b s h m → (c : Leaves mode m q) → total (fib_count mode) a b c.to ≡ total (fib_count mode) a b (suc q.fib)
+passed_over mode a b s h m q holds kind c =
     elim (cases_lt c.to (q.fib + 2)) [
-      | inl lt ↦ let one : c.to ≡ suc q.fib = omega (arith, lt, c.above) in ap (λ k. total a b k) one
+      | inl lt ↦ let one : c.to ≡ suc q.fib = omega (arith, lt, c.above) in ap (λ k. total (fib_count mode) a b k) one
       | inr ge ↦
           let two : c.to ≡ suc (suc q.fib) = omega (arith, ge, c.near) in
-          elim (cases_lt 0 (cap a b (suc q.fib))) [
+          elim (cases_lt 0 (cap (fib_count mode) a b (suc q.fib))) [
             | inl some_left ↦
-                let product : s * 1 ≤ s * cap a b (suc q.fib) = mul-le-mul_left s some_left in
-                let fits : 2 + size_of m ≤ room (suc q.fib) = omega (arith, holds (suc q.fib) some_left, kind.0, product) in
+                let product : s * 1 ≤ s * cap (fib_count mode) a b (suc q.fib) = mul-le-mul_left s some_left in
+                let fits : 2 + size_of m ≤ room mode (suc q.fib) = omega (arith, holds (suc q.fib) some_left, kind.0, product) in
                 absurd (omega (arith, c.first (suc q.fib) (omega arith) fits, two))
             | inr none_left ↦
-                let none : total a b (suc (suc q.fib)) ≡ total a b (suc q.fib) = omega (arith, none_left) in
-                ap (λ k. total a b k) two ∙ none
+                let none : total (fib_count mode) a b (suc (suc q.fib)) ≡ total (fib_count mode) a b (suc q.fib) = omega (arith, none_left) in
+                ap (λ k. total (fib_count mode) a b k) two ∙ none
           ]
     ]
 
 -- a step that leaves a FIB leaves it full
-left_full : (a b s f i : ℕ) (h : Head) (m : Marked) (q : Place) → Holds a b s → IsOfKind a b s h m → (c : Leaves m q) → (d : Further a b s f i h q) → cap a b q.fib ≤ d.count
-left_full a b s f i h m q holds kind c d =
+left_full : (mode : Mode) (a b s f i : ℕ) (h : Head) (m : Marked) (q : PackState) → Holds mode a b s → IsOfKind a b s h m → (c : Leaves mode m q) → (d : Further mode a b s f i h q) → cap (fib_count mode) a b q.fib ≤ d.count
+left_full mode a b s f i h m q holds kind c d =
     elim d.filled [
       | inl full ↦ full
       | inr open_ ↦
           elim kind.1 [
             | inl own ↦
                 let price : cost q.head m ≡ size_of m = cost_alike q.head h m open_.0 own in
-                elim (cases_lt d.count (cap a b q.fib)) [
+                elim (cases_lt d.count (cap (fib_count mode) a b q.fib)) [
                   | inl lt ↦
-                      let product : s * suc d.count ≤ s * cap a b q.fib = mul-le-mul_left s lt in
-                      let some_left : 1 ≤ cap a b q.fib = omega (arith, lt) in
+                      let product : s * suc d.count ≤ s * cap (fib_count mode) a b q.fib = mul-le-mul_left s lt in
+                      let some_left : 1 ≤ cap (fib_count mode) a b q.fib = omega (arith, lt) in
                       absurd (omega (arith, holds q.fib some_left, product, c.full, price, kind.0, open_.1))
                   | inr ge ↦ ge
                 ]
-            | inr few ↦ omega (arith, cap_small a b q.fib few, d.some)
+            | inr few ↦ omega (arith, cap_small mode a b q.fib few, d.some)
           ]
     ]
 
-further_leaves : (a b s f i : ℕ) (h : Head) (m : Marked) (q : Place) → Holds a b s → IsOfKind a b s h m → Comes a b s f i h q → (c : Leaves m q) → Further a b s f (suc i) h (opened m c.to)
-further_leaves a b s f i h m q holds kind comes c =
-    let passed : total a b c.to ≡ total a b q.fib + cap a b q.fib = passed_over a b s h m q holds kind c in
+further_leaves : (mode : Mode) (a b s f i : ℕ) (h : Head) (m : Marked) (q : PackState) → Holds mode a b s → IsOfKind a b s h m → Comes mode a b s f i h q → (c : Leaves mode m q) → Further mode a b s f (suc i) h (opened m c.to)
+further_leaves mode a b s f i h m q holds kind comes c =
+    let passed : total (fib_count mode) a b c.to ≡ total (fib_count mode) a b q.fib + cap (fib_count mode) a b q.fib = passed_over mode a b s h m q holds kind c in
     record {
       above = elim comes [ inl e ↦ omega (arith, e, c.above) | inr d ↦ omega (arith, d.above, c.above) ];
       count = 1;
@@ -178,88 +236,162 @@ further_leaves a b s f i h m q holds kind comes c =
       spent =
           elim comes [
             | inl e ↦
-                let here : total a b (f + 1) ≡ total a b q.fib + cap a b q.fib =
-                let same : f + 1 ≡ suc q.fib = omega (arith, e) in ap (λ k. total a b k) same in
+                let here : total (fib_count mode) a b (f + 1) ≡ total (fib_count mode) a b q.fib + cap (fib_count mode) a b q.fib =
+                let same : f + 1 ≡ suc q.fib = omega (arith, e) in ap (λ k. total (fib_count mode) a b k) same in
                 omega (arith, passed, here)
-            | inr d ↦ omega (arith, passed, d.spent, left_full a b s f i h m q holds kind c d)
+            | inr d ↦ omega (arith, passed, d.spent, left_full mode a b s f i h m q holds kind c d)
           ];
       filled =
           elim kind.1 [
             | inl own ↦ inr (ap (λ (g : Head). Some g) own, omega (arith, kind.0))
-            | inr few ↦ inl (cap_small a b c.to few)
+            | inr few ↦ inl (cap_small mode a b c.to few)
           ];
     }
 
-comes_step : (a b s f i : ℕ) (h : Head) (m : Marked) (q : Place) → Holds a b s → IsOfKind a b s h m → Comes a b s f i h q → Comes a b s f (suc i) h (placed m q)
-comes_step a b s f i h m q holds kind comes =
-    elim (placed_cases m q) [
+comes_step : (mode : Mode) (a b s f i : ℕ) (h : Head) (m : Marked) (q : PackState) → Holds mode a b s → IsOfKind a b s h m → Comes mode a b s f i h q → Comes mode a b s f (suc i) h (placed mode m q)
+comes_step mode a b s f i h m q holds kind comes =
+    elim (placed_cases mode m q) [
       | inl c ↦
-          subst (λ (r : Place). Comes a b s f (suc i) h r) (sym c.is)
-          (elim comes [ inl e ↦ inl e | inr d ↦ inr (further_stays a b s f i h m q kind d) ])
-      | inr c ↦ subst (λ (r : Place). Comes a b s f (suc i) h r) (sym c.is) (inr (further_leaves a b s f i h m q holds kind comes c))
+          subst (λ (r : PackState). Comes mode a b s f (suc i) h r) (sym c.is)
+          (elim comes [ inl e ↦ inl e | inr d ↦ inr (further_stays mode a b s f i h m q kind d) ])
+      | inr c ↦ subst (λ (r : PackState). Comes mode a b s f (suc i) h r) (sym c.is) (inr (further_leaves mode a b s f i h m q holds kind comes c))
     ]
 
 -- the place behind a list of entries
-abbrev behind : Place → List Marked → Place
-behind p [] = p
-behind p (m ∷ ms) = behind (placed m p) ms
+abbrev behind : (mode : Mode) → PackState → List Marked → PackState
+behind mode p [] = p
+behind mode p (m ∷ ms) = behind mode (placed mode m p) ms
 
-comes_all : (a b s f i : ℕ) (h : Head) (ms : List Marked) (q : Place) → Holds a b s → Each (IsOfKind a b s h) ms → Comes a b s f i h q → Comes a b s f (i + length ms) h (behind q ms)
-comes_all a b s f i h [] q holds kinds comes = let same : i + 0 ≡ i = omega arith in subst (λ n. Comes a b s f n h q) (sym same) comes
-comes_all a b s f i h (m ∷ ms) q holds kinds comes =
+comes_all : (mode : Mode) (a b s f i : ℕ) (h : Head) (ms : List Marked) (q : PackState) → Holds mode a b s → Each (IsOfKind a b s h) ms → Comes mode a b s f i h q → Comes mode a b s f (i + length ms) h (behind mode q ms)
+comes_all mode a b s f i h [] q holds kinds comes = let same : i + 0 ≡ i = omega arith in subst (λ n. Comes mode a b s f n h q) (sym same) comes
+comes_all mode a b s f i h (m ∷ ms) q holds kinds comes =
     let same : i + suc (length ms) ≡ suc i + length ms = omega arith in
-    subst (λ n. Comes a b s f n h (behind (placed m q) ms)) (sym same)
-    (comes_all a b s f (suc i) h ms (placed m q) holds kinds.1 (comes_step a b s f i h m q holds kinds.0 comes))
+    subst (λ n. Comes mode a b s f n h (behind mode (placed mode m q) ms)) (sym same)
+    (comes_all mode a b s f (suc i) h ms (placed mode m q) holds kinds.1 (comes_step mode a b s f i h m q holds kinds.0 comes))
 
 -- 64 entries of a kind go no further than the FIBs that take 64
-comes_within : (a b s f n k : ℕ) (h : Head) (q : Place) → Comes a b s f n h q → n ≤ 64 → total a b (f + 1) + 64 ≤ total a b (f + 1 + k) → q.fib ≤ f + k
-comes_within a b s f n k h q comes few enough =
+comes_within : (mode : Mode) (a b s f n k : ℕ) (h : Head) (q : PackState) → Comes mode a b s f n h q → n ≤ 64 → total (fib_count mode) a b (f + 1) + 64 ≤ total (fib_count mode) a b (f + 1 + k) → q.fib ≤ f + k
+comes_within mode a b s f n k h q comes few enough =
     elim comes [
       | inl e ↦ omega (arith, e)
       | inr d ↦
           elim (cases_lt (f + k) q.fib) [
-            | inl far ↦ absurd (omega (arith, total_mono a b (f + 1 + k) q.fib (omega (arith, far)), enough, d.spent, d.some, few))
+            | inl far ↦ absurd (omega (arith, total_mono (fib_count mode) a b (f + 1 + k) q.fib (omega (arith, far)), enough, d.spent, d.some, few))
             | inr near ↦ near
           ]
     ]
 
-cap_low : (a b n : ℕ) → a ≤ b → a ≤ cap a b n
-cap_low a b n h =
-    elim (room_cases n) [
-      | inl c ↦ subst (λ k. a ≤ k) (sym (cap_first a b n c.0)) (omega arith)
-      | inr c ↦ subst (λ k. a ≤ k) (sym (cap_other a b n c.0)) h
-    ]
+-- so many FIBs more take 64 entries of a kind: of sub-channels, of services, and of packet components
+abbrev subs_most : Mode → ℕ
+subs_most I = 11
+subs_most II = 11
+subs_most III = 10
+subs_most IV = 11
 
-total_two : (a b n k : ℕ) → k ≡ n + 2 → a ≤ b → total a b n + (a + a) ≤ total a b k
-total_two a b n k e h =
-    let two : k ≡ suc (suc n) = omega (arith, e) in
-    subst (λ i. total a b n + (a + a) ≤ total a b i) (sym two) (omega (arith, cap_low a b n h, cap_low a b (suc n) h))
+abbrev services_most : Mode → ℕ
+services_most I = 96
+services_most II = 96
+services_most III = 86
+services_most IV = 96
 
-subs_enough : (f : ℕ) → total 5 7 (f + 1) + 64 ≤ total 5 7 (f + 1 + 11)
-subs_enough f = omega (arith, total_pages 5 7 19 (f + 1) 3 refl, total_two 5 7 (f + 1 + 3 * 3) (f + 1 + 11) (omega arith) (omega arith))
+abbrev Suffices : Mode → ℕ → ℕ → ℕ → ℕ → Type 0
+Suffices mode a b k f = total (fib_count mode) a b (f + 1) + 64 ≤ total (fib_count mode) a b (f + 1 + k)
 
-services_enough : (f : ℕ) → total 0 1 (f + 1) + 64 ≤ total 0 1 (f + 1 + 96)
-services_enough f = omega (arith, total_pages 0 1 2 (f + 1) 32 refl)
+subs_three : (f : ℕ) → total 3 5 7 (f + 1) + 64 ≤ total 3 5 7 (f + 1 + 11)
+subs_three f =
+    let pages : total 3 5 7 (f + 1 + 9) ≡ total 3 5 7 (f + 1) + 57 = total_pages 3 5 7 19 (f + 1) 3 (page_three 5 7 19 refl) in
+    omega (arith, pages, total_two 3 5 7 (f + 1 + 9) (f + 1 + 11) (omega arith) (omega arith))
 
-packets_enough : (f : ℕ) → total 4 5 (f + 1) + 64 ≤ total 4 5 (f + 1 + 14)
-packets_enough f = omega (arith, total_pages 4 5 14 (f + 1) 4 refl, total_two 4 5 (f + 1 + 3 * 4) (f + 1 + 14) (omega arith) (omega arith))
+subs_four : (f : ℕ) → total 4 5 7 (f + 1) + 64 ≤ total 4 5 7 (f + 1 + 10)
+subs_four f =
+    let pages : total 4 5 7 (f + 1 + 8) ≡ total 4 5 7 (f + 1) + 52 = total_pages 4 5 7 26 (f + 1) 2 (page_four 5 7 26 refl) in
+    let two : total 4 5 7 (f + 1 + 8) + 12 ≤ total 4 5 7 (f + 1 + 10) = five_and_seven (f + 1 + 8) (f + 1 + 10) (omega arith) in
+    omega (arith, pages, two)
+  where
+    -- of two successive FIBs one is no page's first
+    five_and_seven : (n k : ℕ) → k ≡ n + 2 → total 4 5 7 n + 12 ≤ total 4 5 7 k
+    five_and_seven n k e =
+        let next : k ≡ suc (suc n) = omega (arith, e) in
+        let low = cap_low 4 5 7 n (omega arith) in
+        let low_next = cap_low 4 5 7 (suc n) (omega arith) in
+        subst (λ i. total 4 5 7 n + 12 ≤ total 4 5 7 i) (sym next)
+        (elim (cases_lt 0 (n % 4)) [
+          | inl some_left ↦ omega (arith, cap_other 4 5 7 n (λ q. omega (arith, some_left, q)), low_next)
+          | inr none_left ↦ omega (arith, cap_other 4 5 7 (suc n) (λ q. omega (arith, none_left, q)), low)
+        ])
 
-holds_by : (a b s : ℕ) → 2 + s * a ≤ 23 ⊎ (a ≡ 0) → 2 + s * b ≤ 30 → Holds a b s
-holds_by a b s first other n some_left =
-    elim (room_cases n) [
+subs_enough : (mode : Mode) (f : ℕ) → Suffices mode 5 7 (subs_most mode) f
+subs_enough I f = subs_three f
+subs_enough II f = subs_three f
+subs_enough III f = subs_four f
+subs_enough IV f = subs_three f
+
+services_three : (f : ℕ) → total 3 0 1 (f + 1) + 64 ≤ total 3 0 1 (f + 1 + 96)
+services_three f =
+    let pages : total 3 0 1 (f + 1 + 96) ≡ total 3 0 1 (f + 1) + 64 = total_pages 3 0 1 2 (f + 1) 32 (page_three 0 1 2 refl) in
+    omega (arith, pages)
+
+services_four : (f : ℕ) → total 4 0 1 (f + 1) + 64 ≤ total 4 0 1 (f + 1 + 86)
+services_four f =
+    let pages : total 4 0 1 (f + 1 + 84) ≡ total 4 0 1 (f + 1) + 63 = total_pages 4 0 1 3 (f + 1) 21 (page_four 0 1 3 refl) in
+    let two : total 4 0 1 (f + 1 + 84) + 1 ≤ total 4 0 1 (f + 1 + 86) = one_of_two (f + 1 + 84) (f + 1 + 86) (omega arith) in
+    omega (arith, pages, two)
+  where
+    one_of_two : (n k : ℕ) → k ≡ n + 2 → total 4 0 1 n + 1 ≤ total 4 0 1 k
+    one_of_two n k e =
+        let next : k ≡ suc (suc n) = omega (arith, e) in
+        subst (λ i. total 4 0 1 n + 1 ≤ total 4 0 1 i) (sym next)
+        (elim (cases_lt 0 (n % 4)) [
+          | inl some_left ↦ omega (arith, cap_other 4 0 1 n (λ q. omega (arith, some_left, q)))
+          | inr none_left ↦ omega (arith, cap_other 4 0 1 (suc n) (λ q. omega (arith, none_left, q)))
+        ])
+
+services_enough : (mode : Mode) (f : ℕ) → Suffices mode 0 1 (services_most mode) f
+services_enough I f = services_three f
+services_enough II f = services_three f
+services_enough III f = services_four f
+services_enough IV f = services_three f
+
+-- one FIB fewer in mode III behind FIB 10
+services_behind_ten : Suffices III 0 1 85 10
+services_behind_ten =
+    let pages : total 4 0 1 (11 + 84) ≡ total 4 0 1 11 + 63 = total_pages 4 0 1 3 11 21 (page_four 0 1 3 refl) in
+    let one : cap 4 0 1 95 ≡ 1 = refl in
+    let next : total 4 0 1 96 ≡ total 4 0 1 95 + cap 4 0 1 95 = refl in
+    omega (arith, pages, one, next)
+
+packets_three : (f : ℕ) → total 3 4 5 (f + 1) + 64 ≤ total 3 4 5 (f + 1 + 14)
+packets_three f =
+    let pages : total 3 4 5 (f + 1 + 12) ≡ total 3 4 5 (f + 1) + 56 = total_pages 3 4 5 14 (f + 1) 4 (page_three 4 5 14 refl) in
+    omega (arith, pages, total_two 3 4 5 (f + 1 + 12) (f + 1 + 14) (omega arith) (omega arith))
+
+packets_four : (f : ℕ) → total 4 4 5 (f + 1) + 64 ≤ total 4 4 5 (f + 1 + 14)
+packets_four f =
+    let pages : total 4 4 5 (f + 1 + 12) ≡ total 4 4 5 (f + 1) + 57 = total_pages 4 4 5 19 (f + 1) 3 (page_four 4 5 19 refl) in
+    omega (arith, pages, total_two 4 4 5 (f + 1 + 12) (f + 1 + 14) (omega arith) (omega arith))
+
+packets_enough : (mode : Mode) (f : ℕ) → Suffices mode 4 5 14 f
+packets_enough I f = packets_three f
+packets_enough II f = packets_three f
+packets_enough III f = packets_four f
+packets_enough IV f = packets_three f
+
+holds_by : (mode : Mode) (a b s : ℕ) → 2 + s * a ≤ 23 ⊎ (a ≡ 0) → 2 + s * b ≤ 30 → Holds mode a b s
+holds_by mode a b s first other n some_left =
+    elim (room_cases mode n) [
       | inl c ↦
-          let is : cap a b n ≡ a = cap_first a b n c.0 in
+          let is : cap (fib_count mode) a b n ≡ a = cap_first (fib_count mode) a b n c.0 in
           elim first [
-            | inl fits ↦ subst (λ k. 2 + s * k ≤ room n) (sym is) (omega (arith, fits, c.1))
+            | inl fits ↦ subst (λ k. 2 + s * k ≤ room mode n) (sym is) (omega (arith, fits, c.1))
             | inr none ↦ absurd (omega (arith, some_left, is, none))
           ]
-      | inr c ↦ subst (λ k. 2 + s * k ≤ room n) (sym (cap_other a b n c.0)) (omega (arith, other, c.1))
+      | inr c ↦ subst (λ k. 2 + s * k ≤ room mode n) (sym (cap_other (fib_count mode) a b n c.0)) (omega (arith, other, c.1))
     ]
 
 -- a phase of at most 64 entries of a kind
-phase : (a b s k : ℕ) (h : Head) (ms : List Marked) (p : Place) → Holds a b s → ((f : ℕ) → total a b (f + 1) + 64 ≤ total a b (f + 1 + k)) → Each (IsOfKind a b s h) ms → length ms ≤ 64 → (behind p ms).fib ≤ p.fib + k
-phase a b s k h ms p holds enough kinds few =
-    comes_within a b s p.fib (0 + length ms) k h (behind p ms) (comes_all a b s p.fib 0 h ms p holds kinds (inl refl)) (omega (arith, few)) (enough p.fib)
+phase : (mode : Mode) (a b s k : ℕ) (h : Head) (ms : List Marked) (p : PackState) → Holds mode a b s → Suffices mode a b k p.fib → Each (IsOfKind a b s h) ms → length ms ≤ 64 → (behind mode p ms).fib ≤ p.fib + k
+phase mode a b s k h ms p holds enough kinds few =
+    comes_within mode a b s p.fib (0 + length ms) k h (behind mode p ms) (comes_all mode a b s p.fib 0 h ms p holds kinds (inl refl)) (omega (arith, few)) enough
 
 -- the three kinds of entries
 abbrev head_ext : Bool → ℕ → Head
@@ -272,64 +404,111 @@ service_size s h =
 length-marked : {A : Type 0} (next : Bool) (f : A → Entry) (xs : List A) → length (map (marked next) (map f xs)) ≡ length xs
 length-marked next f xs = length-map (map f xs) (marked next) ∙ length-map xs f
 
-subs_phase : (c : Configuration) (next : Bool) (p : Place) → IsConfiguration c → (behind p (map (marked next) (map sub_entry c.subs))).fib ≤ p.fib + 11
-subs_phase c next p h =
+subs_phase : (mode : Mode) (c : Configuration) (next : Bool) (p : PackState) → IsConfiguration c → (behind mode p (map (marked next) (map sub_entry c.subs))).fib ≤ p.fib + subs_most mode
+subs_phase mode c next p h =
     let kind : (s : Sub) → IsPlaced s → IsOfKind 5 7 4 (head_ext next 1) (marked next (sub_entry s)) = λ s _. (omega arith, inl refl) in
     let kinds : Each (IsOfKind 5 7 4 (head_ext next 1)) (map (marked next) (map sub_entry c.subs)) =
     each_map (marked next) (λ e. IsOfKind 5 7 4 (head_ext next 1) (marked next e)) (IsOfKind 5 7 4 (head_ext next 1)) (map sub_entry c.subs) (λ e k. k)
     (each_map sub_entry IsPlaced (λ e. IsOfKind 5 7 4 (head_ext next 1) (marked next e)) c.subs kind h.subs_placed) in
-    phase 5 7 4 11 (head_ext next 1) (map (marked next) (map sub_entry c.subs)) p (holds_by 5 7 4 (inl (omega arith)) (omega arith)) subs_enough kinds
+    phase mode 5 7 4 (subs_most mode) (head_ext next 1) (map (marked next) (map sub_entry c.subs)) p (holds_by mode 5 7 4 (inl (omega arith)) (omega arith)) (subs_enough mode p.fib) kinds
     (omega (arith, length-marked next sub_entry c.subs, h.subs_few))
 
-services_phase : (c : Configuration) (next : Bool) (p : Place) → IsConfiguration c → (behind p (map (marked next) (map service_entry c.services))).fib ≤ p.fib + 96
-services_phase c next p h =
+services_phase : (mode : Mode) (c : Configuration) (next : Bool) (p : PackState) (k : ℕ) → Suffices mode 0 1 k p.fib → IsConfiguration c → (behind mode p (map (marked next) (map service_entry c.services))).fib ≤ p.fib + k
+services_phase mode c next p k enough h =
     let Kind : Entry → Type 0 = λ e. IsOfKind 0 1 27 (head_ext next 2) (marked next e) in
     let kind : (s : Service) → IsService s → Kind (service_entry s) = λ s k. (service_size s k, inr (omega arith, omega arith)) in
     let kinds : Each (IsOfKind 0 1 27 (head_ext next 2)) (map (marked next) (map service_entry c.services)) =
     each_map (marked next) Kind (IsOfKind 0 1 27 (head_ext next 2)) (map service_entry c.services) (λ e k. k)
     (each_map service_entry IsService Kind c.services kind h.services_formed) in
-    phase 0 1 27 96 (head_ext next 2) (map (marked next) (map service_entry c.services)) p (holds_by 0 1 27 (inr refl) (omega arith)) services_enough kinds
+    phase mode 0 1 27 k (head_ext next 2) (map (marked next) (map service_entry c.services)) p (holds_by mode 0 1 27 (inr refl) (omega arith)) enough kinds
     (omega (arith, length-marked next service_entry c.services, h.services_few))
 
-packets_phase : (c : Configuration) (next : Bool) (p : Place) → IsConfiguration c → (behind p (map (marked next) (map packet_entry c.packets))).fib ≤ p.fib + 14
-packets_phase c next p h =
+packets_phase : (mode : Mode) (c : Configuration) (next : Bool) (p : PackState) → IsConfiguration c → (behind mode p (map (marked next) (map packet_entry c.packets))).fib ≤ p.fib + 14
+packets_phase mode c next p h =
     let Kind : Entry → Type 0 = λ e. IsOfKind 4 5 5 (head_ext next 3) (marked next e) in
     let kind : (k : Packet) → IsAddressed k → Kind (packet_entry k) = λ k _. (omega arith, inl refl) in
     let kinds : Each (IsOfKind 4 5 5 (head_ext next 3)) (map (marked next) (map packet_entry c.packets)) =
     each_map (marked next) Kind (IsOfKind 4 5 5 (head_ext next 3)) (map packet_entry c.packets) (λ e k. k)
     (each_map packet_entry IsAddressed Kind c.packets kind h.packets_addressed) in
-    phase 4 5 5 14 (head_ext next 3) (map (marked next) (map packet_entry c.packets)) p (holds_by 4 5 5 (inl (omega arith)) (omega arith)) packets_enough kinds
+    phase mode 4 5 5 14 (head_ext next 3) (map (marked next) (map packet_entry c.packets)) p (holds_by mode 4 5 5 (inl (omega arith)) (omega arith)) (packets_enough mode p.fib) kinds
     (omega (arith, length-marked next packet_entry c.packets, h.packets_few))
 
-behind-append : (p : Place) (xs ys : List Marked) → behind p (xs ++ ys) ≡ behind (behind p xs) ys
-behind-append p [] ys = refl
-behind-append p (x ∷ xs) ys = behind-append (placed x p) xs ys
+behind-append : (mode : Mode) (p : PackState) (xs ys : List Marked) → behind mode p (xs ++ ys) ≡ behind mode (behind mode p xs) ys
+behind-append mode p [] ys = refl
+behind-append mode p (x ∷ xs) ys = behind-append mode (placed mode x p) xs ys
 
--- a configuration takes at most 121 FIBs more
-facts_phase : (c : Configuration) (next : Bool) (p : Place) → IsConfiguration c → (behind p (facts_of c next)).fib ≤ p.fib + 121
-facts_phase c next p h =
-    let subs : List Marked = map (marked next) (map sub_entry c.subs) in
-    let services : List Marked = map (marked next) (map service_entry c.services) in
-    let packets : List Marked = map (marked next) (map packet_entry c.packets) in
+-- a configuration takes so many FIBs more
+abbrev subs_entries : Configuration → Bool → List Marked
+subs_entries c next = map (marked next) (map sub_entry c.subs)
+
+abbrev services_only : Configuration → Bool → List Marked
+services_only c next = map (marked next) (map service_entry c.services)
+
+abbrev packets_only : Configuration → Bool → List Marked
+packets_only c next = map (marked next) (map packet_entry c.packets)
+
+facts_walk : (mode : Mode) (c : Configuration) (next : Bool) (p : PackState) → behind mode p (facts_of c next) ≡ behind mode (behind mode (behind mode p (subs_entries c next)) (services_only c next)) (packets_only c next)
+facts_walk mode c next p =
+    let subs : List Marked = subs_entries c next in
+    let services : List Marked = services_only c next in
+    let packets : List Marked = packets_only c next in
     let parts : facts_of c next ≡ subs ++ (services ++ packets) =
     map-append (marked next) (sub_entries c) (service_entries c)
     ∙ ap (λ xs. subs ++ xs) (map-append (marked next) (map service_entry c.services) (map packet_entry c.packets)) in
-    let walk : behind p (facts_of c next) ≡ behind (behind (behind p subs) services) packets =
-    ap (λ xs. behind p xs) parts ∙ behind-append p subs (services ++ packets) ∙ behind-append (behind p subs) services packets in
-    subst (λ (q : Place). q.fib ≤ p.fib + 121) (sym walk)
-    (omega (arith, subs_phase c next p h, services_phase c next (behind p subs) h, packets_phase c next (behind (behind p subs) services) h))
+    ap (λ xs. behind mode p xs) parts ∙ behind-append mode p subs (services ++ packets) ∙ behind-append mode (behind mode p subs) services packets
 
-last_behind : (p : Place) (ms : List Marked) → last_number p.fib (numbers_from p ms) ≡ (behind p ms).fib
-last_behind p [] = refl
-last_behind p (m ∷ ms) = last_behind (placed m p) ms
+abbrev facts_most : Mode → ℕ
+facts_most mode = subs_most mode + services_most mode + 14
 
-pub most_pages : (c d : Configuration) → IsConfiguration c → IsConfiguration d → (rounds (page_set c None) ≤ 41) × (rounds (page_set c (Some d)) ≤ 81)
-most_pages c d hc hd =
-    let one : (behind start (facts_of c false)).fib ≤ 0 + 121 = facts_phase c false start hc in
-    let both : behind start (facts_of c false ++ facts_of d true) ≡ behind (behind start (facts_of c false)) (facts_of d true) =
-    behind-append start (facts_of c false) (facts_of d true) in
-    let two : (behind start (facts_of c false ++ facts_of d true)).fib ≤ 242 =
-    subst (λ (q : Place). q.fib ≤ 242) (sym both) (omega (arith, one, facts_phase d true (behind start (facts_of c false)) hd)) in
-    let last_one : last_number 0 (packing (facts_of c false)) ≡ (behind start (facts_of c false)).fib = last_behind start (facts_of c false) in
-    let last_two : last_number 0 (packing (facts_of c false ++ facts_of d true)) ≡ (behind start (facts_of c false ++ facts_of d true)).fib = last_behind start (facts_of c false ++ facts_of d true) in
-    (omega (arith, one, last_one), omega (arith, two, last_two))
+facts_phase : (mode : Mode) (c : Configuration) (next : Bool) (p : PackState) → IsConfiguration c → (behind mode p (facts_of c next)).fib ≤ p.fib + facts_most mode
+facts_phase mode c next p h =
+    let first : PackState = behind mode p (subs_entries c next) in
+    let second : PackState = behind mode first (services_only c next) in
+    let one : first.fib ≤ p.fib + subs_most mode = subs_phase mode c next p h in
+    let two : second.fib ≤ first.fib + services_most mode = services_phase mode c next first (services_most mode) (services_enough mode first.fib) h in
+    let three : (behind mode second (packets_only c next)).fib ≤ second.fib + 14 = packets_phase mode c next second h in
+    subst (λ (q : PackState). q.fib ≤ p.fib + facts_most mode) (sym (facts_walk mode c next p)) (omega (arith, one, two, three))
+
+-- in mode III one FIB fewer from the start on
+facts_first : (c : Configuration) → IsConfiguration c → (behind III start (facts_of c false)).fib ≤ 109
+facts_first c h =
+    let first : PackState = behind III start (subs_entries c false) in
+    let second : PackState = behind III first (services_only c false) in
+    let one : first.fib ≤ 0 + 10 = subs_phase III c false start h in
+    let two : second.fib ≤ 95 =
+    elim (cases_lt first.fib 10) [
+      | inl lt ↦ omega (arith, lt, services_phase III c false first 86 (services_four first.fib) h)
+      | inr ge ↦
+          let at : first.fib ≡ 10 = omega (arith, ge, one) in
+          omega (arith, at, services_phase III c false first 85 (subst (λ f. Suffices III 0 1 85 f) (sym at) services_behind_ten) h)
+    ] in
+    let three : (behind III second (packets_only c false)).fib ≤ second.fib + 14 = packets_phase III c false second h in
+    subst (λ (q : PackState). q.fib ≤ 109) (sym (facts_walk III c false start)) (omega (arith, two, three))
+
+last_behind : (mode : Mode) (p : PackState) (ms : List Marked) → last_number p.fib (numbers_from mode p ms) ≡ (behind mode p ms).fib
+last_behind mode p [] = refl
+last_behind mode p (m ∷ ms) = last_behind mode (placed mode m p) ms
+
+-- the last FIBs of one configuration and of two
+record Reach (mode : Mode) (c d : Configuration) (one two : ℕ) : Type 0 where
+  alone : last_number 0 (packing mode (page_set c None)) ≤ one
+  both : last_number 0 (packing mode (page_set c (Some d))) ≤ two
+
+reach : (mode : Mode) (c d : Configuration) (one two : ℕ) → IsConfiguration d → (behind mode start (facts_of c false)).fib ≤ one → one + facts_most mode ≤ two → Reach mode c d one two
+reach mode c d one two hd h sum =
+    let first : PackState = behind mode start (facts_of c false) in
+    let more : (behind mode first (facts_of d true)).fib ≤ first.fib + facts_most mode = facts_phase mode d true first hd in
+    let both : behind mode start (facts_of c false ++ facts_of d true) ≡ behind mode first (facts_of d true) = behind-append mode start (facts_of c false) (facts_of d true) in
+    let last_one : last_number 0 (packing mode (facts_of c false)) ≡ first.fib = last_behind mode start (facts_of c false) in
+    let last_two : last_number 0 (packing mode (facts_of c false ++ facts_of d true)) ≡ (behind mode first (facts_of d true)).fib =
+    last_behind mode start (facts_of c false ++ facts_of d true) ∙ ap (λ (q : PackState). q.fib) both in
+    record {
+      alone = omega (arith, h, last_one);
+      both = omega (arith, more, h, sum, last_two);
+    }
+
+pub most_pages : (mode : Mode) (c d : Configuration) → IsConfiguration c → IsConfiguration d → (rounds mode (page_set c None) ≤ most_alone mode) × (rounds mode (page_set c (Some d)) ≤ most_together mode)
+most_pages I c d hc hd = let r = reach I c d 121 242 hd (facts_phase I c false start hc) (omega arith) in (omega (arith, r.alone), omega (arith, r.both))
+most_pages II c d hc hd = let r = reach II c d 121 242 hd (facts_phase II c false start hc) (omega arith) in (omega (arith, r.alone), omega (arith, r.both))
+most_pages III c d hc hd = let r = reach III c d 109 219 hd (facts_first c hc) (omega arith) in (omega (arith, r.alone), omega (arith, r.both))
+most_pages IV c d hc hd = let r = reach IV c d 121 242 hd (facts_phase IV c false start hc) (omega arith) in (omega (arith, r.alone), omega (arith, r.both))

@@ -1,10 +1,15 @@
 -- The row of entries cut into pages, and pages into FIBs: pieces of the list, joined in order.
-use Rattle.std.proofs.Common.{◌≡◌, ℕ, ◌+◌, ◌*◌, ◌/◌, ◌<◌, ◌≤◌, ◌==◌, Bool, true, false, ◌&&◌, List, [], ◌∷◌, ◌++◌, zero, suc, length, refl, sym, ◌∙◌, ap, subst, inl, inr, if◌then◌else◌, nat_lt, arith, eq-eqb, Contains, lt-ltb, le-ltb}
-use Rattle.std.proofs.lemmas.Bool.{ne_eqb, cases_lt}
+use Rattle.std.proofs.Common.{◌≡◌, ℕ, ◌+◌, ◌/◌, ◌<◌, ◌≤◌, ◌==◌, Bool, true, false, ◌&&◌, List, [], ◌∷◌, ◌++◌, zero, suc, length, refl, sym, ◌∙◌, ap, subst, inl, inr, if◌then◌else◌, nat_lt, nat_le, flat_map, ◌-◌, arith, eq-eqb, Contains, lt-ltb, le-ltb}
+use Rattle.fib_codec.specs.declared.modes.Mode.{Mode}
+use Rattle.std.specs.List.{range_with_len}
+use Rattle.std.proofs.lemmas.Bool.{ne_eqb, cases_lt, le-leb, lt-leb}
 use Rattle.std.proofs.lemmas.List.Elements.{Contains-append_cases}
 use Rattle.mux_config.specs.Facts.{Marked}
-use Rattle.fib_carousel.specs.Packing.{entries_where, NeverFalls, last_number, start, packing}
-use Rattle.fib_carousel.specs.Pages.{rounds, fib_entries, page_entries, pages_below}
+use Rattle.fib_carousel.specs.Packing.{entries_where, entries_in_fib, NeverFalls, last_number}
+use Rattle.fib_carousel.specs.Greedy.{start, packing}
+use Rattle.fib_carousel.specs.Pages.{rounds, fib_entries, page_entries, pages_below, first_fib, fibs_of_page}
+use Rattle.fib_codec.specs.Modes.{fib_count}
+use Rattle.fib_carousel.proofs.Widths.{some_fibs, no_page, next_page, in_its_page, before_its_page, behind_its_page, later_page, within_its_page}
 use Rattle.fib_carousel.proofs.Least.{numbers_rise, length-numbers_from}
 
 -- nothing passes a test that fails from the first number on
@@ -15,7 +20,7 @@ none_where test low f (e ∷ es) (n ∷ ns) r =
     rw (f n r.0) (none_where test n (λ m h. f m (omega (arith, h, r.0))) es ns r.1)
 
 -- the numbers stand below the last
-last_rises : (k : ℕ) (ns : List ℕ) → NeverFalls k ns → k ≤ last_number k ns
+pub last_rises : (k : ℕ) (ns : List ℕ) → NeverFalls k ns → k ≤ last_number k ns
 last_rises k [] r = omega arith
 last_rises k (n ∷ ns) r = let more : n ≤ last_number n ns = last_rises n ns r.1 in omega (arith, more, r.0)
 
@@ -55,94 +60,124 @@ join_where first second both at s k (e ∷ es) (n ∷ ns) r =
     by true again = ap (λ xs. e ∷ xs) again
     by false again = again
 
-packing_rises : (es : List Marked) → NeverFalls 0 (packing es)
-packing_rises es = numbers_rise start es 0 (omega arith)
+packing_rises : (mode : Mode) (es : List Marked) → NeverFalls 0 (packing mode es)
+packing_rises mode es = numbers_rise mode start es 0 (omega arith)
 
--- the pages below k are the entries whose numbers are below 3 k
-page_splits : (k : ℕ) → Splits (λ m. nat_lt m (3 * k)) (λ m. m / 3 == k) (λ m. nat_lt m (3 * suc k)) (3 * k)
-page_splits k = record {
-  low = λ m h. (ne_eqb (m / 3) k (λ q. omega (arith, h, q)), lt-ltb m (3 * k) h ∙ sym (lt-ltb m (3 * suc k) (omega (arith, h))));
-  high = λ m h. (
-    le-ltb m (3 * k) h,
-    elim (cases_lt m (3 * suc k)) [
-      | inl lt ↦ eq-eqb (m / 3) k (omega (arith, h, lt)) ∙ sym (lt-ltb m (3 * suc k) lt)
-      | inr ge ↦ ne_eqb (m / 3) k (λ q. omega (arith, ge, q)) ∙ sym (le-ltb m (3 * suc k) ge)
-    ],
-  );
-}
+-- the pages below k are the entries whose numbers are below that of its first FIB
+page_splits : (mode : Mode) (k : ℕ) → Splits (λ m. nat_lt m (first_fib mode k)) (λ m. m / fib_count mode == k) (λ m. nat_lt m (first_fib mode (suc k))) (first_fib mode k)
+page_splits mode k =
+    let next : first_fib mode (suc k) ≡ first_fib mode k + fib_count mode = next_page mode k in
+    record {
+      low = λ m h. (
+        ne_eqb (m / fib_count mode) k (before_its_page mode k m h),
+        lt-ltb m (first_fib mode k) h ∙ sym (lt-ltb m (first_fib mode (suc k)) (omega (arith, h, next))),
+      );
+      high = λ m h. (
+        le-ltb m (first_fib mode k) h,
+        elim (cases_lt m (first_fib mode (suc k))) [
+          | inl lt ↦ eq-eqb (m / fib_count mode) k (in_its_page mode k m h (omega (arith, lt, next))) ∙ sym (lt-ltb m (first_fib mode (suc k)) lt)
+          | inr ge ↦ ne_eqb (m / fib_count mode) k (behind_its_page mode k m (omega (arith, ge, next))) ∙ sym (le-ltb m (first_fib mode (suc k)) ge)
+        ],
+      );
+    }
 
-below_is_where : (k : ℕ) (es : List Marked) → pages_below k es ≡ entries_where (λ m. nat_lt m (3 * k)) es (packing es)
-below_is_where zero es = sym (none_where (λ m. nat_lt m (3 * 0)) 0 (λ m h. le-ltb m (3 * 0) (omega (arith, h))) es (packing es) (packing_rises es))
-below_is_where (suc k) es =
-    ap (λ xs. xs ++ page_entries k es) (below_is_where k es)
-    ∙ join_where (λ m. nat_lt m (3 * k)) (λ m. m / 3 == k) (λ m. nat_lt m (3 * suc k)) (3 * k) (page_splits k) 0 es (packing es) (packing_rises es)
+below_is_where : (mode : Mode) (k : ℕ) (es : List Marked) → pages_below mode k es ≡ entries_where (λ m. nat_lt m (first_fib mode k)) es (packing mode es)
+below_is_where mode zero es =
+    let none : first_fib mode 0 ≡ 0 = no_page mode in
+    sym (none_where (λ m. nat_lt m (first_fib mode 0)) 0 (λ m h. le-ltb m (first_fib mode 0) (omega (arith, h, none))) es (packing mode es) (packing_rises mode es))
+below_is_where mode (suc k) es =
+    ap (λ xs. xs ++ page_entries mode k es) (below_is_where mode k es)
+    ∙ join_where (λ m. nat_lt m (first_fib mode k)) (λ m. m / fib_count mode == k) (λ m. nat_lt m (first_fib mode (suc k))) (first_fib mode k) (page_splits mode k) 0 es (packing mode es) (packing_rises mode es)
 
-pub pages_are_all : (es : List Marked) → pages_below (rounds es) es ≡ es
-pages_are_all es =
-    let top : ℕ = last_number 0 (packing es) in
-    below_is_where (rounds es) es
-    ∙ all_up_to (λ m. nat_lt m (3 * rounds es)) top (λ m h. lt-ltb m (3 * rounds es) (omega (arith, h))) 0 es (packing es) (packing_rises es) (omega arith) (length-numbers_from start es)
+pub pages_are_all : (mode : Mode) (es : List Marked) → pages_below mode (rounds mode es) es ≡ es
+pages_are_all mode es =
+    let top : ℕ = last_number 0 (packing mode es) in
+    let within : top < first_fib mode (rounds mode es) = within_its_page mode top in
+    below_is_where mode (rounds mode es) es
+    ∙ all_up_to (λ m. nat_lt m (first_fib mode (rounds mode es))) top (λ m h. lt-ltb m (first_fib mode (rounds mode es)) (omega (arith, h, within))) 0 es (packing mode es) (packing_rises mode es) (omega arith) (length-numbers_from mode start es)
 
-pub none_beyond : (es : List Marked) (k : ℕ) → rounds es ≤ k → page_entries k es ≡ []
-none_beyond es k h =
-    let top : ℕ = last_number 0 (packing es) in
-    none_up_to (λ m. m / 3 == k) top (λ m l. ne_eqb (m / 3) k (λ q. omega (arith, h, l, q))) 0 es (packing es) (packing_rises es) (omega arith)
+pub none_beyond : (mode : Mode) (es : List Marked) (k : ℕ) → rounds mode es ≤ k → page_entries mode k es ≡ []
+none_beyond mode es k h =
+    let top : ℕ = last_number 0 (packing mode es) in
+    none_up_to (λ m. m / fib_count mode == k) top (λ m l. ne_eqb (m / fib_count mode) k (λ q. omega (arith, h, q, later_page mode m top l))) 0 es (packing mode es) (packing_rises mode es) (omega arith)
 
-in_some_page : (k : ℕ) (es : List Marked) (e : Marked) → Contains (pages_below k es) e → (j : ℕ) × (j < k) × Contains (page_entries j es) e
-in_some_page zero es e h = absurd (omega (arith, h.1))
-in_some_page (suc k) es e h =
-    elim (Contains-append_cases (pages_below k es) (page_entries k es) e h) [
-      | inl below ↦ let found = in_some_page k es e below in (found.0, omega (arith, found.1), found.2)
+in_some_page : (mode : Mode) (k : ℕ) (es : List Marked) (e : Marked) → Contains (pages_below mode k es) e → (j : ℕ) × (j < k) × Contains (page_entries mode j es) e
+in_some_page mode zero es e h = absurd (omega (arith, h.1))
+in_some_page mode (suc k) es e h =
+    elim (Contains-append_cases (pages_below mode k es) (page_entries mode k es) e h) [
+      | inl below ↦ let found = in_some_page mode k es e below in (found.0, omega (arith, found.1), found.2)
       | inr here ↦ (k, omega arith, here)
     ]
 
-pub each_in_a_page : (es : List Marked) (e : Marked) → Contains es e → (k : ℕ) × (k < rounds es) × Contains (page_entries k es) e
-each_in_a_page es e h = in_some_page (rounds es) es e (subst (λ xs. Contains xs e) (sym (pages_are_all es)) h)
+pub each_in_a_page : (mode : Mode) (es : List Marked) (e : Marked) → Contains es e → (k : ℕ) × (k < rounds mode es) × Contains (page_entries mode k es) e
+each_in_a_page mode es e h = in_some_page mode (rounds mode es) es e (subst (λ xs. Contains xs e) (sym (pages_are_all mode es)) h)
 
--- the first two FIBs of page k
-abbrev in_first_two : ℕ → ℕ → Bool
-in_first_two k m = nat_lt m (3 * k + 2) && m / 3 == k
+-- the numbers of some successive FIBs, from n on
+abbrev in_span : ℕ → ℕ → ℕ → Bool
+in_span n count m = nat_le n m && nat_lt m (n + count)
 
-first_splits : (k : ℕ) → Splits (λ m. m == 3 * k) (λ m. m == 3 * k + 1) (in_first_two k) (3 * k + 1)
-first_splits k = record {
+in_span_by : (n count m : ℕ) (low high : Bool) → nat_le n m ≡ low → nat_lt m (n + count) ≡ high → in_span n count m ≡ (low && high)
+in_span_by n count m low high f g = rw (f, g) refl
+
+in_span_below : (n count m : ℕ) → m < n → in_span n count m ≡ false
+in_span_below n count m h = ap (λ b. b && nat_lt m (n + count)) (lt-leb n m h)
+
+in_span_behind : (n count m : ℕ) → n + count ≤ m → in_span n count m ≡ false
+in_span_behind n count m h = in_span_by n count m true false (le-leb n m (omega (arith, h))) (le-ltb m (n + count) h)
+
+in_span_inside : (n count m : ℕ) → n ≤ m → m < n + count → in_span n count m ≡ true
+in_span_inside n count m low high = in_span_by n count m true true (le-leb n m low) (lt-ltb m (n + count) high)
+
+span_splits : (n count : ℕ) → Splits (λ m. m == n) (in_span (n + 1) count) (in_span n (suc count)) (n + 1)
+span_splits n count = record {
   low = λ m h. (
-    ne_eqb m (3 * k + 1) (λ q. omega (arith, h, q)),
-    elim (cases_lt m (3 * k)) [
-      | inl lt ↦ ne_eqb m (3 * k) (λ q. omega (arith, lt, q)) ∙ sym (both m true false (lt-ltb m (3 * k + 2) (omega (arith, h))) (ne_eqb (m / 3) k (λ q. omega (arith, lt, q))))
-      | inr ge ↦ eq-eqb m (3 * k) (omega (arith, h, ge)) ∙ sym (both m true true (lt-ltb m (3 * k + 2) (omega (arith, h))) (eq-eqb (m / 3) k (omega (arith, h, ge))))
+    in_span_below (n + 1) count m h,
+    elim (cases_lt m n) [
+      | inl lt ↦ ne_eqb m n (λ q. omega (arith, lt, q)) ∙ sym (in_span_below n (suc count) m lt)
+      | inr ge ↦ eq-eqb m n (omega (arith, h, ge)) ∙ sym (in_span_inside n (suc count) m ge (omega (arith, h)))
     ],
   );
   high = λ m h. (
-    ne_eqb m (3 * k) (λ q. omega (arith, h, q)),
-    elim (cases_lt m (3 * k + 2)) [
-      | inl lt ↦ eq-eqb m (3 * k + 1) (omega (arith, h, lt)) ∙ sym (both m true true (lt-ltb m (3 * k + 2) lt) (eq-eqb (m / 3) k (omega (arith, h, lt))))
-      | inr ge ↦ ne_eqb m (3 * k + 1) (λ q. omega (arith, ge, q)) ∙ sym (ap (λ b. b && m / 3 == k) (le-ltb m (3 * k + 2) ge))
-    ],
-  );
-}
-  where
-    both : (m : ℕ) (b c : Bool) → nat_lt m (3 * k + 2) ≡ b → (m / 3 == k) ≡ c → in_first_two k m ≡ (b && c)
-    both m b c f g = rw (f, g) refl
-
-third_splits : (k : ℕ) → Splits (in_first_two k) (λ m. m == 3 * k + 2) (λ m. m / 3 == k) (3 * k + 2)
-third_splits k = record {
-  low = λ m h. (
-    ne_eqb m (3 * k + 2) (λ q. omega (arith, h, q)),
-    ap (λ b. b && m / 3 == k) (lt-ltb m (3 * k + 2) h),
-  );
-  high = λ m h. (
-    ap (λ b. b && m / 3 == k) (le-ltb m (3 * k + 2) h),
-    elim (cases_lt m (3 * k + 3)) [
-      | inl lt ↦ eq-eqb m (3 * k + 2) (omega (arith, h, lt)) ∙ sym (eq-eqb (m / 3) k (omega (arith, h, lt)))
-      | inr ge ↦ ne_eqb m (3 * k + 2) (λ q. omega (arith, ge, q)) ∙ sym (ne_eqb (m / 3) k (λ q. omega (arith, ge, q)))
+    ne_eqb m n (λ q. omega (arith, h, q)),
+    elim (cases_lt m (n + suc count)) [
+      | inl lt ↦ in_span_inside (n + 1) count m h (omega (arith, lt)) ∙ sym (in_span_inside n (suc count) m (omega (arith, h)) lt)
+      | inr ge ↦ in_span_behind (n + 1) count m (omega (arith, ge)) ∙ sym (in_span_behind n (suc count) m ge)
     ],
   );
 }
 
-pub page_is_fibs : (es : List Marked) (k : ℕ) → page_entries k es ≡ fib_entries (3 * k) es ++ fib_entries (3 * k + 1) es ++ fib_entries (3 * k + 2) es
-page_is_fibs es k =
-    let ns : List ℕ = packing es in
-    let rising : NeverFalls 0 ns = packing_rises es in
-    let two = join_where (λ m. m == 3 * k) (λ m. m == 3 * k + 1) (in_first_two k) (3 * k + 1) (first_splits k) 0 es ns rising in
-    let three = join_where (in_first_two k) (λ m. m == 3 * k + 2) (λ m. m / 3 == k) (3 * k + 2) (third_splits k) 0 es ns rising in
-    sym (ap (λ xs. xs ++ fib_entries (3 * k + 2) es) two ∙ three)
+-- successive FIBs have the entries with their numbers
+span_is : (count n : ℕ) (es : List Marked) (ns : List ℕ) → NeverFalls 0 ns → flat_map (λ i. entries_in_fib i es ns) (range_with_len n count) ≡ entries_where (in_span n count) es ns
+span_is zero n es ns r =
+    sym (none_where (in_span n 0) 0 (λ m _. elim (cases_lt m n) [ inl lt ↦ in_span_below n 0 m lt | inr ge ↦ in_span_behind n 0 m (omega (arith, ge)) ]) es ns r)
+span_is (suc count) n es ns r =
+    ap (λ xs. entries_in_fib n es ns ++ xs) (span_is count (n + 1) es ns r)
+    ∙ join_where (λ m. m == n) (in_span (n + 1) count) (in_span n (suc count)) (n + 1) (span_splits n count) 0 es ns r
+
+-- equal tests pass the same entries
+where_same : (f g : ℕ → Bool) → ((m : ℕ) → f m ≡ g m) → (es : List Marked) (ns : List ℕ) → entries_where f es ns ≡ entries_where g es ns
+where_same f g h [] ns = refl
+where_same f g h (e ∷ es) [] = refl
+where_same f g h (e ∷ es) (n ∷ ns) =
+    ap (λ b. if b then e ∷ entries_where f es ns else entries_where f es ns) (h n)
+    ∙ ap (λ xs. if g n then e ∷ xs else xs) (where_same f g h es ns)
+
+span_of_page : (mode : Mode) (k m : ℕ) → in_span (first_fib mode k) (suc (fib_count mode - 1)) m ≡ (m / fib_count mode == k)
+span_of_page mode k m =
+    let first : ℕ = first_fib mode k in
+    let count : suc (fib_count mode - 1) ≡ fib_count mode = omega (arith, some_fibs mode) in
+    elim (cases_lt m first) [
+      | inl lt ↦ in_span_below first (suc (fib_count mode - 1)) m lt ∙ sym (ne_eqb (m / fib_count mode) k (before_its_page mode k m lt))
+      | inr ge ↦
+          elim (cases_lt m (first + fib_count mode)) [
+            | inl lt ↦ in_span_inside first (suc (fib_count mode - 1)) m ge (omega (arith, lt, count)) ∙ sym (eq-eqb (m / fib_count mode) k (in_its_page mode k m ge lt))
+            | inr over ↦ in_span_behind first (suc (fib_count mode - 1)) m (omega (arith, over, count)) ∙ sym (ne_eqb (m / fib_count mode) k (behind_its_page mode k m over))
+          ]
+    ]
+
+pub page_is_fibs : (mode : Mode) (es : List Marked) (k : ℕ) → page_entries mode k es ≡ flat_map (λ n. fib_entries mode n es) (fibs_of_page mode k)
+page_is_fibs mode es k =
+    sym (
+    span_is (suc (fib_count mode - 1)) (first_fib mode k) es (packing mode es) (packing_rises mode es)
+    ∙ where_same (in_span (first_fib mode k) (suc (fib_count mode - 1))) (λ m. m / fib_count mode == k) (span_of_page mode k) es (packing mode es)
+    )

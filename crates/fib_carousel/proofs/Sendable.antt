@@ -16,7 +16,7 @@ use Rattle.mux_config.specs.declared.numbers.Sid.TheVariants.{Short, Long}
 use Rattle.fib_codec.specs.Ranges.{IsComponentEntry}
 use Rattle.fib_codec.specs.Spelling.{sid_size}
 use Rattle.fib_carousel.specs.Pages.{page_set}
-use Rattle.fib_carousel.specs.Row.{IsSendable, AreSendable}
+use Rattle.fib_carousel.specs.Carried.{IsSendable, AreSendable}
 
 pub each_append : {A : Type 0} (P : A → Type 0) (xs ys : List A) → Each P xs → Each P ys → Each P (xs ++ ys)
 each_append P [] ys p q = q

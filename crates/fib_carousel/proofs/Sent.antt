@@ -1,48 +1,26 @@
--- A piece of the row sent as FIGs.
-use Rattle.std.proofs.Common.{◌≡◌, ℕ, ◌+◌, ◌-◌, ◌*◌, ◌<◌, ◌≤◌, Bool, true, false, List, [], ◌∷◌, ◌++◌, zero, suc, length, take, drop, slice_get, Option, Some, None, is_some, IsTrue, IsSome, ◌%◌, refl, sym, ◌∙◌, ap, subst, inl, inr, if◌then◌else◌, arith, eq-eqb, append_assoc}
-use Rattle.std.proofs.lemmas.List.{length-append, length-take-le, length-drop, drop-take, drop-drop, take_at, drop_at, drop_all}
+-- A range of the list sent as FIGs.
+use Rattle.std.proofs.Common.{◌≡◌, ℕ, ◌+◌, ◌-◌, ◌*◌, ◌<◌, ◌≤◌, Bool, true, false, List, [], ◌∷◌, ◌++◌, zero, suc, length, flat_map, take, drop, slice_get, Option, Some, None, IsSome, ◌%◌, refl, sym, ◌∙◌, ap, subst, inl, inr, arith, eq-eqb, append_assoc}
+use Rattle.fib_codec.specs.declared.modes.Mode.{Mode}
+use Rattle.std.proofs.lemmas.List.{length-append, length-take-le, length-drop, drop-take, drop-drop, take-take}
 use Rattle.mux_config.specs.Configuration.{Each}
 use Rattle.mux_config.specs.Entries.{EnsembleInformation}
 use Rattle.mux_config.specs.Facts.{Marked}
 use Rattle.mux_config.specs.declared.entry.Entry.{Entry}
 use Rattle.mux_config.specs.declared.entry.Entry.TheVariants.{Ensemble as EnsembleOf, Sub as SubOf, Short as ShortOf, Service as ServiceOf, Packet as PacketOf}
-use Rattle.mux_config.specs.declared.numbers.Sid.{Sid}
-use Rattle.mux_config.specs.declared.numbers.Sid.TheVariants.{Short, Long}
 use Rattle.fib_codec.specs.declared.head.Head.{Head}
-use Rattle.fib_codec.specs.Spelling.{Written, IsWritten, IsFormed, IsUnder, head_of, ext_of, entry_size, sid_size, fig_bytes, figs_bytes, FitsFig}
-use Rattle.fib_carousel.specs.declared.cursor.Piece.{Piece}
-use Rattle.fib_carousel.specs.declared.place.Shape.{Shape}
-use Rattle.fib_carousel.specs.Packing.{size_of, same_flag, same_head, cost, figs_size, room, AreSmall}
+use Rattle.fib_codec.specs.Modes.{fib_count}
+use Rattle.fib_codec.specs.Spelling.{Written, IsWritten, IsUnder, head_of, ext_of, entry_bytes, entries_bytes, head_byte, fig_bytes, figs_bytes}
+use Rattle.fib_codec.proofs.Lengths.{entry_length}
+use Rattle.fib_carousel.specs.declared.pack_state.EntryRange.{EntryRange}
+use Rattle.fib_carousel.specs.declared.pack_state.EntryShape.{EntryShape}
+use Rattle.fib_carousel.specs.Packing.{size_of, same_flag, same_head, figs_size, room, AreSmall}
 use Rattle.fib_carousel.specs.Pages.{fib_entries}
-use Rattle.fib_carousel.specs.Bytes.{joined, figs_of, stretch_of}
-use Rattle.fib_carousel.specs.Row.{IsSendable, AreSendable, IsShapeAt, piece_of}
-use Rattle.fib_carousel.proofs.Least.{cost_low, room_high, room_cases, greedy_is_packing}
-use Rattle.fib_carousel.proofs.Sharing.{same_head_is, after_stretch, figs_front, figs_cost, written_of}
-use Rattle.fib_carousel.proofs.Walk.{drop_here, nothing_behind}
-
--- entries have three bytes or more, so ten at most fit a FIB
-with_flag : (b : Bool) (one other : ℕ) → 3 ≤ one → 3 ≤ other → 3 ≤ (if b then one else other)
-with_flag true one other h k = h
-with_flag false one other h k = k
-
-service_low : (sid : Sid) (n : ℕ) → 3 ≤ sid_size sid + 1 + 2 * n
-service_low (Short k) n = omega arith
-service_low (Long k) n = omega arith
-
-pub size_low : (e : Entry) → 3 ≤ entry_size e
-size_low (EnsembleOf e) = with_flag (is_some e.occurrence) 5 4 (omega arith) (omega arith)
-size_low (SubOf s) = omega arith
-size_low (ShortOf s) = omega arith
-size_low (ServiceOf s) = service_low s.sid (length s.components)
-size_low (PacketOf p) = with_flag (is_some p.ca_org) 7 5 (omega arith) (omega arith)
-
-pub count_low : (h : Option Head) (ms : List Marked) → 3 * length ms ≤ figs_size h ms
-count_low h [] = omega arith
-count_low h (m ∷ ms) =
-    let here : size_of m ≤ cost h m = cost_low h m in
-    let low : 3 ≤ size_of m = size_low m.entry in
-    let rest : 3 * length ms ≤ figs_size (Some (head_of m)) ms = count_low (Some (head_of m)) ms in
-    omega (arith, here, low, rest)
+use Rattle.fib_carousel.specs.Bytes.{joined, figs_of, run_of}
+use Rattle.fib_carousel.specs.Carried.{IsSendable, AreSendable}
+use Rattle.fib_carousel.specs.Walk.{IsShapeAt, entries_of_range, bytes_of_range}
+use Rattle.fib_carousel.proofs.Least.{room_high, room_cases, greedy_is_packing}
+use Rattle.fib_carousel.proofs.Sharing.{same_head_is, after_run, figs_front, figs_cost, written_of}
+use Rattle.fib_carousel.proofs.Walk.{drop_here}
 
 pub each_take : {A : Type 0} (P : A → Type 0) (n : ℕ) (xs : List A) → Each P xs → Each P (take n xs)
 each_take P zero xs h = tt
@@ -54,7 +32,7 @@ each_drop P zero xs h = h
 each_drop P (suc n) [] h = h
 each_drop P (suc n) (x ∷ xs) h = each_drop P n xs h.1
 
-pub sendable_piece : (s : Piece) (ms : List Marked) → AreSendable ms → AreSendable (piece_of s ms)
+pub sendable_piece : (s : EntryRange) (ms : List Marked) → AreSendable ms → AreSendable (entries_of_range s ms)
 sendable_piece s ms h = each_take IsSendable (s.to - s.from) (drop s.from ms) (each_drop IsSendable s.from ms h)
 
 pub small_all : (ms : List Marked) → AreSendable ms → AreSmall ms
@@ -62,12 +40,12 @@ small_all [] h = tt
 small_all (m ∷ ms) h = (h.0.small, small_all ms h.1)
 
 -- what the packing puts into a FIB fits there
-pub fib_fits : (ms : List Marked) (n : ℕ) → AreSendable ms → figs_size None (fib_entries n ms) ≤ room n
-fib_fits ms n h = (greedy_is_packing ms (small_all ms h)).division.fits n
+pub fib_fits : (mode : Mode) (ms : List Marked) (n : ℕ) → AreSendable ms → figs_size None (fib_entries mode n ms) ≤ room mode n
+fib_fits mode ms n h = (greedy_is_packing mode ms (small_all ms h)).division.fits n
 
 -- how many entries a piece has
-pub length-piece_of : (s : Piece) (ms : List Marked) → s.to ≤ length ms → length (piece_of s ms) ≡ s.to - s.from
-length-piece_of s ms h = length-take-le (s.to - s.from) (drop s.from ms) (rw (length-drop s.from ms) (omega (arith, h)))
+pub length-entries_of_range : (s : EntryRange) (ms : List Marked) → s.to ≤ length ms → length (entries_of_range s ms) ≡ s.to - s.from
+length-entries_of_range s ms h = length-take-le (s.to - s.from) (drop s.from ms) (rw (length-drop s.from ms) (omega (arith, h)))
 
 -- the entry at the front of a piece, and what is behind it
 pub piece_front : (ms : List Marked) (at to : ℕ) (m : Marked) → at < to → slice_get ms at ≡ Some m → take (to - at) (drop at ms) ≡ m ∷ take (to - (at + 1)) (drop (at + 1) ms)
@@ -91,19 +69,19 @@ pub same_head_own : (h : Head) → same_head h h ≡ true
 same_head_own h = rw (same_flag_own h.next, same_flag_own h.oe, same_flag_own h.long, eq-eqb h.ext h.ext refl) refl
 
 -- the stretch at the front, and what it leaves
-pub after_stretch-drop : (h : Head) (ms : List Marked) → after_stretch h ms ≡ drop (length (stretch_of h ms)) ms
-after_stretch-drop h [] = refl
-after_stretch-drop h (m ∷ ms) = by (same_head h (head_of m)) refl (after_stretch-drop h ms)
+pub after_run-drop : (h : Head) (ms : List Marked) → after_run h ms ≡ drop (length (run_of h ms)) ms
+after_run-drop h [] = refl
+after_run-drop h (m ∷ ms) = by (same_head h (head_of m)) refl (after_run-drop h ms)
   where
-    by : (b : Bool) → same_head h (head_of m) ≡ b → after_stretch h ms ≡ drop (length (stretch_of h ms)) ms → after_stretch h (m ∷ ms) ≡ drop (length (stretch_of h (m ∷ ms))) (m ∷ ms)
+    by : (b : Bool) → same_head h (head_of m) ≡ b → after_run h ms ≡ drop (length (run_of h ms)) ms → after_run h (m ∷ ms) ≡ drop (length (run_of h (m ∷ ms))) (m ∷ ms)
     by true e again = rw e again
     by false e again = rw e refl
 
-pub length-stretch_of : (h : Head) (ms : List Marked) → length (stretch_of h ms) ≤ length ms
-length-stretch_of h [] = omega arith
-length-stretch_of h (m ∷ ms) = by (same_head h (head_of m)) refl (length-stretch_of h ms)
+pub length-run_of : (h : Head) (ms : List Marked) → length (run_of h ms) ≤ length ms
+length-run_of h [] = omega arith
+length-run_of h (m ∷ ms) = by (same_head h (head_of m)) refl (length-run_of h ms)
   where
-    by : (b : Bool) → same_head h (head_of m) ≡ b → length (stretch_of h ms) ≤ length ms → length (stretch_of h (m ∷ ms)) ≤ length (m ∷ ms)
+    by : (b : Bool) → same_head h (head_of m) ≡ b → length (run_of h ms) ≤ length ms → length (run_of h (m ∷ ms)) ≤ length (m ∷ ms)
     by true e again = rw e (omega (arith, again))
     by false e again = rw e (omega arith)
 
@@ -153,21 +131,21 @@ pub record Fronted (ms : List Marked) (at to : ℕ) (head : Head) (es : List Ent
   pub within : at + length es ≤ to
   pub figs : figs_of (take (to - at) (drop at ms)) ≡ written_of head es ∷ figs_of (take (to - (at + length es)) (drop (at + length es) ms))
 
-pub fronted : (ms : List Marked) (at to : ℕ) (m : Marked) (head : Head) (es : List Entry) → at < to → to ≤ length ms → slice_get ms at ≡ Some m → head ≡ head_of m → es ≡ stretch_of head (take (to - at) (drop at ms)) → Fronted ms at to head es
+pub fronted : (ms : List Marked) (at to : ℕ) (m : Marked) (head : Head) (es : List Entry) → at < to → to ≤ length ms → slice_get ms at ≡ Some m → head ≡ head_of m → es ≡ run_of head (take (to - at) (drop at ms)) → Fronted ms at to head es
 fronted ms at to m head es lt end here own stretch =
     let piece : List Marked = take (to - at) (drop at ms) in
     let rest : List Marked = take (to - (at + 1)) (drop (at + 1) ms) in
     let front : piece ≡ m ∷ rest = piece_front ms at to m lt here in
-    let own_front : stretch_of (head_of m) (m ∷ rest) ≡ m.entry ∷ stretch_of (head_of m) rest = rw (same_head_own (head_of m)) refl in
-    let whole : es ≡ m.entry ∷ stretch_of (head_of m) rest =
-    stretch ∙ ap (λ (h : Head). stretch_of h piece) own ∙ ap (λ xs. stretch_of (head_of m) xs) front ∙ own_front in
+    let own_front : run_of (head_of m) (m ∷ rest) ≡ m.entry ∷ run_of (head_of m) rest = rw (same_head_own (head_of m)) refl in
+    let whole : es ≡ m.entry ∷ run_of (head_of m) rest =
+    stretch ∙ ap (λ (h : Head). run_of h piece) own ∙ ap (λ xs. run_of (head_of m) xs) front ∙ own_front in
     let count : length es ≤ to - at =
-    rw (← length-piece_of (record { from = at; to = to }) ms end) (subst (λ (xs : List Entry). length xs ≤ length piece) (sym stretch) (length-stretch_of head piece)) in
+    rw (← length-entries_of_range (record { from = at; to = to }) ms end) (subst (λ (xs : List Entry). length xs ≤ length piece) (sym stretch) (length-run_of head piece)) in
     let within : at + length es ≤ to = omega (arith, count, lt) in
-    let after_own : after_stretch (head_of m) (m ∷ rest) ≡ after_stretch (head_of m) rest = rw (same_head_own (head_of m)) refl in
-    let behind : after_stretch (head_of m) rest ≡ take (to - (at + length es)) (drop (at + length es) ms) =
+    let after_own : after_run (head_of m) (m ∷ rest) ≡ after_run (head_of m) rest = rw (same_head_own (head_of m)) refl in
+    let behind : after_run (head_of m) rest ≡ take (to - (at + length es)) (drop (at + length es) ms) =
     sym after_own
-    ∙ after_stretch-drop (head_of m) (m ∷ rest)
+    ∙ after_run-drop (head_of m) (m ∷ rest)
     ∙ ap (λ (xs : List Entry). drop (length xs) (m ∷ rest)) (own_front ∙ sym whole)
     ∙ ap (λ xs. drop (length es) xs) (sym front)
     ∙ piece_behind ms at to (length es) within in
@@ -177,18 +155,12 @@ fronted ms at to m head es lt end here own stretch =
       figs =
           ap (λ xs. figs_of xs) front
           ∙ figs_front m rest
-          ∙ ap (λ (xs : List Entry). written_of (head_of m) xs ∷ figs_of (after_stretch (head_of m) rest)) (sym whole)
-          ∙ ap (λ (h : Head). written_of h es ∷ figs_of (after_stretch (head_of m) rest)) (sym own)
+          ∙ ap (λ (xs : List Entry). written_of (head_of m) xs ∷ figs_of (after_run (head_of m) rest)) (sym whole)
+          ∙ ap (λ (h : Head). written_of h es ∷ figs_of (after_run (head_of m) rest)) (sym own)
           ∙ ap (λ xs. written_of head es ∷ figs_of xs) behind;
     }
 
--- the FIG of the stretch fits where the whole piece does, and so does the rest behind it
-pub front_formed : (ms : List Marked) (at to : ℕ) (head : Head) (es : List Entry) → AreSendable ms → Fronted ms at to head es → IsFormed head es
-front_formed ms at to head es h f =
-    let written : Each IsWritten (written_of head es ∷ figs_of (take (to - (at + length es)) (drop (at + length es) ms))) =
-    subst (λ fs. Each IsWritten fs) f.figs (written_figs (take (to - at) (drop at ms)) (sendable_piece (record { from = at; to = to }) ms h)) in
-    written.0.formed
-
+-- what the FIG of the stretch takes, and the rest behind it
 pub front_size : (ms : List Marked) (at to : ℕ) (head : Head) (es : List Entry) → Fronted ms at to head es
     → figs_size None (take (to - at) (drop at ms)) ≡ length (fig_bytes head es) + figs_size None (take (to - (at + length es)) (drop (at + length es) ms))
 front_size ms at to head es f =
@@ -205,61 +177,155 @@ front_bytes ms at to head es before f =
     ∙ ap (λ fs. before ++ figs_bytes fs) (sym f.figs)
 
 -- the loop over a stretch
-pub stretch_step : (ms : List Marked) (at to : ℕ) (m : Marked) (head other : Head) → at < to → slice_get ms at ≡ Some m → other ≡ head_of m → same_head head other ≡ true
-    → stretch_of head (take (to - at) (drop at ms)) ≡ m.entry ∷ stretch_of head (take (to - (at + 1)) (drop (at + 1) ms))
-stretch_step ms at to m head other lt here own same =
+pub run_step : (ms : List Marked) (at to : ℕ) (m : Marked) (head other : Head) → at < to → slice_get ms at ≡ Some m → other ≡ head_of m → same_head head other ≡ true
+    → run_of head (take (to - at) (drop at ms)) ≡ m.entry ∷ run_of head (take (to - (at + 1)) (drop (at + 1) ms))
+run_step ms at to m head other lt here own same =
     let same' : same_head head (head_of m) ≡ true = subst (λ (h : Head). same_head head h ≡ true) own same in
-    ap (λ xs. stretch_of head xs) (piece_front ms at to m lt here) ∙ rw same' refl
+    ap (λ xs. run_of head xs) (piece_front ms at to m lt here) ∙ rw same' refl
 
-pub stretch_stop : (ms : List Marked) (at to : ℕ) (m : Marked) (head other : Head) → at < to → slice_get ms at ≡ Some m → other ≡ head_of m → same_head head other ≡ false
-    → stretch_of head (take (to - at) (drop at ms)) ≡ []
-stretch_stop ms at to m head other lt here own differ =
+pub run_stop : (ms : List Marked) (at to : ℕ) (m : Marked) (head other : Head) → at < to → slice_get ms at ≡ Some m → other ≡ head_of m → same_head head other ≡ false
+    → run_of head (take (to - at) (drop at ms)) ≡ []
+run_stop ms at to m head other lt here own differ =
     let differ' : same_head head (head_of m) ≡ false = subst (λ (h : Head). same_head head h ≡ false) own differ in
-    ap (λ xs. stretch_of head xs) (piece_front ms at to m lt here) ∙ rw differ' refl
+    ap (λ xs. run_of head xs) (piece_front ms at to m lt here) ∙ rw differ' refl
 
-same_entry : {A : Type 0} (xs : List A) (i : ℕ) (x y : A) → slice_get xs i ≡ Some x → slice_get xs i ≡ Some y → x ≡ y
-same_entry xs i x y h k = cc
+-- how far the entries of one head were counted: those from the first one on that stand before an index, and their bytes
+pub record Counted (ms : List Marked) (from to at len : ℕ) (head : Head) : Type 0 where
+  pub count : at + length (run_of head (take (to - at) (drop at ms))) ≡ from + length (run_of head (take (to - from) (drop from ms)))
+  pub bytes : len + length (entries_bytes (run_of head (take (to - at) (drop at ms)))) ≡ length (entries_bytes (run_of head (take (to - from) (drop from ms))))
+  pub few : len ≤ 28 * at
 
-pub stretch_ends : (ms : List Marked) (at to : ℕ) (shape : Shape) (head : Head) (before whole : List Entry) → IsShapeAt ms at shape → at < to → same_head head shape.head ≡ false
-    → before ++ stretch_of head (take (to - at) (drop at ms)) ≡ whole → before ≡ whole
-stretch_ends ms at to shape head before whole s lt differ h =
-    nothing_behind before (stretch_of head (take (to - at) (drop at ms))) whole (stretch_stop ms at to s.entry head shape.head lt s.here s.head differ) h
-
-pub stretch_grows : (ms : List Marked) (at to : ℕ) (shape : Shape) (m : Marked) (head : Head) (before after whole : List Entry) → IsShapeAt ms at shape → slice_get ms at ≡ Some m → at < to → same_head head shape.head ≡ true
-    → after ≡ before ++ m.entry ∷ [] → before ++ stretch_of head (take (to - at) (drop at ms)) ≡ whole → after ++ stretch_of head (take (to - (at + 1)) (drop (at + 1) ms)) ≡ whole
-stretch_grows ms at to shape m head before after whole s here lt same grown h =
-    let own : shape.head ≡ head_of m = s.head ∙ ap (λ (n : Marked). head_of n) (same_entry ms at s.entry m s.here here) in
-    let rest : List Entry = stretch_of head (take (to - (at + 1)) (drop (at + 1) ms)) in
-    ap (λ xs. xs ++ rest) grown
-    ∙ append_assoc before (m.entry ∷ []) rest
-    ∙ ap (λ xs. before ++ xs) (sym (stretch_step ms at to m head shape.head lt here own same))
-    ∙ h
-
--- a step over one FIG
-pub record Stepped (ms : List Marked) (at to : ℕ) (head : Head) (es : List Entry) (before : List ℕ) : Type 0 where
-  pub fronted : Fronted ms at to head es
-  pub fits : FitsFig before head es
-  pub room : length (before ++ fig_bytes head es) + figs_size None (take (to - (at + length es)) (drop (at + length es) ms)) ≤ 30
-  pub bytes : (before ++ fig_bytes head es) ++ figs_bytes (figs_of (take (to - (at + length es)) (drop (at + length es) ms))) ≡ before ++ figs_bytes (figs_of (take (to - at) (drop at ms)))
-
-pub stepped : (ms : List Marked) (at to : ℕ) (shape : Shape) (es : List Entry) (before : List ℕ) → AreSendable ms → IsShapeAt ms at shape → at < to → to ≤ length ms
-    → es ≡ stretch_of shape.head (take (to - at) (drop at ms)) → length before + figs_size None (take (to - at) (drop at ms)) ≤ 30 → Stepped ms at to shape.head es before
-stepped ms at to shape es before h s lt end stretch room =
-    let f : Fronted ms at to shape.head es = fronted ms at to s.entry shape.head es lt end s.here s.head stretch in
-    let size : figs_size None (take (to - at) (drop at ms)) ≡ length (fig_bytes shape.head es) + figs_size None (take (to - (at + length es)) (drop (at + length es) ms)) = front_size ms at to shape.head es f in
+pub counted_on : (ms : List Marked) (from to at len : ℕ) (head : Head) (shape : EntryShape) → IsShapeAt ms at shape → at < to → same_head head shape.head ≡ true → shape.size ≤ 28
+    → Counted ms from to at len head → Counted ms from to (at + 1) (len + shape.size) head
+counted_on ms from to at len head shape s lt same small h =
+    let rest : List Entry = run_of head (take (to - (at + 1)) (drop (at + 1) ms)) in
+    let step : run_of head (take (to - at) (drop at ms)) ≡ s.entry.entry ∷ rest = run_step ms at to s.entry head shape.head lt s.here s.head same in
+    let count : length (run_of head (take (to - at) (drop at ms))) ≡ suc (length rest) = ap length step in
+    let bytes : length (entries_bytes (run_of head (take (to - at) (drop at ms)))) ≡ length (entry_bytes s.entry.entry) + length (entries_bytes rest) =
+    ap (λ es. length (entries_bytes es)) step ∙ length-append (entry_bytes s.entry.entry) (entries_bytes rest) in
+    let size : length (entry_bytes s.entry.entry) ≡ shape.size = entry_length s.entry.entry ∙ sym s.size in
     record {
-      fronted = f;
-      fits = record { formed = front_formed ms at to shape.head es h f; room = omega (arith, size, room) };
-      room = rw (length-append before (fig_bytes shape.head es)) (omega (arith, size, room));
-      bytes = front_bytes ms at to shape.head es before f;
+      count = omega (arith, count, h.count);
+      bytes = omega (arith, bytes, size, h.bytes);
+      few = omega (arith, small, h.few);
     }
 
--- ten entries at most
-pub few_left : (ms : List Marked) (at to used : ℕ) → to ≤ length ms → at ≤ to → used + figs_size None (take (to - at) (drop at ms)) ≤ 30 → to ≤ at + 10
-few_left ms at to used end le room =
-    let count : length (take (to - at) (drop at ms)) ≡ to - at = length-piece_of (record { from = at; to = to }) ms end in
-    let low : 3 * length (take (to - at) (drop at ms)) ≤ figs_size None (take (to - at) (drop at ms)) = count_low None (take (to - at) (drop at ms)) in
-    omega (arith, count, low, room, le)
+pub counted_first : (ms : List Marked) (from to : ℕ) (shape : EntryShape) → IsShapeAt ms from shape → from < to → shape.size ≤ 28 → Counted ms from to (from + 1) shape.size shape.head
+counted_first ms from to shape s lt small =
+    let none : Counted ms from to from 0 shape.head = record { count = refl; bytes = omega arith; few = omega arith } in
+    let one : 0 + shape.size ≡ shape.size = omega arith in
+    subst (λ len. Counted ms from to (from + 1) len shape.head) one (counted_on ms from to from 0 shape.head shape s lt (same_head_own shape.head) small none)
+
+-- the count ends at another head, or at the end of the range
+pub record Run (ms : List Marked) (from to at len : ℕ) (head : Head) : Type 0 where
+  pub count : at ≡ from + length (run_of head (take (to - from) (drop from ms)))
+  pub bytes : len ≡ length (entries_bytes (run_of head (take (to - from) (drop from ms))))
+
+counted_all : (ms : List Marked) (from to at len : ℕ) (head : Head) → run_of head (take (to - at) (drop at ms)) ≡ [] → Counted ms from to at len head → Run ms from to at len head
+counted_all ms from to at len head none h =
+    let count : length (run_of head (take (to - at) (drop at ms))) ≡ 0 = ap length none in
+    let bytes : length (entries_bytes (run_of head (take (to - at) (drop at ms)))) ≡ 0 = ap (λ es. length (entries_bytes es)) none in
+    record { count = omega (arith, count, h.count); bytes = omega (arith, bytes, h.bytes) }
+
+pub counted_to_other : (ms : List Marked) (from to at len : ℕ) (head : Head) (shape : EntryShape) → IsShapeAt ms at shape → at < to → same_head head shape.head ≡ false
+    → Counted ms from to at len head → Run ms from to at len head
+counted_to_other ms from to at len head shape s lt differ = counted_all ms from to at len head (run_stop ms at to s.entry head shape.head lt s.here s.head differ)
+
+pub counted_to_end : (ms : List Marked) (from to at len : ℕ) (head : Head) → to ≤ at → at ≤ to → Counted ms from to at len head → Run ms from to to len head
+counted_to_end ms from to at len head high low h =
+    let nothing : to - at ≡ 0 = omega (arith, high) in
+    let end : at ≡ to = omega (arith, high, low) in
+    subst (λ i. Run ms from to i len head) end (counted_all ms from to at len head (ap (λ n. run_of head (take n (drop at ms))) nothing) h)
+
+-- the entries of a range put one by one behind others
+put_front : (ms : List Marked) (at to : ℕ) (m : Marked) → at < to → slice_get ms at ≡ Some m
+    → bytes_of_range (record { from = at; to = to }) ms ≡ entry_bytes m.entry ++ bytes_of_range (record { from = at + 1; to = to }) ms
+put_front ms at to m lt here = ap (λ xs. flat_map (λ (n : Marked). entry_bytes n.entry) xs) (piece_front ms at to m lt here)
+
+pub put_on : (ms : List Marked) (at to : ℕ) (m : Marked) (before after whole : List ℕ) → at < to → slice_get ms at ≡ Some m → after ≡ before ++ entry_bytes m.entry
+    → before ++ bytes_of_range (record { from = at; to = to }) ms ≡ whole → after ++ bytes_of_range (record { from = at + 1; to = to }) ms ≡ whole
+put_on ms at to m before after whole lt here grown h =
+    let rest : List ℕ = bytes_of_range (record { from = at + 1; to = to }) ms in
+    ap (λ xs. xs ++ rest) grown
+    ∙ append_assoc before (entry_bytes m.entry) rest
+    ∙ ap (λ xs. before ++ xs) (sym (put_front ms at to m lt here))
+    ∙ h
+
+pub put_room : (ms : List Marked) (at from to : ℕ) (m : Marked) (before old : List ℕ) → at < to → slice_get ms at ≡ Some m
+    → before ++ bytes_of_range (record { from = at; to = to }) ms ≡ old ++ bytes_of_range (record { from = from; to = to }) ms
+    → length old + length (bytes_of_range (record { from = from; to = to }) ms) ≤ 30 → length before + size_of m ≤ 30
+put_room ms at from to m before old lt here h room =
+    let rest : List ℕ = bytes_of_range (record { from = at + 1; to = to }) ms in
+    let left : length (before ++ bytes_of_range (record { from = at; to = to }) ms) ≡ length before + length (bytes_of_range (record { from = at; to = to }) ms) =
+    length-append before (bytes_of_range (record { from = at; to = to }) ms) in
+    let right : length (old ++ bytes_of_range (record { from = from; to = to }) ms) ≡ length old + length (bytes_of_range (record { from = from; to = to }) ms) =
+    length-append old (bytes_of_range (record { from = from; to = to }) ms) in
+    let one : length (bytes_of_range (record { from = at; to = to }) ms) ≡ length (entry_bytes m.entry) + length rest =
+    ap length (put_front ms at to m lt here) ∙ length-append (entry_bytes m.entry) rest in
+    let size : length (entry_bytes m.entry) ≡ size_of m = entry_length m.entry in
+    let same : length (before ++ bytes_of_range (record { from = at; to = to }) ms) ≡ length (old ++ bytes_of_range (record { from = from; to = to }) ms) = ap length h in
+    omega (arith, left, right, one, size, same, room)
+
+-- the entries of one head at the front of a range are those that the range begins with
+run_is_front : (h : Head) (ms : List Marked) → flat_map (λ (m : Marked). entry_bytes m.entry) (take (length (run_of h ms)) ms) ≡ entries_bytes (run_of h ms)
+run_is_front h [] = refl
+run_is_front h (m ∷ ms) = by (same_head h (head_of m)) refl (run_is_front h ms)
+  where
+    by : (b : Bool) → same_head h (head_of m) ≡ b → flat_map (λ (n : Marked). entry_bytes n.entry) (take (length (run_of h ms)) ms) ≡ entries_bytes (run_of h ms)
+        → flat_map (λ (n : Marked). entry_bytes n.entry) (take (length (run_of h (m ∷ ms))) (m ∷ ms)) ≡ entries_bytes (run_of h (m ∷ ms))
+    by true e again = rw e (ap (λ xs. entry_bytes m.entry ++ xs) again)
+    by false e again = rw e refl
+
+run_bytes : (ms : List Marked) (at to : ℕ) (head : Head) → at + length (run_of head (take (to - at) (drop at ms))) ≤ to
+    → bytes_of_range (record { from = at; to = at + length (run_of head (take (to - at) (drop at ms))) }) ms ≡ entries_bytes (run_of head (take (to - at) (drop at ms)))
+run_bytes ms at to head within =
+    let n : ℕ = length (run_of head (take (to - at) (drop at ms))) in
+    let count : at + n - at ≡ n = omega arith in
+    let few : n ≤ to - at = omega (arith, within) in
+    ap (λ k. flat_map (λ (m : Marked). entry_bytes m.entry) (take k (drop at ms))) count
+    ∙ ap (λ xs. flat_map (λ (m : Marked). entry_bytes m.entry) xs) (sym (take-take n (to - at) (drop at ms) few))
+    ∙ run_is_front head (take (to - at) (drop at ms))
+
+-- a step over one FIG: what it needs, and where it leads
+pub record Stepped (ms : List Marked) (at to next len : ℕ) (head : Head) (before : List ℕ) : Type 0 where
+  pub some : at < next
+  pub within : next ≤ to
+  pub ext : head.ext < 32
+  pub fits : length before + 2 + len ≤ 30
+  pub bytes : length (bytes_of_range (record { from = at; to = next }) ms) ≡ len
+  pub room : length before + 2 + len + figs_size None (take (to - next) (drop next ms)) ≤ 30
+  pub same :
+      (before ++ (1 + len) ∷ head_byte head ∷ bytes_of_range (record { from = at; to = next }) ms) ++ figs_bytes (figs_of (take (to - next) (drop next ms)))
+      ≡ before ++ figs_bytes (figs_of (take (to - at) (drop at ms)))
+
+ext_of_low : (e : Entry) → ext_of e < 32
+ext_of_low (EnsembleOf e) = omega arith
+ext_of_low (SubOf s) = omega arith
+ext_of_low (ShortOf s) = omega arith
+ext_of_low (ServiceOf s) = omega arith
+ext_of_low (PacketOf p) = omega arith
+
+pub stepped : (ms : List Marked) (at to next len : ℕ) (shape : EntryShape) (before : List ℕ) → IsShapeAt ms at shape → at < to → to ≤ length ms
+    → Run ms at to next len shape.head → length before + figs_size None (take (to - at) (drop at ms)) ≤ 30 → Stepped ms at to next len shape.head before
+stepped ms at to next len shape before s lt end run room =
+    let es : List Entry = run_of shape.head (take (to - at) (drop at ms)) in
+    let f : Fronted ms at to shape.head es = fronted ms at to s.entry shape.head es lt end s.here s.head refl in
+    let size : figs_size None (take (to - at) (drop at ms)) ≡ length (fig_bytes shape.head es) + figs_size None (take (to - (at + length es)) (drop (at + length es) ms)) = front_size ms at to shape.head es f in
+    let bytes : bytes_of_range (record { from = at; to = at + length es }) ms ≡ entries_bytes es = run_bytes ms at to shape.head f.within in
+    let ext : shape.head.ext < 32 = subst (λ (h : Head). h.ext < 32) (sym s.head) (ext_of_low s.entry.entry) in
+    let Done : ℕ → ℕ → Type 0 = λ n k. Stepped ms at to n k shape.head before in
+    let done : Done (at + length es) (length (entries_bytes es)) = record {
+      some = omega (arith, f.some);
+      within = f.within;
+      ext = ext;
+      fits = omega (arith, size, room);
+      bytes = ap length bytes;
+      room = omega (arith, size, room);
+      same =
+          ap (λ xs. (before ++ (1 + length (entries_bytes es)) ∷ head_byte shape.head ∷ xs) ++ figs_bytes (figs_of (take (to - (at + length es)) (drop (at + length es) ms)))) bytes
+          ∙ front_bytes ms at to shape.head es before f;
+    } in
+    subst (λ n. Done n len) (sym run.count) (subst (λ k. Done (at + length es) k) (sym run.bytes) done)
 
 -- where the loop over FIGs stands
 pub record Filling (ms : List Marked) (at to : ℕ) (bytes whole : List ℕ) : Type 0 where
@@ -267,40 +333,25 @@ pub record Filling (ms : List Marked) (at to : ℕ) (bytes whole : List ℕ) : T
   pub room : length bytes + figs_size None (take (to - at) (drop at ms)) ≤ 30
   pub same : bytes ++ figs_bytes (figs_of (take (to - at) (drop at ms))) ≡ whole
 
-pub filling_step : (ms : List Marked) (at to n : ℕ) (shape : Shape) (es sent : List Entry) (answer : Bool) (before after whole : List ℕ)
-    → Stepped ms at to shape.head es before → sent ≡ es → n ≡ length es
-    → (FitsFig before shape.head sent → IsTrue answer) → (IsTrue answer → after ≡ before ++ fig_bytes shape.head sent)
-    → before ++ figs_bytes (figs_of (take (to - at) (drop at ms))) ≡ whole → Filling ms (at + n) to after whole
-filling_step ms at to n shape es sent answer before after whole s lent count fits added h =
-    let told : IsTrue answer = fits (subst (λ (xs : List Entry). FitsFig before shape.head xs) (sym lent) s.fits) in
-    let grown : after ≡ before ++ fig_bytes shape.head es = added told ∙ ap (λ (xs : List Entry). before ++ fig_bytes shape.head xs) lent in
-    let Rest : ℕ → List ℕ → Type 0 = λ k bytes. Filling ms (at + k) to bytes whole in
-    let done : Rest (length es) (before ++ fig_bytes shape.head es) = record { end = s.fronted.within; room = s.room; same = s.bytes ∙ h } in
-    subst (λ (k : ℕ). Rest k after) (sym count) (subst (λ (bytes : List ℕ). Rest (length es) bytes) (sym grown) done)
+pub filling_step : (ms : List Marked) (at to next len : ℕ) (head : Head) (before mid after whole : List ℕ) → Stepped ms at to next len head before
+    → mid ≡ before ++ (1 + len) ∷ head_byte head ∷ [] → after ≡ mid ++ bytes_of_range (record { from = at; to = next }) ms
+    → before ++ figs_bytes (figs_of (take (to - at) (drop at ms))) ≡ whole → Filling ms next to after whole
+filling_step ms at to next len head before mid after whole s begun put h =
+    let entries : List ℕ = bytes_of_range (record { from = at; to = next }) ms in
+    let grown : after ≡ before ++ (1 + len) ∷ head_byte head ∷ entries =
+    put ∙ ap (λ xs. xs ++ entries) begun ∙ append_assoc before ((1 + len) ∷ head_byte head ∷ []) entries in
+    let long : length after ≡ length before + length ((1 + len) ∷ head_byte head ∷ entries) = ap length grown ∙ length-append before ((1 + len) ∷ head_byte head ∷ entries) in
+    record {
+      end = s.within;
+      room = omega (arith, long, s.bytes, s.room);
+      same = ap (λ xs. xs ++ figs_bytes (figs_of (take (to - next) (drop next ms)))) grown ∙ s.same ∙ h;
+    }
 
 -- what FIG 0/0 leaves of a FIB holds what the packing puts there
-pub fib_room : (ensemble : Option EnsembleInformation) (number used size : ℕ) → used ≤ 7 → (ensemble ≡ None → used ≡ 0) → (IsSome ensemble → number % 3 ≡ 0) → size ≤ room number → used + size ≤ 30
-fib_room None number used size low none first fits = omega (arith, none refl, fits, room_high number)
-fib_room (Some e) number used size low none first fits =
-    elim (room_cases number) [
+pub fib_room : (mode : Mode) (ensemble : Option EnsembleInformation) (number used size : ℕ) → used ≤ 7 → (ensemble ≡ None → used ≡ 0) → (IsSome ensemble → number % fib_count mode ≡ 0) → size ≤ room mode number → used + size ≤ 30
+fib_room mode None number used size low none first fits = omega (arith, none refl, fits, room_high mode number)
+fib_room mode (Some e) number used size low none first fits =
+    elim (room_cases mode number) [
       | inl c ↦ omega (arith, low, fits, c.1)
       | inr c ↦ absurd (c.0 (first refl))
     ]
-
--- three FIBs written over 96 bytes, one after another
-pub three_fibs : (zeros one two three a b c : List ℕ) → length zeros ≡ 96 → length a ≡ 32 → length b ≡ 32 → length c ≡ 32
-    → one ≡ take 0 zeros ++ (a ++ drop (0 + 32) zeros) → two ≡ take 32 one ++ (b ++ drop (32 + 32) one) → three ≡ take 64 two ++ (c ++ drop (64 + 32) two)
-    → (x y w : List ℕ) → a ≡ x → b ≡ y → c ≡ w → three ≡ x ++ (y ++ (w ++ []))
-three_fibs zeros one two three a b c z la lb lc e f h x y w i j k =
-    let first : one ≡ a ++ drop 32 zeros = e in
-    let taken : take 32 one ≡ a = ap (λ xs. take 32 xs) first ∙ take_at a (drop 32 zeros) 32 la in
-    let left : drop 64 one ≡ drop 64 zeros =
-    ap (λ xs. drop 64 xs) first ∙ sym (drop-drop 32 32 (a ++ drop 32 zeros)) ∙ ap (λ xs. drop 32 xs) (drop_at a (drop 32 zeros) 32 la) ∙ drop-drop 32 32 zeros in
-    let second : two ≡ (a ++ b) ++ drop 64 zeros =
-    f ∙ ap (λ xs. xs ++ (b ++ drop 64 one)) taken ∙ ap (λ xs. a ++ (b ++ xs)) left ∙ sym (append_assoc a b (drop 64 zeros)) in
-    let both : length (a ++ b) ≡ 64 = rw (length-append a b) (omega (arith, la, lb)) in
-    let taken_both : take 64 two ≡ a ++ b = ap (λ xs. take 64 xs) second ∙ take_at (a ++ b) (drop 64 zeros) 64 both in
-    let none : drop 96 two ≡ [] =
-    ap (λ xs. drop 96 xs) second ∙ sym (drop-drop 32 64 ((a ++ b) ++ drop 64 zeros)) ∙ ap (λ xs. drop 32 xs) (drop_at (a ++ b) (drop 64 zeros) 64 both) ∙ drop-drop 32 64 zeros ∙ drop_all 96 zeros (omega (arith, z)) in
-    h ∙ ap (λ xs. xs ++ (c ++ drop 96 two)) taken_both ∙ ap (λ xs. (a ++ b) ++ (c ++ xs)) none ∙ append_assoc a b (c ++ [])
-    ∙ ap (λ t. t ++ (b ++ (c ++ []))) i ∙ ap (λ t. x ++ (t ++ (c ++ []))) j ∙ ap (λ t. x ++ (y ++ (t ++ []))) k

@@ -8,7 +8,7 @@ use Rattle.fib_codec.specs.declared.head.Head.{Head}
 use Rattle.fib_codec.specs.Spelling.{Written, head_of, figs_bytes}
 use Rattle.fib_codec.proofs.Lengths.{entry_length}
 use Rattle.fib_carousel.specs.Packing.{size_of, same_flag, same_head, figs_size}
-use Rattle.fib_carousel.specs.Bytes.{joined, figs_of, stretch_of}
+use Rattle.fib_carousel.specs.Bytes.{joined, figs_of, run_of}
 
 -- one head is equal to itself alone
 same_flag_is : (a b : Bool) → same_flag a b ≡ true → a ≡ b
@@ -40,26 +40,26 @@ abbrev pub written_of : Head → List Entry → Written
 written_of h es = record { head = h; entries = es }
 
 -- what stands behind the stretch at the front
-abbrev pub after_stretch : Head → List Marked → List Marked
-after_stretch head [] = []
-after_stretch head (m ∷ ms) = if same_head head (head_of m) then after_stretch head ms else m ∷ ms
+abbrev pub after_run : Head → List Marked → List Marked
+after_run head [] = []
+after_run head (m ∷ ms) = if same_head head (head_of m) then after_run head ms else m ∷ ms
 
-pub figs_front : (m : Marked) (ms : List Marked) → figs_of (m ∷ ms) ≡ written_of (head_of m) (m.entry ∷ stretch_of (head_of m) ms) ∷ figs_of (after_stretch (head_of m) ms)
+pub figs_front : (m : Marked) (ms : List Marked) → figs_of (m ∷ ms) ≡ written_of (head_of m) (m.entry ∷ run_of (head_of m) ms) ∷ figs_of (after_run (head_of m) ms)
 figs_front m [] = refl
 figs_front m (n ∷ ns) =
     ap (λ fs. joined m fs) (figs_front n ns) ∙ front (same_head (head_of m) (head_of n)) refl (figs_front n ns)
   where
     front : (b : Bool) → same_head (head_of m) (head_of n) ≡ b
-        → figs_of (n ∷ ns) ≡ written_of (head_of n) (n.entry ∷ stretch_of (head_of n) ns) ∷ figs_of (after_stretch (head_of n) ns)
-        → joined m (written_of (head_of n) (n.entry ∷ stretch_of (head_of n) ns) ∷ figs_of (after_stretch (head_of n) ns))
-        ≡ written_of (head_of m) (m.entry ∷ stretch_of (head_of m) (n ∷ ns)) ∷ figs_of (after_stretch (head_of m) (n ∷ ns))
+        → figs_of (n ∷ ns) ≡ written_of (head_of n) (n.entry ∷ run_of (head_of n) ns) ∷ figs_of (after_run (head_of n) ns)
+        → joined m (written_of (head_of n) (n.entry ∷ run_of (head_of n) ns) ∷ figs_of (after_run (head_of n) ns))
+        ≡ written_of (head_of m) (m.entry ∷ run_of (head_of m) (n ∷ ns)) ∷ figs_of (after_run (head_of m) (n ∷ ns))
     front true h again =
-        let whole : written_of (head_of n) (m.entry ∷ n.entry ∷ stretch_of (head_of n) ns) ∷ figs_of (after_stretch (head_of n) ns)
-        ≡ written_of (head_of m) (m.entry ∷ n.entry ∷ stretch_of (head_of m) ns) ∷ figs_of (after_stretch (head_of m) ns) =
-        ap (λ (g : Head). written_of g (m.entry ∷ n.entry ∷ stretch_of g ns) ∷ figs_of (after_stretch g ns)) (sym (same_head_is (head_of m) (head_of n) h)) in
+        let whole : written_of (head_of n) (m.entry ∷ n.entry ∷ run_of (head_of n) ns) ∷ figs_of (after_run (head_of n) ns)
+        ≡ written_of (head_of m) (m.entry ∷ n.entry ∷ run_of (head_of m) ns) ∷ figs_of (after_run (head_of m) ns) =
+        ap (λ (g : Head). written_of g (m.entry ∷ n.entry ∷ run_of g ns) ∷ figs_of (after_run g ns)) (sym (same_head_is (head_of m) (head_of n) h)) in
         rw h whole
     front false h again =
-        let whole : written_of (head_of m) (m.entry ∷ []) ∷ written_of (head_of n) (n.entry ∷ stretch_of (head_of n) ns) ∷ figs_of (after_stretch (head_of n) ns)
+        let whole : written_of (head_of m) (m.entry ∷ []) ∷ written_of (head_of n) (n.entry ∷ run_of (head_of n) ns) ∷ figs_of (after_run (head_of n) ns)
         ≡ written_of (head_of m) (m.entry ∷ []) ∷ figs_of (n ∷ ns) =
         ap (λ fs. written_of (head_of m) (m.entry ∷ []) ∷ fs) (sym again) in
         rw h whole
@@ -80,9 +80,9 @@ figs_cost [] = refl
 figs_cost (m ∷ []) = simp length-append (omega (arith, entry_length m.entry))
 figs_cost (m ∷ (n ∷ ns)) =
     let again : length (figs_bytes (figs_of (n ∷ ns))) ≡ 2 + size_of n + figs_size (Some (head_of n)) ns = figs_cost (n ∷ ns) in
-    let first : length (figs_bytes (written_of (head_of n) (n.entry ∷ stretch_of (head_of n) ns) ∷ figs_of (after_stretch (head_of n) ns))) ≡ 2 + size_of n + figs_size (Some (head_of n)) ns =
+    let first : length (figs_bytes (written_of (head_of n) (n.entry ∷ run_of (head_of n) ns) ∷ figs_of (after_run (head_of n) ns))) ≡ 2 + size_of n + figs_size (Some (head_of n)) ns =
     ap (λ fs. length (figs_bytes fs)) (sym (figs_front n ns)) ∙ again in
     ap (λ fs. length (figs_bytes (joined m fs))) (figs_front n ns)
-    ∙ joined_length (same_head (head_of m) (head_of n)) m (head_of n) (n.entry ∷ stretch_of (head_of n) ns) (figs_of (after_stretch (head_of n) ns))
+    ∙ joined_length (same_head (head_of m) (head_of n)) m (head_of n) (n.entry ∷ run_of (head_of n) ns) (figs_of (after_run (head_of n) ns))
     ∙ ap (λ k. (if same_head (head_of m) (head_of n) then size_of m else 2 + size_of m) + k) first
     ∙ shared_cost (same_head (head_of m) (head_of n)) (size_of m) (size_of n) (figs_size (Some (head_of n)) ns)

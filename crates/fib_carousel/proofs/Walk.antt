@@ -1,17 +1,21 @@
--- The row walked entry by entry.
+-- The list walked entry by entry.
 use Rattle.std.proofs.Common.{◌≡◌, ℕ, ◌+◌, ◌-◌, ◌*◌, ◌<◌, ◌≤◌, List, [], ◌∷◌, ◌++◌, length, take, drop, slice_get, get_or, Some, refl, sym, ◌∙◌, ap, subst, inl, inr, ◌⊎◌, arith, append_assoc}
+use Rattle.fib_codec.specs.declared.modes.Mode.{Mode}
 use Rattle.std.proofs.lemmas.List.{drop_more, drop_all, take_more, get_or-drop, length-drop, append-nil}
 use Rattle.std.proofs.lemmas.Option.{slice_get_within, get_or_from_slice_get}
 use Rattle.mux_config.specs.Facts.{Marked}
 use Rattle.fib_codec.specs.Spelling.{head_of}
-use Rattle.fib_carousel.specs.declared.place.Place.{Place}
-use Rattle.fib_carousel.specs.declared.place.Shape.{Shape}
-use Rattle.fib_carousel.specs.declared.cursor.Cursor.{Cursor}
-use Rattle.fib_carousel.specs.Packing.{size_of, entries_in_fib, last_number, placed, numbers_from, packing, start}
+use Rattle.fib_carousel.specs.declared.pack_state.PackState.{PackState}
+use Rattle.fib_carousel.specs.declared.pack_state.EntryShape.{EntryShape}
+use Rattle.fib_carousel.specs.declared.pack_state.Position.{Position}
+use Rattle.fib_carousel.specs.Packing.{size_of, entries_in_fib, last_number}
+use Rattle.fib_carousel.specs.Greedy.{placed, numbers_from, packing, start}
 use Rattle.fib_carousel.specs.Pages.{rounds, fib_entries}
-use Rattle.fib_carousel.specs.Row.{IsShapeAt, Stands}
+use Rattle.fib_carousel.specs.Walk.{IsShapeAt, StandsBefore, HasPassed}
 use Rattle.fib_carousel.proofs.Steps.{in_fib_same, in_fib_other, in_fib_past}
 use Rattle.fib_carousel.proofs.Least.{placed_cases, placed_above, numbers_rise}
+use Rattle.fib_carousel.proofs.Pieces.{last_rises}
+use Rattle.fib_carousel.proofs.Widths.{few_pages}
 
 -- the row from a place on begins with the entry there
 pub drop_here : {A : Type 0} (xs : List A) (i : ℕ) (x : A) → slice_get xs i ≡ Some x → drop i xs ≡ x ∷ drop (i + 1) xs
@@ -29,122 +33,137 @@ take_here xs from at x le h =
     ap (λ n. take n (drop from xs)) count ∙ take_more (drop from xs) (at - from) x inside ∙ ap (λ y. take (at - from) (drop from xs) ++ y ∷ []) there
 
 -- what a step of the walk knows: the entry passed, and its place
-abbrev pub IsThen : Shape → Place → Place → Type 0
-IsThen shape p q = (m : Marked) → shape.head ≡ head_of m → shape.size ≡ size_of m → q ≡ placed m p
+abbrev pub IsThen : (mode : Mode) → EntryShape → PackState → PackState → Type 0
+IsThen mode shape p q = (m : Marked) → shape.head ≡ head_of m → shape.size ≡ size_of m → q ≡ placed mode m p
 
-pub record Passed (ms : List Marked) (at : ℕ) (p q : Place) : Type 0 where
+pub record Passed (mode : Mode) (ms : List Marked) (at : ℕ) (p q : PackState) : Type 0 where
   pub entry : Marked
   pub here : slice_get ms at ≡ Some entry
   pub row : drop at ms ≡ entry ∷ drop (at + 1) ms
-  pub next : q ≡ placed entry p
+  pub next : q ≡ placed mode entry p
 
-pub passed : (ms : List Marked) (at : ℕ) (shape : Shape) (p q : Place) → IsShapeAt ms at shape → IsThen shape p q → Passed ms at p q
-passed ms at shape p q s t = record {
+pub passed : (mode : Mode) (ms : List Marked) (at : ℕ) (shape : EntryShape) (p q : PackState) → IsShapeAt ms at shape → IsThen mode shape p q → Passed mode ms at p q
+passed mode ms at shape p q s t = record {
   entry = s.entry;
   here = s.here;
   row = drop_here ms at s.entry s.here;
   next = t s.entry s.head s.size;
 }
 
-pub passed_above : (ms : List Marked) (at : ℕ) (p q : Place) → Passed ms at p q → p.fib ≤ q.fib
-passed_above ms at p q s = subst (λ (r : Place). p.fib ≤ r.fib) (sym s.next) (placed_above s.entry p)
+pub passed_above : (mode : Mode) (ms : List Marked) (at : ℕ) (p q : PackState) → Passed mode ms at p q → p.fib ≤ q.fib
+passed_above mode ms at p q s = subst (λ (r : PackState). p.fib ≤ r.fib) (sym s.next) (placed_above mode s.entry p)
 
 -- the last number is that of what is left
-pub last_step : (ms : List Marked) (at : ℕ) (p q : Place) (top : ℕ) → Passed ms at p q → last_number p.fib (numbers_from p (drop at ms)) ≡ top → last_number q.fib (numbers_from q (drop (at + 1) ms)) ≡ top
-last_step ms at p q top s h =
-    let along : last_number p.fib (numbers_from p (s.entry ∷ drop (at + 1) ms)) ≡ top = subst (λ xs. last_number p.fib (numbers_from p xs) ≡ top) s.row h in
-    subst (λ (r : Place). last_number r.fib (numbers_from r (drop (at + 1) ms)) ≡ top) (sym s.next) along
+pub last_step : (mode : Mode) (ms : List Marked) (at : ℕ) (p q : PackState) (top : ℕ) → Passed mode ms at p q → last_number p.fib (numbers_from mode p (drop at ms)) ≡ top → last_number q.fib (numbers_from mode q (drop (at + 1) ms)) ≡ top
+last_step mode ms at p q top s h =
+    let along : last_number p.fib (numbers_from mode p (s.entry ∷ drop (at + 1) ms)) ≡ top = subst (λ xs. last_number p.fib (numbers_from mode p xs) ≡ top) s.row h in
+    subst (λ (r : PackState). last_number r.fib (numbers_from mode r (drop (at + 1) ms)) ≡ top) (sym s.next) along
 
-pub last_end : (ms : List Marked) (at : ℕ) (p : Place) (top : ℕ) → length ms ≤ at → last_number p.fib (numbers_from p (drop at ms)) ≡ top → p.fib ≡ top
-last_end ms at p top h l = subst (λ xs. last_number p.fib (numbers_from p xs) ≡ top) (drop_all at ms h) l
+pub last_end : (mode : Mode) (ms : List Marked) (at : ℕ) (p : PackState) (top : ℕ) → length ms ≤ at → last_number p.fib (numbers_from mode p (drop at ms)) ≡ top → p.fib ≡ top
+last_end mode ms at p top h l = subst (λ xs. last_number p.fib (numbers_from mode p xs) ≡ top) (drop_all at ms h) l
 
 -- what the rest of the row has in FIB n
-abbrev pub rest_in : ℕ → List Marked → ℕ → Place → List Marked
-rest_in n ms at p = entries_in_fib n (drop at ms) (numbers_from p (drop at ms))
+abbrev pub rest_in : (mode : Mode) → ℕ → List Marked → ℕ → PackState → List Marked
+rest_in mode n ms at p = entries_in_fib n (drop at ms) (numbers_from mode p (drop at ms))
 
-rest_step : (n : ℕ) (ms : List Marked) (at : ℕ) (p q : Place) (s : Passed ms at p q) → rest_in n ms at p ≡ entries_in_fib n (s.entry ∷ drop (at + 1) ms) (q.fib ∷ numbers_from q (drop (at + 1) ms))
-rest_step n ms at p q s =
-    ap (λ xs. entries_in_fib n xs (numbers_from p xs)) s.row
-    ∙ ap (λ (r : Place). entries_in_fib n (s.entry ∷ drop (at + 1) ms) (r.fib ∷ numbers_from r (drop (at + 1) ms))) (sym s.next)
+rest_step : (mode : Mode) (n : ℕ) (ms : List Marked) (at : ℕ) (p q : PackState) (s : Passed mode ms at p q) → rest_in mode n ms at p ≡ entries_in_fib n (s.entry ∷ drop (at + 1) ms) (q.fib ∷ numbers_from mode q (drop (at + 1) ms))
+rest_step mode n ms at p q s =
+    ap (λ xs. entries_in_fib n xs (numbers_from mode p xs)) s.row
+    ∙ ap (λ (r : PackState). entries_in_fib n (s.entry ∷ drop (at + 1) ms) (r.fib ∷ numbers_from mode r (drop (at + 1) ms))) (sym s.next)
 
-pub rest_takes : (n : ℕ) (ms : List Marked) (at : ℕ) (p q : Place) (s : Passed ms at p q) → q.fib ≡ n → rest_in n ms at p ≡ s.entry ∷ rest_in n ms (at + 1) q
-rest_takes n ms at p q s h = rest_step n ms at p q s ∙ in_fib_same n q.fib s.entry (drop (at + 1) ms) (numbers_from q (drop (at + 1) ms)) h
+pub rest_takes : (mode : Mode) (n : ℕ) (ms : List Marked) (at : ℕ) (p q : PackState) (s : Passed mode ms at p q) → q.fib ≡ n → rest_in mode n ms at p ≡ s.entry ∷ rest_in mode n ms (at + 1) q
+rest_takes mode n ms at p q s h = rest_step mode n ms at p q s ∙ in_fib_same n q.fib s.entry (drop (at + 1) ms) (numbers_from mode q (drop (at + 1) ms)) h
 
-pub rest_passes : (n : ℕ) (ms : List Marked) (at : ℕ) (p q : Place) → Passed ms at p q → (q.fib ≡ n → ⊥) → rest_in n ms at p ≡ rest_in n ms (at + 1) q
-rest_passes n ms at p q s h = rest_step n ms at p q s ∙ in_fib_other n q.fib s.entry (drop (at + 1) ms) (numbers_from q (drop (at + 1) ms)) h
+pub rest_passes : (mode : Mode) (n : ℕ) (ms : List Marked) (at : ℕ) (p q : PackState) → Passed mode ms at p q → (q.fib ≡ n → ⊥) → rest_in mode n ms at p ≡ rest_in mode n ms (at + 1) q
+rest_passes mode n ms at p q s h = rest_step mode n ms at p q s ∙ in_fib_other n q.fib s.entry (drop (at + 1) ms) (numbers_from mode q (drop (at + 1) ms)) h
 
-pub rest_over : (n : ℕ) (ms : List Marked) (at : ℕ) (p q : Place) → Passed ms at p q → n < q.fib → rest_in n ms at p ≡ []
-rest_over n ms at p q s h =
-    rest_passes n ms at p q s (λ e. omega (arith, h, e))
-    ∙ in_fib_past n q.fib (drop (at + 1) ms) (numbers_from q (drop (at + 1) ms)) h (numbers_rise q (drop (at + 1) ms) q.fib (omega arith))
+pub rest_over : (mode : Mode) (n : ℕ) (ms : List Marked) (at : ℕ) (p q : PackState) → Passed mode ms at p q → n < q.fib → rest_in mode n ms at p ≡ []
+rest_over mode n ms at p q s h =
+    rest_passes mode n ms at p q s (λ e. omega (arith, h, e))
+    ∙ in_fib_past n q.fib (drop (at + 1) ms) (numbers_from mode q (drop (at + 1) ms)) h (numbers_rise mode q (drop (at + 1) ms) q.fib (omega arith))
 
-pub rest_end : (n : ℕ) (ms : List Marked) (at : ℕ) (p : Place) → length ms ≤ at → rest_in n ms at p ≡ []
-rest_end n ms at p h = ap (λ xs. entries_in_fib n xs (numbers_from p xs)) (drop_all at ms h)
+pub rest_end : (mode : Mode) (n : ℕ) (ms : List Marked) (at : ℕ) (p : PackState) → length ms ≤ at → rest_in mode n ms at p ≡ []
+rest_end mode n ms at p h = ap (λ xs. entries_in_fib n xs (numbers_from mode p xs)) (drop_all at ms h)
 
--- a cursor stands before every FIB from its own on
-pub stands_on : (ms : List Marked) (n m : ℕ) (c : Cursor) → n ≤ m → Stands ms n c → Stands ms m c
-stands_on ms n m c h s = record { at = s.at; used = s.used; fib = s.fib; rest = λ i le. s.rest i (omega (arith, h, le)) }
+-- a position stands before every FIB from its own on
+pub stands_on : (mode : Mode) (ms : List Marked) (n m : ℕ) (c : Position) → n ≤ m → StandsBefore mode ms n c → StandsBefore mode ms m c
+stands_on mode ms n m c h s = record {
+  index = s.index;
+  used = s.used;
+  fib = s.fib;
+  below = omega (arith, h, s.below);
+  rest = λ i le. s.rest i (omega (arith, h, le));
+  last = s.last;
+}
 
 -- the piece of the row passed so far, and what is still to come, are FIB n
-pub record Walked (ms : List Marked) (n from : ℕ) (c : Cursor) : Type 0 where
-  pub later : Stands ms (n + 1) c
-  pub order : from ≤ c.at
-  pub kind : (from ≡ c.at) ⊎ (c.place.fib ≡ n)
-  pub here : take (c.at - from) (drop from ms) ++ rest_in n ms c.at c.place ≡ fib_entries n ms
+pub record Walked (mode : Mode) (ms : List Marked) (n from : ℕ) (c : Position) : Type 0 where
+  pub later : StandsBefore mode ms (n + 1) c
+  pub order : from ≤ c.index
+  pub low : c.state.fib ≤ n
+  pub kind : (from ≡ c.index) ⊎ (c.state.fib ≡ n)
+  pub here : take (c.index - from) (drop from ms) ++ rest_in mode n ms c.index c.state ≡ fib_entries mode n ms
 
-pub walked_start : (ms : List Marked) (n : ℕ) (c : Cursor) → Stands ms n c → Walked ms n c.at c
-walked_start ms n c s =
-    let none : c.at - c.at ≡ 0 = omega arith in
+pub walked_start : (mode : Mode) (ms : List Marked) (n : ℕ) (c : Position) → StandsBefore mode ms n c → Walked mode ms n c.index c
+walked_start mode ms n c s =
+    let none : c.index - c.index ≡ 0 = omega arith in
     record {
-      later = stands_on ms n (n + 1) c (omega arith) s;
+      later = stands_on mode ms n (n + 1) c (omega arith) s;
       order = omega arith;
+      low = s.below;
       kind = inl refl;
-      here = ap (λ i. take i (drop c.at ms) ++ rest_in n ms c.at c.place) none ∙ s.rest n (omega arith);
+      here = ap (λ i. take i (drop c.index ms) ++ rest_in mode n ms c.index c.state) none ∙ s.rest n (omega arith);
     }
 
-later_step : (ms : List Marked) (n : ℕ) (c d : Cursor) → Passed ms c.at c.place d.place → d.at ≡ c.at + 1 → d.place.fib ≤ n → d.place.used ≤ 30 → d.place.fib ≤ c.place.fib + 2 → c.at < length ms → Stands ms (n + 1) c → Stands ms (n + 1) d
-later_step ms n c d s at below used near inside l = record {
-  at = omega (arith, at, inside);
+later_step : (mode : Mode) (ms : List Marked) (n : ℕ) (c d : Position) → Passed mode ms c.index c.state d.state → d.index ≡ c.index + 1 → d.state.fib ≤ n → d.state.used ≤ 30 → d.state.fib ≤ c.state.fib + 2 → c.index < length ms → StandsBefore mode ms (n + 1) c → StandsBefore mode ms (n + 1) d
+later_step mode ms n c d s at below used near inside l = record {
+  index = omega (arith, at, inside);
   used = used;
   fib = omega (arith, near, at, l.fib);
+  below = omega (arith, below);
   rest = λ m le.
-      ap (λ i. rest_in m ms i d.place) at
-      ∙ sym (rest_passes m ms c.at c.place d.place s (λ e. omega (arith, e, le, below)))
+      ap (λ i. rest_in mode m ms i d.state) at
+      ∙ sym (rest_passes mode m ms c.index c.state d.state s (λ e. omega (arith, e, le, below)))
       ∙ l.rest m le;
+  last =
+      ap (λ i. last_number d.state.fib (numbers_from mode d.state (drop i ms))) at
+      ∙ last_step mode ms c.index c.state d.state (last_number 0 (packing mode ms)) s l.last;
 }
 
 -- a step into FIB n
-pub walked_in : (ms : List Marked) (n from : ℕ) (c d : Cursor) → Passed ms c.at c.place d.place → d.at ≡ c.at + 1 → d.place.fib ≡ n → d.place.used ≤ 30 → d.place.fib ≤ c.place.fib + 2 → c.at < length ms → Walked ms n from c → Walked ms n from d
-walked_in ms n from c d s at here used near inside w =
-    let piece : take (c.at + 1 - from) (drop from ms) ≡ take (c.at - from) (drop from ms) ++ s.entry ∷ [] =
-    take_here ms from c.at s.entry w.order s.here in
+pub walked_in : (mode : Mode) (ms : List Marked) (n from : ℕ) (c d : Position) → Passed mode ms c.index c.state d.state → d.index ≡ c.index + 1 → d.state.fib ≡ n → d.state.used ≤ 30 → d.state.fib ≤ c.state.fib + 2 → c.index < length ms → Walked mode ms n from c → Walked mode ms n from d
+walked_in mode ms n from c d s at here used near inside w =
+    let piece : take (c.index + 1 - from) (drop from ms) ≡ take (c.index - from) (drop from ms) ++ s.entry ∷ [] =
+    take_here ms from c.index s.entry w.order s.here in
     record {
-      later = later_step ms n c d s at (omega (arith, here)) used near inside w.later;
+      later = later_step mode ms n c d s at (omega (arith, here)) used near inside w.later;
       order = omega (arith, at, w.order);
+      low = omega (arith, here);
       kind = inr here;
       here =
-          ap (λ i. take (i - from) (drop from ms) ++ rest_in n ms i d.place) at
-          ∙ ap (λ xs. xs ++ rest_in n ms (c.at + 1) d.place) piece
-          ∙ append_assoc (take (c.at - from) (drop from ms)) (s.entry ∷ []) (rest_in n ms (c.at + 1) d.place)
-          ∙ ap (λ xs. take (c.at - from) (drop from ms) ++ xs) (sym (rest_takes n ms c.at c.place d.place s here))
+          ap (λ i. take (i - from) (drop from ms) ++ rest_in mode n ms i d.state) at
+          ∙ ap (λ xs. xs ++ rest_in mode n ms (c.index + 1) d.state) piece
+          ∙ append_assoc (take (c.index - from) (drop from ms)) (s.entry ∷ []) (rest_in mode n ms (c.index + 1) d.state)
+          ∙ ap (λ xs. take (c.index - from) (drop from ms) ++ xs) (sym (rest_takes mode n ms c.index c.state d.state s here))
           ∙ w.here;
     }
 
 -- a step into a FIB before
-pub walked_before : (ms : List Marked) (n from : ℕ) (c d : Cursor) → Passed ms c.at c.place d.place → d.at ≡ c.at + 1 → d.place.fib < n → d.place.used ≤ 30 → d.place.fib ≤ c.place.fib + 2 → c.at < length ms → Walked ms n from c → Walked ms n d.at d
-walked_before ms n from c d s at before used near inside w =
-    let above : c.place.fib ≤ d.place.fib = passed_above ms c.at c.place d.place s in
-    let fresh : c.at - from ≡ 0 = elim w.kind [ inl e ↦ omega (arith, e) | inr e ↦ absurd (omega (arith, e, above, before)) ] in
-    let none : d.at - d.at ≡ 0 = omega arith in
-    let now : rest_in n ms c.at c.place ≡ fib_entries n ms = subst (λ i. take i (drop from ms) ++ rest_in n ms c.at c.place ≡ fib_entries n ms) fresh w.here in
+pub walked_before : (mode : Mode) (ms : List Marked) (n from : ℕ) (c d : Position) → Passed mode ms c.index c.state d.state → d.index ≡ c.index + 1 → d.state.fib < n → d.state.used ≤ 30 → d.state.fib ≤ c.state.fib + 2 → c.index < length ms → Walked mode ms n from c → Walked mode ms n d.index d
+walked_before mode ms n from c d s at before used near inside w =
+    let above : c.state.fib ≤ d.state.fib = passed_above mode ms c.index c.state d.state s in
+    let fresh : c.index - from ≡ 0 = elim w.kind [ inl e ↦ omega (arith, e) | inr e ↦ absurd (omega (arith, e, above, before)) ] in
+    let none : d.index - d.index ≡ 0 = omega arith in
+    let now : rest_in mode n ms c.index c.state ≡ fib_entries mode n ms = subst (λ i. take i (drop from ms) ++ rest_in mode n ms c.index c.state ≡ fib_entries mode n ms) fresh w.here in
     record {
-      later = later_step ms n c d s at (omega (arith, before)) used near inside w.later;
+      later = later_step mode ms n c d s at (omega (arith, before)) used near inside w.later;
       order = omega arith;
+      low = omega (arith, before);
       kind = inl refl;
       here =
-          ap (λ i. take i (drop d.at ms) ++ rest_in n ms d.at d.place) none
-          ∙ ap (λ i. rest_in n ms i d.place) at
-          ∙ sym (rest_passes n ms c.at c.place d.place s (λ e. omega (arith, e, before)))
+          ap (λ i. take i (drop d.index ms) ++ rest_in mode n ms d.index d.state) none
+          ∙ ap (λ i. rest_in mode n ms i d.state) at
+          ∙ sym (rest_passes mode n ms c.index c.state d.state s (λ e. omega (arith, e, before)))
           ∙ now;
     }
 
@@ -152,27 +171,39 @@ walked_before ms n from c d s at before used near inside w =
 pub nothing_behind : {A : Type 0} (xs ys zs : List A) → ys ≡ [] → xs ++ ys ≡ zs → xs ≡ zs
 nothing_behind xs ys zs e f = sym (append-nil xs) ∙ ap (λ y. xs ++ y) (sym e) ∙ f
 
-pub walked_over : (ms : List Marked) (n from : ℕ) (c : Cursor) (q : Place) → Passed ms c.at c.place q → n < q.fib → Walked ms n from c → take (c.at - from) (drop from ms) ≡ fib_entries n ms
-walked_over ms n from c q s h w =
-    nothing_behind (take (c.at - from) (drop from ms)) (rest_in n ms c.at c.place) (fib_entries n ms) (rest_over n ms c.at c.place q s h) w.here
+pub walked_over : (mode : Mode) (ms : List Marked) (n from : ℕ) (c : Position) (q : PackState) → Passed mode ms c.index c.state q → n < q.fib → Walked mode ms n from c → take (c.index - from) (drop from ms) ≡ fib_entries mode n ms
+walked_over mode ms n from c q s h w =
+    nothing_behind (take (c.index - from) (drop from ms)) (rest_in mode n ms c.index c.state) (fib_entries mode n ms) (rest_over mode n ms c.index c.state q s h) w.here
 
-pub walked_end : (ms : List Marked) (n from : ℕ) (c : Cursor) → length ms ≤ c.at → Walked ms n from c → take (c.at - from) (drop from ms) ≡ fib_entries n ms
-walked_end ms n from c h w =
-    nothing_behind (take (c.at - from) (drop from ms)) (rest_in n ms c.at c.place) (fib_entries n ms) (rest_end n ms c.at c.place h) w.here
+pub walked_end : (mode : Mode) (ms : List Marked) (n from : ℕ) (c : Position) → length ms ≤ c.index → Walked mode ms n from c → take (c.index - from) (drop from ms) ≡ fib_entries mode n ms
+walked_end mode ms n from c h w =
+    nothing_behind (take (c.index - from) (drop from ms)) (rest_in mode n ms c.index c.state) (fib_entries mode n ms) (rest_end mode n ms c.index c.state h) w.here
+
+-- so the position has passed FIB n
+pub passed_by : (mode : Mode) (ms : List Marked) (n from : ℕ) (c : Position) (q : PackState) → Passed mode ms c.index c.state q → n < q.fib → Walked mode ms n from c → HasPassed mode ms n c
+passed_by mode ms n from c q s h w =
+    let top : ℕ = last_number 0 (packing mode ms) in
+    let left : last_number q.fib (numbers_from mode q (drop (c.index + 1) ms)) ≡ top = last_step mode ms c.index c.state q top s w.later.last in
+    let above : q.fib ≤ last_number q.fib (numbers_from mode q (drop (c.index + 1) ms)) =
+    last_rises q.fib (numbers_from mode q (drop (c.index + 1) ms)) (numbers_rise mode q (drop (c.index + 1) ms) q.fib (omega arith)) in
+    record { fib = w.low; left = inr (omega (arith, h, above, left)) }
+
+pub passed_all : (mode : Mode) (ms : List Marked) (n from : ℕ) (c : Position) → length ms ≤ c.index → Walked mode ms n from c → HasPassed mode ms n c
+passed_all mode ms n from c h w = record { fib = w.low; left = inl (omega (arith, h, w.later.index)) }
 
 -- an entry takes two FIBs at most, so there are no more pages than entries, but for one
-last_bound : (p : Place) (ms : List Marked) → last_number p.fib (numbers_from p ms) ≤ p.fib + 2 * length ms
-last_bound p [] = omega arith
-last_bound p (m ∷ ms) =
-    let more : last_number (placed m p).fib (numbers_from (placed m p) ms) ≤ (placed m p).fib + 2 * length ms = last_bound (placed m p) ms in
-    let near : (placed m p).fib ≤ p.fib + 2 =
-    elim (placed_cases m p) [
-      | inl c ↦ subst (λ (q : Place). q.fib ≤ p.fib + 2) (sym c.is) (omega arith)
-      | inr c ↦ subst (λ (q : Place). q.fib ≤ p.fib + 2) (sym c.is) (omega (arith, c.near))
+last_bound : (mode : Mode) (p : PackState) (ms : List Marked) → last_number p.fib (numbers_from mode p ms) ≤ p.fib + 2 * length ms
+last_bound mode p [] = omega arith
+last_bound mode p (m ∷ ms) =
+    let more : last_number (placed mode m p).fib (numbers_from mode (placed mode m p) ms) ≤ (placed mode m p).fib + 2 * length ms = last_bound mode (placed mode m p) ms in
+    let near : (placed mode m p).fib ≤ p.fib + 2 =
+    elim (placed_cases mode m p) [
+      | inl c ↦ subst (λ (q : PackState). q.fib ≤ p.fib + 2) (sym c.is) (omega arith)
+      | inr c ↦ subst (λ (q : PackState). q.fib ≤ p.fib + 2) (sym c.is) (omega (arith, c.near))
     ] in
     omega (arith, more, near)
 
-pub rounds_bound : (ms : List Marked) → rounds ms ≤ length ms + 1
-rounds_bound ms =
-    let last : last_number 0 (packing ms) ≤ 0 + 2 * length ms = last_bound start ms in
-    omega (arith, last)
+pub rounds_bound : (mode : Mode) (ms : List Marked) → rounds mode ms ≤ length ms + 1
+rounds_bound mode ms =
+    let last : last_number 0 (packing mode ms) ≤ 0 + 2 * length ms = last_bound mode start ms in
+    omega (arith, last, few_pages mode (last_number 0 (packing mode ms)) (length ms) last)

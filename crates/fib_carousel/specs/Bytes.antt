@@ -1,13 +1,16 @@
 -- The bytes of the FIBs of a page (EN 300 401 clauses 5.2.1, 5.2.2 and 6.4).
-use Rattle.std.specs.Prelude.{◌≡◌, map, flat_map, take, drop, ℕ, ◌+◌, ◌*◌, false, if◌then◌else◌, Option, Some, None, List, [], ◌∷◌, ◌++◌}
+use Rattle.std.specs.Prelude.{◌≡◌, map, flat_map, take, drop, ℕ, false, if◌then◌else◌, Option, Some, None, List, [], ◌∷◌, ◌++◌}
 use Rattle.mux_config.specs.Entries.{EnsembleInformation}
 use Rattle.mux_config.specs.Facts.{Marked, marked}
 use Rattle.mux_config.specs.declared.entry.Entry.TheVariants.{Ensemble as EnsembleOf}
 use Rattle.mux_config.specs.declared.entry.Entry.{Entry}
 use Rattle.fib_codec.specs.declared.head.Head.{Head}
 use Rattle.fib_codec.specs.Spelling.{Written, head_of, fib_bytes}
-use Rattle.fib_carousel.specs.Packing.{same_head, entries_in_fib, packing}
 use Rattle.fib_codec.specs.Grammar.{IsValid, fig_of}
+use Rattle.fib_codec.specs.declared.modes.Mode.{Mode}
+use Rattle.fib_carousel.specs.Packing.{same_head, entries_in_fib}
+use Rattle.fib_carousel.specs.Greedy.{packing}
+use Rattle.fib_carousel.specs.Pages.{first_fib, later_fibs}
 
 -- successive entries of one head share a FIG
 abbrev pub joined : Marked → List Written → List Written
@@ -21,30 +24,28 @@ figs_of [] = []
 figs_of (m ∷ ms) = joined m (figs_of ms)
 
 -- the entries of this head at the front
-abbrev pub stretch_of : Head → List Marked → List Entry
-stretch_of head [] = []
-stretch_of head (m ∷ ms) = if same_head head (head_of m) then m.entry ∷ stretch_of head ms else []
+abbrev pub run_of : Head → List Marked → List Entry
+run_of head [] = []
+run_of head (m ∷ ms) = if same_head head (head_of m) then m.entry ∷ run_of head ms else []
 
 -- FIG 0/0, where it is given: of this ensemble, with C/N 0 and P/D 0
 abbrev pub ensemble_figs : Option EnsembleInformation → List Written
 ensemble_figs None = []
 ensemble_figs (Some e) = record { head = head_of (marked false (EnsembleOf e)); entries = EnsembleOf e ∷ [] } ∷ []
 
--- the FIGs of the three FIBs of a page, where the entries stand in the FIBs of these numbers: FIG 0/0, where
--- it is given, stands first in the first of them
-abbrev pub figs_by : List ℕ → Option EnsembleInformation → ℕ → List Marked → List (List Written)
-figs_by ns ensemble k ms =
-    (ensemble_figs ensemble ++ figs_of (entries_in_fib (3 * k) ms ns))
-    ∷ figs_of (entries_in_fib (3 * k + 1) ms ns)
-    ∷ figs_of (entries_in_fib (3 * k + 2) ms ns)
-    ∷ []
+-- the FIGs of the FIBs of a page, where the entries stand in the FIBs of these numbers: FIG 0/0, where it is
+-- given, stands first in the first of them
+abbrev pub figs_by : Mode → List ℕ → Option EnsembleInformation → ℕ → List Marked → List (List Written)
+figs_by mode ns ensemble k ms =
+    (ensemble_figs ensemble ++ figs_of (entries_in_fib (first_fib mode k) ms ns))
+    ∷ map (λ n. figs_of (entries_in_fib n ms ns)) (later_fibs mode k)
 
-abbrev pub page_figs : Option EnsembleInformation → ℕ → List Marked → List (List Written)
-page_figs ensemble k ms = figs_by (packing ms) ensemble k ms
+abbrev pub page_figs : Mode → Option EnsembleInformation → ℕ → List Marked → List (List Written)
+page_figs mode ensemble k ms = figs_by mode (packing mode ms) ensemble k ms
 
 -- the bytes of page k of these entries, with this FIG 0/0: what goes out in one frame
-abbrev pub page_bytes : Option EnsembleInformation → ℕ → List Marked → List ℕ
-page_bytes ensemble k ms = flat_map fib_bytes (page_figs ensemble k ms)
+abbrev pub page_bytes : Mode → Option EnsembleInformation → ℕ → List Marked → List ℕ
+page_bytes mode ensemble k ms = flat_map fib_bytes (page_figs mode ensemble k ms)
 
 -- these bytes are valid FIBs, one after another, with exactly these FIGs
 abbrev pub AreFibs : List (List Written) → List ℕ → Type 0

@@ -1,13 +1,25 @@
 -- What a receiver finds in the bytes of a page.
-use Rattle.std.specs.Prelude.{◌≡◌, ℕ, ◌↔◌, Bool, false, List, Option, Some, IfSome, Contains}
-use Rattle.mux_config.specs.Configuration.{Configuration, IsConfiguration}
+use Rattle.std.specs.Prelude.{◌≡◌, ℕ, ◌*◌, ◌≤◌, ◌↔◌, Bool, false, List, length, Option, Some, IfSome, Contains}
+use Rattle.mux_config.specs.Configuration.{Configuration, IsConfiguration, Each}
 use Rattle.mux_config.specs.Entries.{EnsembleInformation}
 use Rattle.mux_config.specs.Facts.{Marked}
-use Rattle.fib_codec.specs.Ranges.{IsEnsembleInformation}
+use Rattle.fib_codec.specs.Modes.{fib_count}
+use Rattle.fib_codec.specs.Ranges.{IsEnsembleInformation, IsWithin}
+use Rattle.fib_codec.specs.Spelling.{ext_of}
 use Rattle.fib_codec.specs.Heard.{IsHeardInRow, IsEnsembleHeardInRow}
+use Rattle.fib_codec.specs.declared.modes.Mode.{Mode}
+use Rattle.fib_carousel.specs.Packing.{size_of}
 use Rattle.fib_carousel.specs.Pages.{page_set, page_entries}
-use Rattle.fib_carousel.specs.Row.{AreSendable}
 use Rattle.fib_carousel.specs.Bytes.{page_bytes, page_figs, AreFibs}
+
+-- an entry that pages can carry: of FIG 0/1 to 0/3, with its fields within their bits, and no larger than a FIB
+pub record IsSendable (m : Marked) : Type 0 where
+  pub organization : 1 ≤ ext_of m.entry
+  pub within : IsWithin m.entry
+  pub small : size_of m ≤ 28
+
+abbrev pub AreSendable : List Marked → Type 0
+AreSendable ms = Each IsSendable ms
 
 -- what pages need: entries that they can carry, and ensemble information within its bits
 pub record IsPageable (ensemble : Option EnsembleInformation) (ms : List Marked) : Type 0 where
@@ -21,21 +33,22 @@ PageSetsArePageable =
     → IsConfiguration current → IfSome next IsConfiguration → IfSome ensemble IsEnsembleInformation
     → IsPageable ensemble (page_set current next)
 
--- a page is three valid FIBs with the FIG 0/0 given and the FIGs of its entries
+-- a page is as many valid FIBs as a frame of the mode has, with the FIG 0/0 given and the FIGs of its entries
 abbrev pub PagesAreValid : Type 0
 PagesAreValid =
-    (ensemble : Option EnsembleInformation) (k : ℕ) (ms : List Marked) → IsPageable ensemble ms
-    → AreFibs (page_figs ensemble k ms) (page_bytes ensemble k ms)
+    (mode : Mode) (ensemble : Option EnsembleInformation) (k : ℕ) (ms : List Marked) → IsPageable ensemble ms
+    → AreFibs (page_figs mode ensemble k ms) (page_bytes mode ensemble k ms)
+    × (length (page_bytes mode ensemble k ms) ≡ 32 * fib_count mode)
 
 -- what is heard of FIG 0/1 to 0/3 in a page's bytes is that page's entries, and nothing else
 abbrev pub PagesAreHeard : Type 0
 PagesAreHeard =
-    (ensemble : Option EnsembleInformation) (k : ℕ) (ms : List Marked) → IsPageable ensemble ms
-    → (m : Marked) → IsHeardInRow (page_bytes ensemble k ms) m ↔ Contains (page_entries k ms) m
+    (mode : Mode) (ensemble : Option EnsembleInformation) (k : ℕ) (ms : List Marked) → IsPageable ensemble ms
+    → (m : Marked) → IsHeardInRow (page_bytes mode ensemble k ms) m ↔ Contains (page_entries mode k ms) m
 
 -- the ensemble information heard there is the one given, as FIG 0/0 with C/N 0, and no other
 abbrev pub EnsembleIsHeard : Type 0
 EnsembleIsHeard =
-    (ensemble : Option EnsembleInformation) (k : ℕ) (ms : List Marked) → IsPageable ensemble ms
+    (mode : Mode) (ensemble : Option EnsembleInformation) (k : ℕ) (ms : List Marked) → IsPageable ensemble ms
     → (next : Bool) (e : EnsembleInformation)
-    → IsEnsembleHeardInRow (page_bytes ensemble k ms) next e ↔ ((next ≡ false) × (ensemble ≡ Some e))
+    → IsEnsembleHeardInRow (page_bytes mode ensemble k ms) next e ↔ ((next ≡ false) × (ensemble ≡ Some e))

@@ -1,9 +1,13 @@
 pub mod Packing
+pub mod Greedy
 pub mod Pages
+pub mod Most
 pub mod Bytes
 pub mod Carried
-pub mod Row
+pub mod Kept
+pub mod Walk
 pub mod Items
+pub use Rattle.fib_codec.specs.Modes
 pub use Rattle.fib_codec.specs.Crc
 pub use Rattle.fib_codec.specs.Spelling
 pub use Rattle.fib_codec.specs.Grammar

@@ -1,15 +1,17 @@
--- How a list of entries is divided over a row of FIBs, three to a page, and which division is the packing.
-use Rattle.std.specs.Prelude.{◌≡◌, ℕ, ◌+◌, ◌/◌, ◌%◌, ◌≤◌, ◌==◌, Bool, true, false, ◌&&◌, List, [], ◌∷◌, length, slice_index, Option, Some, None, if◌then◌else◌, nat_le}
+-- How a list of entries is divided over a row of FIBs, as many to a page as a frame of the mode has, and which
+-- division is the packing.
+use Rattle.std.specs.Prelude.{◌≡◌, ℕ, ◌+◌, ◌/◌, ◌%◌, ◌≤◌, ◌==◌, Bool, true, false, ◌&&◌, List, [], ◌∷◌, length, slice_index, Option, Some, None, if◌then◌else◌}
 use Rattle.mux_config.specs.Facts.{Marked}
 use Rattle.mux_config.specs.Configuration.{Each}
+use Rattle.fib_codec.specs.Modes.{fib_count}
 use Rattle.fib_codec.specs.Spelling.{head_of, entry_size}
+use Rattle.fib_codec.specs.declared.modes.Mode.{Mode}
 use Rattle.fib_codec.specs.declared.head.Head.{Head}
-use Rattle.fib_carousel.specs.declared.place.Place.{Place}
 
 -- the bytes that the FIGs of entries may take in FIB n of the row: the first of a page leaves room for the
 -- longest FIG 0/0, which has 7 bytes of the 30
-abbrev pub room : ℕ → ℕ
-room n = if n % 3 == 0 then 23 else 30
+abbrev pub room : Mode → ℕ → ℕ
+room mode n = if n % fib_count mode == 0 then 23 else 30
 
 abbrev pub size_of : Marked → ℕ
 size_of e = entry_size e.entry
@@ -42,8 +44,8 @@ entries_where test (e ∷ es) (n ∷ ns) = if test n then e ∷ entries_where te
 abbrev pub entries_in_fib : ℕ → List Marked → List ℕ → List Marked
 entries_in_fib n es ns = entries_where (λ m. m == n) es ns
 
-abbrev pub entries_in_page : ℕ → List Marked → List ℕ → List Marked
-entries_in_page k es ns = entries_where (λ m. m / 3 == k) es ns
+abbrev pub entries_in_page : Mode → ℕ → List Marked → List ℕ → List Marked
+entries_in_page mode k es ns = entries_where (λ m. m / fib_count mode == k) es ns
 
 abbrev pub NeverFalls : ℕ → List ℕ → Type 0
 NeverFalls low [] = Unit {0}
@@ -51,65 +53,34 @@ NeverFalls low (n ∷ ns) = (low ≤ n) × NeverFalls n ns
 
 -- a division gives each entry the number of a FIB, never falling along the list, so that the FIGs of each
 -- FIB fit its room
-pub record IsDivision (es : List Marked) (ns : List ℕ) : Type 0 where
+pub record IsDivision (mode : Mode) (es : List Marked) (ns : List ℕ) : Type 0 where
   pub each : length ns ≡ length es
   pub rising : NeverFalls 0 ns
-  pub fits : (n : ℕ) → figs_size None (entries_in_fib n es ns) ≤ room n
+  pub fits : (n : ℕ) → figs_size None (entries_in_fib n es ns) ≤ room mode n
 
 -- the packing is the division in which every entry's number is least among all divisions
-pub record IsPacking (es : List Marked) (ns : List ℕ) : Type 0 where
-  pub division : IsDivision es ns
-  pub least : (ms : List ℕ) → IsDivision es ms → (i : ℕ) → slice_index ns i ≤ slice_index ms i
+pub record IsPacking (mode : Mode) (es : List Marked) (ns : List ℕ) : Type 0 where
+  pub division : IsDivision mode es ns
+  pub least : (ms : List ℕ) → IsDivision mode es ms → (i : ℕ) → slice_index ns i ≤ slice_index ms i
 
 -- every entry fits a FIB that is no page's first: the others have no division at all
 abbrev pub AreSmall : List Marked → Type 0
 AreSmall es = Each (λ e. size_of e ≤ 28) es
 
+-- how many pages the numbers take: 1 where there are no entries
 abbrev pub last_number : ℕ → List ℕ → ℕ
 last_number n [] = n
 last_number n (m ∷ ms) = last_number m ms
 
--- how many pages the numbers take: 1 where there are no entries
-abbrev pub rounds_of : List ℕ → ℕ
-rounds_of ns = last_number 0 ns / 3 + 1
-
--- the rule of the packing, by places: an entry goes into the FIB of the entry before it where it fits, else
--- into the next FIB in which it fits
-abbrev pub start : Place
-start = record { fib = 0; used = 0; head = None }
-
-abbrev pub extended : Marked → Place → Place
-extended e p = record { fib = p.fib; used = p.used + cost p.head e; head = Some (head_of e) }
-
-abbrev pub opened : Marked → ℕ → Place
-opened e n = record { fib = n; used = 2 + size_of e; head = Some (head_of e) }
-
-abbrev pub placed : Marked → Place → Place
-placed e p =
-    if nat_le (p.used + cost p.head e) (room p.fib) then extended e p
-    else (if nat_le (2 + size_of e) (room (p.fib + 1)) then opened e (p.fib + 1) else opened e (p.fib + 2))
-
-abbrev pub numbers_from : Place → List Marked → List ℕ
-numbers_from p [] = []
-numbers_from p (e ∷ es) = (placed e p).fib ∷ numbers_from (placed e p) es
-
-abbrev pub packing : List Marked → List ℕ
-packing es = numbers_from start es
-
--- the rule gives the packing of every list that has a division
-abbrev pub GreedyIsPacking : Type 0
-GreedyIsPacking = (es : List Marked) → AreSmall es → IsPacking es (packing es)
+abbrev pub rounds_of : Mode → List ℕ → ℕ
+rounds_of mode ns = last_number 0 ns / fib_count mode + 1
 
 -- a list has one packing at most
 abbrev pub PackingIsOne : Type 0
-PackingIsOne = (es : List Marked) (ns ms : List ℕ) → IsPacking es ns → IsPacking es ms → ns ≡ ms
+PackingIsOne =
+    (mode : Mode) (es : List Marked) (ns ms : List ℕ)
+    → IsPacking mode es ns → IsPacking mode es ms → ns ≡ ms
 
 -- a list with a division has no entry that is too large for it
 abbrev pub DividedAreSmall : Type 0
-DividedAreSmall = (es : List Marked) (ns : List ℕ) → IsDivision es ns → AreSmall es
-
--- no division takes fewer FIBs or fewer pages
-abbrev pub NoFewer : Type 0
-NoFewer =
-    (es : List Marked) (ms : List ℕ) → IsDivision es ms
-    → (last_number 0 (packing es) ≤ last_number 0 ms) × (rounds_of (packing es) ≤ rounds_of ms)
+DividedAreSmall = (mode : Mode) (es : List Marked) (ns : List ℕ) → IsDivision mode es ns → AreSmall es

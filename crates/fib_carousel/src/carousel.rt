@@ -1,37 +1,53 @@
 //! The pages of one configuration, or of two side by side.
 
-ghost use Rattle.std.specs.Prelude.{◌≡◌, ℕ, ◌<◌, ◌≤◌, List, option_map};
+ghost use Rattle.std.specs.Prelude.{◌≡◌, ℕ, ◌<◌, ◌≤◌, List};
 ghost use Rattle.std.specs.Option.{option_copied};
 ghost use Rattle.fib_carousel.specs.Packing.{IsPacking, rounds_of};
-ghost use Rattle.fib_carousel.specs.Pages.{page_set, rounds};
+ghost use Rattle.fib_carousel.specs.Pages.{page_set_of, rounds};
 ghost use Rattle.fib_carousel.specs.Bytes.{page_bytes, page_figs, figs_by, AreFibs};
 
+use crate::entry_list;
+use crate::pack_state::Position;
 use crate::page_set::PageSet;
-use crate::{figs, row};
+use crate::page_writer::write_page;
+use fib_codec::{FibFrame, Mode};
 use mux_config::{Ensemble, Store};
 
-/// How many pages the entries of these configurations take: those of the current one and, where it is
-/// given, of the next one. It is at least 1, and no division of the entries into FIBs takes fewer.
-pub fn pages<'a, 'b, S: Store>(current: &'a S, next: Option<&'b S>) -> usize
-    ensures value { result ≡ rounds (page_set (S.content current.now) (option_map S.content (option_copied next.entry))) }
-    ensures packing { (ns : List ℕ) → IsPacking (page_set (S.content current.now) (option_map S.content (option_copied next.entry))) ns → result ≡ rounds_of ns }
+/// How many pages the entries of these configurations take in this mode: those of the current one and, where it
+/// is given, of the next one. It is at least 1, and no division of the entries into FIBs takes fewer.
+pub fn pages<'a, 'b, S: Store>(mode: Mode, current: &'a S, next: Option<&'b S>) -> usize
+    ensures value { let ms = page_set_of S.content current.now (option_copied next.entry) in
+        result ≡ rounds mode ms }
+    ensures packing { let ms = page_set_of S.content current.now (option_copied next.entry) in
+        (ns : List ℕ) → IsPacking mode ms ns → result ≡ rounds_of mode ns }
     ensures one { 1 ≤ result }
 {
-    row::pages(&PageSet::new(current, next))
+    entry_list::pages(&PageSet::new(current, next), mode)
 }
 
-/// The three FIBs of a page, numbered from 0: FIG 0/0 first where it is given, and no other, and then the
-/// entries that the packing puts there. A FIB without entries is empty.
+/// The FIBs of a page, numbered from 0, three or in mode III four: FIG 0/0 first where it is given, and no other,
+/// and then the entries that the packing puts there. A FIB without entries is empty.
 pub fn page<'a, 'b, S: Store>(
+    mode: Mode,
     current: &'a S,
     next: Option<&'b S>,
     page: usize,
     ensemble: Option<Ensemble>,
-) -> [u8; 96]
-    requires { page < rounds (page_set (S.content current.now) (option_map S.content (option_copied next))) }
-    ensures bytes { result ≡ page_bytes ensemble page (page_set (S.content current.now) (option_map S.content (option_copied next.entry))) }
-    ensures valid { AreFibs (page_figs ensemble page (page_set (S.content current.now) (option_map S.content (option_copied next.entry)))) result }
-    ensures packing { (ns : List ℕ) → IsPacking (page_set (S.content current.now) (option_map S.content (option_copied next.entry))) ns → AreFibs (figs_by ns ensemble page (page_set (S.content current.now) (option_map S.content (option_copied next.entry)))) result }
+) -> FibFrame
+    requires { page < rounds mode (page_set_of S.content current.now (option_copied next)) }
+    ensures bytes { let ms = page_set_of S.content current.now (option_copied next.entry) in
+        result ≡ page_bytes mode ensemble page ms }
+    ensures valid { let ms = page_set_of S.content current.now (option_copied next.entry) in
+        AreFibs (page_figs mode ensemble page ms) result }
+    ensures packing { let ms = page_set_of S.content current.now (option_copied next.entry) in
+        (ns : List ℕ) → IsPacking mode ms ns → AreFibs (figs_by mode ns ensemble page ms) result }
 {
-    figs::page(&PageSet::new(current, next), page, ensemble)
+    let mut position = Position::start();
+    write_page(
+        &PageSet::new(current, next),
+        mode,
+        &mut position,
+        page,
+        ensemble,
+    )
 }

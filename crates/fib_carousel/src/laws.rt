@@ -1,7 +1,9 @@
 //! What holds of every packing, whatever computes it. The functions do nothing; their contracts are the laws.
 
-ghost use Rattle.fib_carousel.specs.Packing.{GreedyIsPacking, PackingIsOne, DividedAreSmall, NoFewer};
-ghost use Rattle.fib_carousel.specs.Pages.{PagesAreAll, EachInAPage, NoneBeyond, PageIsFibs, MostPages};
+ghost use Rattle.fib_carousel.specs.Packing.{PackingIsOne, DividedAreSmall};
+ghost use Rattle.fib_carousel.specs.Greedy.{GreedyIsPacking, NoFewer};
+ghost use Rattle.fib_carousel.specs.Pages.{PagesAreAll, EachInAPage, NoneBeyond, PageIsFibs};
+ghost use Rattle.fib_carousel.specs.Most.{MostPages};
 ghost use Rattle.fib_carousel.specs.Carried.{PageSetsArePageable, PagesAreValid, PagesAreHeard, EnsembleIsHeard};
 
 /// The greedy rule gives the packing of every list of entries that has a division, so no division takes
@@ -14,8 +16,8 @@ pub fn greedy()
 {}
 
 /// All pages together have each entry once, in order, and no other; so each entry is in a page, and a page
-/// past the last has none. The entries of a page are those of its three FIBs. One configuration needs at most
-/// 41 pages, and two side by side need at most 81.
+/// past the last has none. The entries of a page are those of its FIBs, as many as a frame of the mode has. One
+/// configuration needs at most 41 pages, and two side by side at most 81; in mode III 28 and 55.
 pub fn pages()
     ensures all { PagesAreAll }
     ensures each { EachInAPage }
@@ -24,7 +26,7 @@ pub fn pages()
     ensures most { MostPages }
 {}
 
-/// A page is three valid FIBs, with FIG 0/0 first where it is given. What is heard of it is exactly the
+/// A page is as many valid FIBs as a frame of the mode has, with FIG 0/0 first where it is given. What is heard of it is exactly the
 /// entries of that page, and the ensemble information given: so no entry of a page is lost, and none is
 /// added. The entries of configurations are such that this holds of them.
 pub fn carried()

@@ -1,18 +1,20 @@
 //! The entries of the pages: those of the current configuration, and those of the next one where it is given.
 
-ghost use Rattle.std.specs.Prelude.{◌≡◌, ◌+◌, ◌<◌, ◌≤◌, Bool, true, false, length, Option, Some, slice_get, option_map};
+ghost use Rattle.std.specs.Prelude.{◌≡◌, ◌+◌, ◌<◌, ◌≤◌, ◌++◌, Bool, true, false, length, Option, Some, slice_get, option_map};
 ghost use Rattle.std.specs.Option.{option_copied};
 ghost use Rattle.mux_config.specs.Facts.{marked, facts_of};
-ghost use Rattle.fib_carousel.specs.Pages.{page_set};
-ghost use Rattle.fib_codec.specs.Spelling.{entry_size, ext_of, is_long_entry};
-ghost use Rattle.fib_carousel.specs.Row.{AreSendable, IsShapeAt};
+ghost use Rattle.fib_carousel.specs.Pages.{page_set_of};
+ghost use Rattle.mux_config.specs.declared.entry.Entry.{Entry};
+ghost use Rattle.fib_codec.specs.Spelling.{entry_bytes, entry_size, ext_of, is_long_entry};
+ghost use Rattle.fib_carousel.specs.Carried.{AreSendable};
+ghost use Rattle.fib_carousel.specs.Walk.{IsShapeAt};
 ghost use Rattle.fib_carousel.specs.Items.{item_entry, IsFormedItem, config_entries, IsItemAt};
 
-use crate::fact::{packet_entry, service_entry, sub_entry};
-use crate::place::Shape;
-use crate::row::Row;
-use fib_codec::Head;
-use mux_config::{Entry, Packet, Service, Sid, Store, Sub};
+use crate::entry_list::EntryList;
+use crate::pack_state::EntryShape;
+use crate::to_entries::{packet_entry, put_service, sub_entry};
+use fib_codec::{Fib, Head};
+use mux_config::{Packet, Service, Sid, Store, Sub};
 
 /// A member of one of the three sets of a configuration.
 #[derive(Drop)]
@@ -26,20 +28,21 @@ enum Item<'a> {
 }
 
 impl Item<'_> {
-    /// The entry that says it.
-    fn entry(&self) -> Entry
-        requires { IsFormedItem self.now }
-        ensures { result ≡ item_entry self.now }
+    /// Appends the entry that says it to a FIB that has room for it.
+    fn put(&self, fib: &mut Fib)
+        requires formed { IsFormedItem self.now }
+        requires room { length fib.old + entry_size (item_entry self.now) ≤ 30 }
+        ensures { fib.new ≡ fib.old ++ entry_bytes (item_entry self.now) }
     {
         match self {
-            Item::Sub(sub) => sub_entry(*sub),
-            Item::Service(service) => service_entry(service),
-            Item::Packet(packet) => packet_entry(*packet),
+            Item::Sub(sub) => fib.put_entry(&sub_entry(*sub)),
+            Item::Service(service) => put_service(fib, service),
+            Item::Packet(packet) => fib.put_entry(&packet_entry(*packet)),
         }
     }
 
     /// The head and the size of its entry, marked with this C/N flag.
-    fn shape(&self, next: bool) -> Shape
+    fn shape(&self, next: bool) -> EntryShape
         requires { IsFormedItem self.now }
         ensures next { result.head.next ≡ next }
         ensures ours { result.head.oe ≡ false }
@@ -60,7 +63,7 @@ impl Item<'_> {
             Item::Packet(_) => (false, 3, 5),
         };
         let oe = false;
-        Shape {
+        EntryShape {
             head: Head {
                 next,
                 oe,
@@ -81,39 +84,42 @@ fn entry_count<S: Store>(store: &S) -> u16
     (store.sub_count() + store.service_count() + store.packet_count()) as u16
 }
 
-/// The member of a store's configuration at a place, where sub-channels, services and packet components are
+/// The member of a store's configuration at an index, where sub-channels, services and packet components are
 /// counted one after another from 0.
-fn item_at<S: Store>(store: &S, place: u16) -> Item<'_>
-    requires { place < length (config_entries (S.content store.now)) }
-    ensures { IsItemAt (S.content store.now) place result }
+fn item_at<S: Store>(store: &S, index: u16) -> Item<'_>
+    requires { index < length (config_entries (S.content store.now)) }
+    ensures { IsItemAt (S.content store.now) index result }
 {
-    let place = usize::from(place);
+    let index = usize::from(index);
     let subs = store.sub_count();
-    if place < subs {
-        return Item::Sub(store.sub_at(place));
+    if index < subs {
+        return Item::Sub(store.sub_at(index));
     }
     let services = store.service_count();
-    if place - subs < services {
-        return Item::Service(store.service_at(place - subs));
+    if index - subs < services {
+        return Item::Service(store.service_at(index - subs));
     }
-    Item::Packet(store.packet_at(place - subs - services))
+    Item::Packet(store.packet_at(index - subs - services))
 }
 
-/// The head and the size of the entry at a place of a store's configuration, marked with this C/N flag.
-fn shape_at<S: Store>(store: &S, next: bool, place: u16) -> Shape
-    requires { place < length (config_entries (S.content store.now)) }
-    ensures value { IsShapeAt (facts_of (S.content store.now) next) place result }
+/// The head and the size of the entry at an index of a store's configuration, marked with this C/N flag.
+fn shape_at<S: Store>(store: &S, next: bool, index: u16) -> EntryShape
+    requires { index < length (config_entries (S.content store.now)) }
+    ensures value { IsShapeAt (facts_of (S.content store.now) next) index result }
     ensures small { result.size ≤ 28 }
 {
-    item_at(store, place).shape(next)
+    item_at(store, index).shape(next)
 }
 
-/// The entry at a place of a store's configuration.
-fn entry_at<S: Store>(store: &S, place: u16) -> Entry
-    requires { place < length (config_entries (S.content store.now)) }
-    ensures { (next : Bool) → slice_get (facts_of (S.content store.now) next) place ≡ Some (marked next result) }
+/// Appends the entry at an index of a store's configuration to a FIB that has room for it.
+fn put_at<S: Store>(store: &S, index: u16, fib: &mut Fib)
+    requires here { index < length (config_entries (S.content store.now)) }
+    requires room { (e : Entry) → slice_get (config_entries (S.content store.now)) index ≡ Some e
+        → length fib.old + entry_size e ≤ 30 }
+    ensures { (e : Entry) × (slice_get (config_entries (S.content store.now)) index ≡ Some e)
+        × (fib.new ≡ fib.old ++ entry_bytes e) }
 {
-    item_at(store, place).entry()
+    item_at(store, index).put(fib);
 }
 
 /// The entries of the pages: those of the current configuration, marked with C/N 0, and then those of the
@@ -127,18 +133,18 @@ pub(crate) struct PageSet<'a, 'b, S: Store> {
 impl<'a, 'b, S: Store> PageSet<'a, 'b, S> {
     /// The page set of these configurations.
     pub(crate) fn new(current: &'a S, next: Option<&'b S>) -> PageSet<'a, 'b, S>
-        ensures { ⟦<PageSet<'a, 'b, S> as Row>⟧.entries result ≡ page_set (S.content current.now) (option_map S.content (option_copied next.entry)) }
+        ensures { ⟦<PageSet<'a, 'b, S> as EntryList>⟧.entries result
+            ≡ page_set_of S.content current.now (option_copied next.entry) }
     {
         PageSet { current, next }
     }
 }
 
-impl<'a, 'b, S: Store> Row for PageSet<'a, 'b, S> {
-    ghost use Rattle.std.specs.Prelude.{option_map};
+impl<'a, 'b, S: Store> EntryList for PageSet<'a, 'b, S> {
     ghost use Rattle.std.specs.Option.{option_copied};
-    ghost use Rattle.fib_carousel.specs.Pages.{page_set};
+    ghost use Rattle.fib_carousel.specs.Pages.{page_set_of};
 
-    ghost entries = { λ p. page_set (S.content p.current.now) (option_map S.content (option_copied p.next)) };
+    ghost entries = { λ p. page_set_of S.content p.current.now (option_copied p.next) };
 
     fn len(&self) -> u16 {
         let current = entry_count(self.current);
@@ -148,25 +154,26 @@ impl<'a, 'b, S: Store> Row for PageSet<'a, 'b, S> {
         }
     }
 
-    fn shape(&self, place: u16) -> Shape {
+    fn shape(&self, index: u16) -> EntryShape {
         let current = entry_count(self.current);
-        if place < current {
-            return shape_at(self.current, false, place);
+        if index < current {
+            return shape_at(self.current, false, index);
         }
         match self.next {
-            Some(next) => shape_at(next, true, place - current),
-            None => shape_at(self.current, false, place),
+            Some(next) => shape_at(next, true, index - current),
+            None => shape_at(self.current, false, index),
         }
     }
 
-    fn entry(&self, place: u16) -> Entry {
+    fn put(&self, index: u16, fib: &mut Fib) {
         let current = entry_count(self.current);
-        if place < current {
-            return entry_at(self.current, place);
+        if index < current {
+            put_at(self.current, index, fib);
+            return;
         }
         match self.next {
-            Some(next) => entry_at(next, place - current),
-            None => entry_at(self.current, place),
+            Some(next) => put_at(next, index - current, fib),
+            None => put_at(self.current, index, fib),
         }
     }
 }

@@ -1,3 +1,4 @@
+mod cursor;
 mod divisions;
 mod fixtures;
 mod largest;

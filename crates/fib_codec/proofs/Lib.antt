@@ -7,3 +7,4 @@ pub mod Lengths
 pub mod Finished
 pub mod Told
 pub mod Sent
+pub mod Frames

@@ -1,18 +1,19 @@
 //! A FIB that is being written.
 
-ghost use Rattle.std.specs.Prelude.{◌≡◌, ◌+◌, ◌≤◌, ◌<◌, ◌↔◌, ◌++◌, ◌∷◌, [], length, IsTrue, IsFalse, MatchOption, List, map};
+ghost use Rattle.std.specs.Prelude.{◌≡◌, ◌+◌, ◌*◌, ◌≤◌, ◌<◌, ◌↔◌, ◌++◌, ◌∷◌, [], length, IsTrue, IsFalse, MatchOption, List, map};
 ghost use Rattle.arrayvec.specs.ArrayVec.{array_vec_len};
 ghost use Rattle.mux_config.specs.Configuration.{Each};
 ghost use Rattle.fib_codec.specs.Ranges.{IsWithin};
-ghost use Rattle.fib_codec.specs.Spelling.{head_byte as byte_of_head, entries_bytes, fig_bytes, IsUnder, IsFormed, FitsFig, Written, IsWritten, figs_bytes, filled, checked};
+ghost use Rattle.byteorder.specs.Endian.{big_bytes};
+ghost use Rattle.fib_codec.specs.Spelling.{head_byte as byte_of_head, bit_of, sid_size, sid_bytes, component_word, entry_bytes, entry_size, entries_bytes, fig_bytes, IsUnder, IsFormed, FitsFig, Written, IsWritten, figs_bytes, filled, checked};
 ghost use Rattle.fib_codec.specs.Grammar.{HoldsFigsOf, IsValidOf};
 
 use crate::crc::crc16;
 use crate::head::Head;
-use crate::write::{Data, entry_len, put_entry};
+use crate::write::{Data, entry_len, put_component, put_entry, put_service_head};
 use arrayvec::ArrayVec;
 use byteorder::{BigEndian, ByteOrder};
-use mux_config::{Entry, Sid};
+use mux_config::{Bits, ComponentEntry, Entry, Sid};
 use std::marker::Model;
 
 /// A Fast Information Block that is being written (EN 300 401 clause 5.2.1). Contracts see it as its data
@@ -163,12 +164,60 @@ impl Fib {
         match len_within(entries, 28 - used) {
             None => false,
             Some(len) => {
-                self.bytes.push(1 + len as u8);
-                self.bytes.push(head_byte(head));
+                self.begin_fig(head, len);
                 put_entries(&mut self.bytes, entries);
                 true
             }
         }
+    }
+
+    /// Appends the two bytes that a FIG of type 0 begins with, for this head and entries of `len` bytes. It is for a
+    /// caller that knows how long the entries are and that there is room, and appends them next, one by one.
+    /// [`Fib::try_fig`] is the call for everybody else.
+    pub fn begin_fig(&mut self, head: Head, len: usize)
+        requires ext { head.ext < 32 }
+        requires room { length self.old + 2 + len ≤ 30 }
+        ensures { self.new ≡ self.old ++ (1 + len) ∷ byte_of_head head ∷ [] }
+    {
+        self.bytes.push(1 + len as u8);
+        self.bytes.push(head_byte(head));
+    }
+
+    /// Appends an entry to the FIG that was begun, which has room for it. [`Fib::try_fig`] is the call for a caller
+    /// that doesn't know this.
+    pub fn put_entry(&mut self, entry: &Entry)
+        requires { length self.old + entry_size entry.now ≤ 30 }
+        ensures written { self.new ≡ self.old ++ entry_bytes entry.now }
+        ensures within { IsWithin entry.now }
+    {
+        put_entry(&mut self.bytes, entry);
+    }
+
+    /// Appends what the entry of a service begins with, before its components: the SId, Rfa, CAId and how many
+    /// components there are, at most 15 (EN 300 401 clause 6.3.1). It is for a caller that appends the components
+    /// next, one by one, and knows that there is room.
+    pub fn begin_service(&mut self, sid: Sid, rfa: bool, ca_id: Bits<3>, count: usize)
+        requires few { count ≤ 15 }
+        requires room { length self.old + sid_size sid + 1 ≤ 30 }
+        ensures { self.new ≡ self.old ++ sid_bytes sid ++ (bit_of rfa * 128 + ca_id * 16 + count) ∷ [] }
+    {
+        put_service_head(&mut self.bytes, sid, rfa, ca_id, count);
+    }
+
+    /// Appends the two bytes of a component to the entry of a service that was begun, which has room for it.
+    pub fn put_component(&mut self, component: ComponentEntry)
+        requires { length self.old + 2 ≤ 30 }
+        ensures { self.new ≡ self.old ++ big_bytes 2 (component_word component) }
+    {
+        put_component(&mut self.bytes, component);
+    }
+
+    /// The data bytes so far: those of the FIGs that were appended.
+    pub fn data(&self) -> &[u8]
+        ensures value { result.now ≡ self.now }
+        ensures size { length result.now ≤ 30 }
+    {
+        self.bytes.as_slice()
     }
 
     /// The 32 bytes of the FIB: its FIGs, the end marker and zeros where there is room for them, and the

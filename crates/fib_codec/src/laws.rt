@@ -4,6 +4,7 @@
 ghost use Rattle.fib_codec.specs.Spelling.{SpellingTells};
 ghost use Rattle.fib_codec.specs.Grammar.{OneList, SpellingIsEntry, WrittenIsFib, WrittenIsValid};
 ghost use Rattle.fib_codec.specs.Heard.{HeardIsWritten};
+ghost use Rattle.fib_codec.specs.Modes.{StepsDivide};
 
 /// The law of the grammar: 32 bytes hold at most one list of FIGs.
 pub fn one_list()
@@ -28,4 +29,10 @@ pub fn written()
 /// the C/N flag of its head, and none of another ensemble.
 pub fn heard()
     ensures { HeardIsWritten }
+{}
+
+/// The law of steps: in each transmission mode the 5000 CIF counts are whole steps, a step is at least 1,
+/// and three steps are at most 12, so that each notice has three FIG 0/0.
+pub fn steps()
+    ensures { StepsDivide }
 {}

@@ -9,13 +9,17 @@
 pub mod crc;
 mod crc_tables;
 pub mod fib;
+pub mod fib_frame;
 pub mod head;
 pub mod laws;
+pub mod modes;
 pub mod write;
 
 pub use crc::{crc16, crc16_by_bits, is_checked};
 pub use fib::Fib;
+pub use fib_frame::FibFrame;
 pub use head::Head;
+pub use modes::Mode;
 pub use mux_config::{
     Bits, ComponentEntry, Ensemble, Entry, Few, PacketEntry, ScId, ScTy, ServiceEntry, ShortEntry,
     Sid, SubEntry, SubId,

@@ -3,6 +3,7 @@ use std::test::Fail;
 
 mod entries;
 mod frames;
+mod modes;
 
 /// Whether this FIB begins with these bytes.
 fn begins(fib: &[u8; 32], front: &[u8]) -> bool {

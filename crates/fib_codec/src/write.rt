@@ -10,7 +10,7 @@ ghost use Rattle.fib_codec.specs.Spelling.{entry_size, entry_bytes, sid_size, si
 use arrayvec::ArrayVec;
 use byteorder::{BigEndian, ByteOrder};
 use mux_config::{
-    ComponentEntry, Ensemble, Entry, PacketEntry, ServiceEntry, ShortEntry, Sid, SubEntry,
+    Bits, ComponentEntry, Ensemble, Entry, PacketEntry, ServiceEntry, ShortEntry, Sid, SubEntry,
 };
 
 /// The data bytes of a FIB, as far as they are written.
@@ -136,13 +136,22 @@ fn component_bits(component: ComponentEntry) -> u16
     }
 }
 
+/// Appends the two bytes of a component.
+pub(crate) fn put_component(out: &mut Data, component: ComponentEntry)
+    requires { array_vec_len out.old + 2 ≤ 30 }
+    ensures written { out.new.items ≡ out.old.items ++ big_bytes 2 (component_word component) }
+    ensures within { IsComponentEntry component }
+{
+    put_word(out, component_bits(component));
+}
+
 fn put_components(out: &mut Data, components: &[ComponentEntry])
     requires { array_vec_len out.old + 2 * length components.now ≤ 30 }
     ensures written { out.new.items ≡ out.old.items ++ components_bytes components.now }
     ensures within { Each IsComponentEntry components.now }
 {
     for component in components {
-        put_word(out, component_bits(*component));
+        put_component(out, *component);
     }
 }
 
@@ -157,14 +166,26 @@ fn put_sid(out: &mut Data, sid: Sid)
     }
 }
 
+/// Appends what the entry of a service begins with, before its components.
+pub(crate) fn put_service_head(out: &mut Data, sid: Sid, rfa: bool, ca_id: Bits<3>, count: usize)
+    requires few { count ≤ 15 }
+    requires room { array_vec_len out.old + sid_size sid + 1 ≤ 30 }
+    ensures written { let counted = bit_of rfa * 128 + ca_id * 16 + count in
+        out.new.items ≡ out.old.items ++ sid_bytes sid ++ counted ∷ [] }
+    ensures within { IsSid sid }
+    ensures ca_id { ca_id < 8 }
+{
+    put_sid(out, sid);
+    out.push(u8::from(rfa) * 128 + ca_id.get() as u8 * 16 + count as u8);
+}
+
 fn put_service(out: &mut Data, service: &ServiceEntry)
     requires { array_vec_len out.old + sid_size service.now.sid + 1 + 2 * length service.now.components ≤ 30 }
     ensures written { out.new.items ≡ out.old.items ++ service_bytes service.now }
     ensures within { IsServiceEntry service.now }
 {
-    put_sid(out, service.sid);
     let count = service.components.len();
-    out.push(u8::from(service.rfa) * 128 + service.ca_id.get() as u8 * 16 + count as u8);
+    put_service_head(out, service.sid, service.rfa, service.ca_id, count);
     put_components(out, service.components.as_slice());
 }
 

@@ -4,7 +4,7 @@ use Rattle.std.proofs.lemmas.Bool.{ltb-false}
 use Rattle.std.proofs.lemmas.List.{take-append-drop, length-append}
 use Rattle.std.proofs.Math.Seq.{take-append_seam, drop-append_seam}
 use Rattle.fib_codec.specs.Grammar.{entry_len, AreEntries}
-use Rattle.fib_reader.specs.Faults.{entries_fault}
+use Rattle.fib_reader.specs.FirstFault.{entries_fault}
 use Rattle.fib_reader.specs.Walk.{entries_within, entries_of, raws_of}
 use Rattle.fib_reader.proofs.Lengths.{some_bytes, entry_len_more, cut_len}
 

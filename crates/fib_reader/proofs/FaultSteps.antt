@@ -3,7 +3,7 @@ use Rattle.std.proofs.Common.{◌≡◌, ◌≢◌, ℕ, zero, suc, ◌+◌, ◌
 use Rattle.std.proofs.lemmas.Bool.{ne_eqb, eq-eqb, eqb-true}
 use Rattle.fib_codec.specs.Grammar.{entry_len}
 use Rattle.fib_reader.proofs.Lengths.{some_bytes}
-use Rattle.fib_reader.specs.Faults.{entries_fault, figs_fault, fig_fault, or_else}
+use Rattle.fib_reader.specs.FirstFault.{entries_fault, figs_fault, fig_fault, or_else}
 use Rattle.fib_reader.specs.declared.fault.FibFault.{FibFault}
 
 -- what is left to look at gives the fault that is asked for
@@ -49,7 +49,7 @@ missing_bytes ext long at rest fault h some short =
     let len : ℕ = entry_len ext long rest in
     sym (ap (λ t. cond t (Some at) (entries_fault here.0 ext long (at + len) (drop len rest))) (lt-ltb _ _ short)) ∙ here.2
 
-none_in_nothing : (left ext : ℕ) (long : Bool) (at : ℕ) → entries_fault left ext long at [] ≡ None
+pub none_in_nothing : (left ext : ℕ) (long : Bool) (at : ℕ) → entries_fault left ext long at [] ≡ None
 unfolding entries_fault
 none_in_nothing zero ext long at = refl
 none_in_nothing (suc n) ext long at = refl
@@ -120,7 +120,7 @@ fault_here at rest fault e h some header found =
     sym (ap (λ f. or_else f (figs_fault here.0 (at + 1 + len) (drop len (drop 1 rest)))) found)
     ∙ (sym (ap (λ t. cond t None (or_else (fig_fault at (get_or rest 0 0) (drop 1 rest)) (figs_fault here.0 (at + 1 + len) (drop len (drop 1 rest))))) (ne_eqb _ _ header)) ∙ here.2)
 
-no_fault_in_nothing : (left at : ℕ) → figs_fault left at [] ≡ None
+pub no_fault_in_nothing : (left at : ℕ) → figs_fault left at [] ≡ None
 unfolding figs_fault
 no_fault_in_nothing zero at = refl
 no_fault_in_nothing (suc n) at = refl

@@ -5,8 +5,8 @@ use Rattle.std.proofs.lemmas.Bool.{ltb-false, ltb-true, cases_lt, eq-eqb, ne_eqb
 use Rattle.std.proofs.lemmas.List.{take-append-drop, length-take-le, length-append, append-nil}
 use Rattle.std.proofs.Math.Seq.{take-append_seam, drop-append_seam}
 use Rattle.mux_config.specs.Configuration.{Each}
-use Rattle.fib_codec.specs.Grammar.{IsFib, Fig, Open, Other, entry_len, ensemble_len, sub_len, packet_len, AreEntries, IsCounted, IsBody, IsOther, IsFig, AreFigs, is_open, is_long, fig_spelled}
-use Rattle.fib_reader.specs.Faults.{IsFault, entries_fault, ensemble_fault, body_fault, entry_at_fault, fig_fault, figs_fault, or_else}
+use Rattle.fib_codec.specs.Grammar.{Fig, Open, Other, entry_len, ensemble_len, sub_len, packet_len, AreEntries, IsCounted, IsBody, IsOther, IsFig, AreFigs, is_open, is_long, fig_spelled}
+use Rattle.fib_reader.specs.FirstFault.{entries_fault, ensemble_fault, body_fault, entry_at_fault, fig_fault, figs_fault, or_else}
 use Rattle.fib_reader.specs.declared.fault.FibFault.{FibFault}
 use Rattle.fib_reader.specs.declared.fault.FibFault.TheVariants.{Overrun, Entry}
 use Rattle.fib_reader.specs.Raw.{raw_of}
@@ -214,7 +214,7 @@ sound_low place h (s ∷ bs) low fits none =
     (λ is. no_entry_fault _
     (sym (ap (λ t. cond t (entry_at_fault (body_fault (s % 32) (is_long s) (place + 2) (take (h - 1) bs))) None) is) ∙ some.1)))
 
-sound_fig :
+pub sound_fig :
     (place h : ℕ) (bs : List ℕ) → h ≢ 255 → fig_fault place h bs ≡ None → (h % 32 ≤ length bs) × IsPiece (h ∷ take (h % 32) bs)
 sound_fig place h bs no_marker none =
     let one = through (nat_lt (length bs) (h % 32)) (Overrun place) _ none in
@@ -300,7 +300,7 @@ complete_body false ext long place bytes es is body =
     ∙ complete_entries (length bytes) ext long place bytes es body.0
 
 -- the tests of a FIG's header, past which its second byte is looked at
-past_tests :
+pub past_tests :
     (place h : ℕ) (bs : List ℕ) → h % 32 ≤ length bs → h ≤ 31 → h ≢ 0
     → fig_fault place h bs
     ≡ cond (is_open (get_or bs 0 0))
@@ -348,7 +348,7 @@ complete_other place h (s ∷ body) rest other =
           ∙ ap (λ t. cond t (entry_at_fault (body_fault (s % 32) (is_long s) (place + 2) (take (h - 1) (body ++ rest)))) None) closed
     ]
 
-complete_fig :
+pub complete_fig :
     (place h : ℕ) (after rest front : List ℕ) (f : Fig) → front ≡ h ∷ after → IsFig front f
     → fig_fault place h (after ++ rest) ≡ None
 complete_fig place h after rest front (Open second es) is fig =
@@ -471,24 +471,3 @@ pub no_fault_twice :
 no_fault_twice n place bytes fs e are found =
     let none : figs_fault n place bytes ≡ None = complete_figs n place bytes fs are in
     absurd (cc)
-
-pub one_fault : (bytes : List ℕ) (one other : FibFault) → IsFault bytes one → IsFault bytes other → one ≡ other
-one_fault bytes one other p q =
-    elim p [
-      | inl wrong ↦ elim q [
-        | inl again ↦ wrong.0 ∙ sym again.0
-        | inr right ↦ absurd (wrong.1 right.0)
-      ]
-      | inr right ↦ elim q [
-        | inl wrong ↦ absurd (wrong.1 right.0)
-        | inr again ↦ (let both : Some one ≡ Some other = sym right.1 ∙ again.1 in (cc))
-      ]
-    ]
-
-pub no_fault :
-    (bytes : List ℕ) (figs : List Fig) (fault : FibFault) → IsFib bytes figs → IsFault bytes fault → ⊥
-no_fault bytes figs fault p q =
-    elim q [
-      | inl wrong ↦ wrong.1 p.0
-      | inr right ↦ no_fault_twice (length (take 30 bytes)) 0 (take 30 bytes) figs fault p.1 right.1
-    ]

@@ -1,12 +1,12 @@
 -- Sets of entries, kept in ascending order of their identifiers.
-use Rattle.std.proofs.Common.{◌≡◌, ◌≢◌, ℕ, zero, suc, ◌+◌, ◌-◌, ◌<◌, ◌≤◌, ◌==◌, ◌++◌, Bool, true, false, cond, nat_lt, List, [], ◌∷◌, length, Option, Some, None, is_some, inl, inr, refl, ap, sym, ◌∙◌, subst, lt-ltb, le-ltb, arith}
+use Rattle.std.proofs.Common.{◌≡◌, ◌≢◌, ℕ, zero, suc, ◌+◌, ◌-◌, ◌<◌, ◌≤◌, ◌==◌, ◌++◌, Bool, true, false, cond, nat_lt, List, [], ◌∷◌, length, get_or, Option, Some, None, is_some, inl, inr, refl, ap, sym, ◌∙◌, subst, lt-ltb, le-ltb, arith}
 use Rattle.std.specs.Prelude.{◌||◌}
 use Rattle.std.proofs.lemmas.Bool.{cases_lt, eq-eqb, ne_eqb}
 use Rattle.mux_config.specs.Configuration.{Each, IsAscending}
 use Rattle.mux_config.specs.Tables.{entry_at, with_entry, with_entry_changed}
 use Rattle.mux_config.specs.Edits.{has_entry}
-use Rattle.std.specs.Prelude.{option_copied, slice_get}
-use Rattle.std.proofs.Common.{Bor, take}
+use Rattle.std.specs.Prelude.{slice_get, IfSome, IfNone}
+use Rattle.std.proofs.Common.{take}
 use Rattle.std.proofs.Math.Seq.{take-append_seam}
 use Rattle.fib_reader.specs.Raw.{Raw, IsRaw}
 use Rattle.fib_reader.specs.Listening.{identifier_of, is_known, kept, has_room}
@@ -127,16 +127,28 @@ has_entry-found k (x ∷ xs) =
       | false ↦ more
     ]
 
-copied-is_some : (o : Option (Bor Raw)) → is_some (option_copied o) ≡ is_some o
-copied-is_some None = refl
-copied-is_some (Some x) = refl
+slice_get_inside : (raws : List Raw) (place : ℕ) → place < length raws → is_some (slice_get raws place) ≡ true
+slice_get_inside [] place inside = absurd (omega arith)
+slice_get_inside (x ∷ xs) zero inside = refl
+slice_get_inside (x ∷ xs) (suc i) inside = slice_get_inside xs i (omega arith)
 
-pub looked_up :
-    (raw : Raw) (raws : List Raw) (identifier : ℕ) (o : Option (Bor Raw)) (b : Bool) → identifier ≡ identifier_of raw
-    → option_copied o ≡ entry_at identifier_of identifier raws → b ≡ is_some o → is_known raw raws ≡ b
-looked_up raw raws identifier o b same found is =
-    ap (λ k. has_entry identifier_of k raws) (sym same) ∙ has_entry-found identifier raws ∙ ap is_some (sym found)
-    ∙ copied-is_some o ∙ sym is
+pub known_at :
+    (raw : Raw) (raws : List Raw) (place : ℕ) → slice_get raws place ≡ entry_at identifier_of (identifier_of raw) raws
+    → place < length raws → is_known raw raws ≡ true
+known_at raw raws place found inside =
+    has_entry-found (identifier_of raw) raws ∙ ap is_some (sym found) ∙ slice_get_inside raws place inside
+
+pub unknown_where_none : (raw : Raw) (raws : List Raw) → entry_at identifier_of (identifier_of raw) raws ≡ None → is_known raw raws ≡ false
+unknown_where_none raw raws none = has_entry-found (identifier_of raw) raws ∙ ap is_some none
+
+pub known_by_place :
+    (raw : Raw) (raws : List Raw) (k : ℕ) (o : Option ℕ) → k ≡ identifier_of raw
+    → IfSome o (λ place. slice_get raws place ≡ entry_at identifier_of k raws) → IfSome o (λ place. place < length raws)
+    → IfNone o (entry_at identifier_of k raws ≡ None) → is_some o ≡ is_known raw raws
+known_by_place raw raws k None same found inside none =
+    sym (unknown_where_none raw raws (subst (λ n. entry_at identifier_of n raws ≡ None) same none))
+known_by_place raw raws k (Some place) same found inside none =
+    sym (known_at raw raws place (subst (λ n. slice_get raws place ≡ entry_at identifier_of n raws) same found) inside)
 
 -- an entry of equal parts
 pub raw_again :
@@ -146,6 +158,11 @@ raw_again raw ext long bytes is e l b =
     subst (λ (x : ℕ). IsRaw (record { ext = x; long = long; bytes = bytes })) (sym e)
     (subst (λ (x : Bool). IsRaw (record { ext = raw.ext; long = x; bytes = bytes })) (sym l)
     (subst (λ (x : List ℕ). IsRaw (record { ext = raw.ext; long = raw.long; bytes = x })) (sym b) is))
+
+pub raw_same :
+    (raw : Raw) (ext : ℕ) (long : Bool) (bytes : List ℕ) → ext ≡ raw.ext → long ≡ raw.long → bytes ≡ raw.bytes
+    → record { ext = ext; long = long; bytes = bytes } ≡ raw
+raw_same raw ext long bytes e l b = rw (e, l, b) refl
 
 pub copied_front : (n : ℕ) (xs ys zs : List ℕ) → length zs ≡ n → xs ≡ zs → take n (xs ++ ys) ≡ zs
 copied_front n xs ys zs len same =
@@ -197,3 +214,95 @@ pub kept_where_found :
     (raw : Raw) (raws : List Raw) (place : ℕ) → IsAscending identifier_of raws → slice_get raws place ≡ Some raw → raws ≡ kept raw raws
 kept_where_found raw raws place up found =
     sym (kept-known raw raws (known_where_found raw raws place found) ∙ changed_for_same raw raws place up found)
+
+-- ---- look-ups in an ascending list
+
+each_at : (P : Raw → Type 0) (raws : List Raw) (place : ℕ) (d : Raw) → Each P raws → place < length raws → P (get_or raws place d)
+each_at P [] place d all inside = absurd (omega arith)
+each_at P (x ∷ xs) zero d all inside = all.0
+each_at P (x ∷ xs) (suc i) d all inside = each_at P xs i d all.1 (omega arith)
+
+-- the entry of this identifier is the one that has it
+pub found_at :
+    (k : ℕ) (raws : List Raw) (place : ℕ) (d : Raw) → IsAscending identifier_of raws → place < length raws
+    → identifier_of (get_or raws place d) ≡ k → slice_get raws place ≡ entry_at identifier_of k raws
+found_at k [] place d up inside is = absurd (omega arith)
+found_at k (x ∷ xs) zero d up inside is = sym (ap (λ b. cond b (Some x) (entry_at identifier_of k xs)) (eq-eqb (identifier_of x) k is))
+found_at k (x ∷ xs) (suc i) d up inside is =
+    let less : identifier_of x < identifier_of (get_or xs i d) = each_at (λ y. identifier_of x < identifier_of y) xs i d up.0 (omega arith) in
+    let other : identifier_of x ≢ k = λ e. omega arith in
+    found_at k xs i d up.1 (omega arith) is
+    ∙ sym (ap (λ b. cond b (Some x) (entry_at identifier_of k xs)) (ne_eqb (identifier_of x) k other))
+
+same_at : (raws : List Raw) (i : ℕ) (d e : Raw) → i < length raws → get_or raws i d ≡ get_or raws i e
+same_at [] i d e inside = absurd (omega arith)
+same_at (x ∷ xs) zero d e inside = refl
+same_at (x ∷ xs) (suc i) d e inside = same_at xs i d e (omega arith)
+
+-- the same where it was got by its place
+pub found_by :
+    (k : ℕ) (raws : List Raw) (place : ℕ) (raw : Raw) → IsAscending identifier_of raws → slice_get raws place ≡ Some raw
+    → identifier_of raw ≡ k → slice_get raws place ≡ entry_at identifier_of k raws
+found_by k [] place raw up got is = absurd (cc)
+found_by k (x ∷ xs) zero raw up got is =
+    let same : x ≡ raw = (cc) in
+    sym (ap (λ b. cond b (Some x) (entry_at identifier_of k xs)) (eq-eqb (identifier_of x) k (ap identifier_of same ∙ is)))
+found_by k (x ∷ xs) (suc i) raw up got is =
+    let less : identifier_of x < identifier_of raw = each_found (λ y. identifier_of x < identifier_of y) xs i raw up.0 got in
+    found_by k xs i raw up.1 got is
+    ∙ sym (ap (λ b. cond b (Some x) (entry_at identifier_of k xs)) (ne_eqb (identifier_of x) k (λ e. omega arith)))
+
+-- what a search by halves knows: identifiers before `low` are smaller, those from `high` on are greater
+pub record IsBetween (k low high : ℕ) (raws : List Raw) : Type 0 where
+  pub smaller : (i : ℕ) (d : Raw) → i < low → i < length raws → identifier_of (get_or raws i d) < k
+  pub greater : (i : ℕ) (d : Raw) → high ≤ i → i < length raws → k < identifier_of (get_or raws i d)
+
+pub ordered :
+    (raws : List Raw) (i j : ℕ) (d e : Raw) → IsAscending identifier_of raws → i < j → j < length raws
+    → identifier_of (get_or raws i d) < identifier_of (get_or raws j e)
+ordered [] i j d e up less inside = absurd (omega arith)
+ordered (x ∷ xs) zero zero d e up less inside = absurd (omega arith)
+ordered (x ∷ xs) zero (suc j) d e up less inside = each_at (λ y. identifier_of x < identifier_of y) xs j e up.0 (omega arith)
+ordered (x ∷ xs) (suc i) zero d e up less inside = absurd (omega arith)
+ordered (x ∷ xs) (suc i) (suc j) d e up less inside = ordered xs i j d e up.1 (omega arith) (omega arith)
+
+pub all_between : (k : ℕ) (raws : List Raw) → IsBetween k 0 (length raws) raws
+all_between k raws = record { smaller = λ i d less inside. absurd (omega arith); greater = λ i d least inside. absurd (omega arith) }
+
+pub above_middle :
+    (k low high middle : ℕ) (raws : List Raw) (d : Raw) → IsAscending identifier_of raws → IsBetween k low high raws → middle < length raws
+    → identifier_of (get_or raws middle d) < k → IsBetween k (middle + 1) high raws
+above_middle k low high middle raws d up h inside less = record {
+  smaller = λ i e before in_list. elim (cases_lt i middle) [
+    | inl lt ↦ (let step = ordered raws i middle e d up lt inside in omega arith)
+    | inr ge ↦ (let same : middle ≡ i = omega arith in
+        subst (λ n. identifier_of (get_or raws n e) < k) same (subst (λ x. identifier_of x < k) (same_at raws middle d e inside) less))
+  ];
+  greater = h.greater;
+}
+
+pub below_middle :
+    (k low high middle : ℕ) (raws : List Raw) (d : Raw) → IsAscending identifier_of raws → IsBetween k low high raws → middle < length raws
+    → k < identifier_of (get_or raws middle d) → IsBetween k low middle raws
+below_middle k low high middle raws d up h inside more = record {
+  smaller = h.smaller;
+  greater = λ i e least in_list. elim (cases_lt middle i) [
+    | inl lt ↦ (let step = ordered raws middle i d e up lt in_list in omega arith)
+    | inr ge ↦ (let same : middle ≡ i = omega arith in
+        subst (λ n. k < identifier_of (get_or raws n e)) same (subst (λ x. k < identifier_of x) (same_at raws middle d e inside) more))
+  ];
+}
+
+-- nothing is left between: there is no such entry
+pub none_at : (k : ℕ) (raws : List Raw) → ((i : ℕ) (d : Raw) → i < length raws → identifier_of (get_or raws i d) ≢ k) → entry_at identifier_of k raws ≡ None
+none_at k [] other = refl
+none_at k (x ∷ xs) other =
+    ap (λ b. cond b (Some x) (entry_at identifier_of k xs)) (ne_eqb (identifier_of x) k (other 0 x (omega arith)))
+    ∙ none_at k xs (λ i d inside. other (suc i) d (omega arith))
+
+pub none_between :
+    (k low high : ℕ) (raws : List Raw) → IsBetween k low high raws → high ≤ low → entry_at identifier_of k raws ≡ None
+none_between k low high raws h none = none_at k raws (λ i d inside. elim (cases_lt i low) [
+  | inl lt ↦ (let less = h.smaller i d lt inside in λ e. omega arith)
+  | inr ge ↦ (let more = h.greater i d (omega arith) inside in λ e. omega arith)
+])

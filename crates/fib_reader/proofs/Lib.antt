@@ -2,8 +2,13 @@ pub mod FaultSteps
 pub mod Lengths
 pub mod EntryLists
 pub mod FigLists
+pub mod EntryFaults
+pub mod FigFaults
+pub mod Places
 pub mod Keeping
-pub mod Room
+pub mod Forecast
+pub mod Order
 pub mod Components
 pub mod SaidMembers
 pub mod Shown
+pub mod Vectors

@@ -1,61 +1,77 @@
--- The first fault of a FIB, from the front; the check word comes before all others.
-use Rattle.std.specs.Prelude.{◌≡◌, ℕ, zero, suc, ◌+◌, ◌-◌, ◌%◌, ◌==◌, Bool, false, if◌then◌else◌, nat_lt, List, [], ◌∷◌, length, get_or, take, drop, Option, Some, None, ◌⊎◌}
-use Rattle.fib_codec.specs.Grammar.{entry_len, is_open, is_long}
+-- Why 32 bytes are no FIB, and where: what stands before the place of a fault is whole, and what stands there is not.
+use Rattle.std.specs.Prelude.{◌≡◌, ◌≢◌, ℕ, ◌+◌, ◌%◌, ◌<◌, Bool, true, List, [], ◌∷◌, ◌++◌, length, take, ◌⊎◌}
+use Rattle.fib_codec.specs.Grammar.{Fig, IsFig, IsEntry, AreEntries, IsCounted, is_open, is_long}
 use Rattle.fib_codec.specs.Crc.{IsChecked}
 use Rattle.fib_reader.specs.declared.fault.FibFault.{FibFault}
 use Rattle.fib_reader.specs.declared.fault.FibFault.TheVariants.{Crc, Overrun, Entry}
 
--- the place of the first entry that isn't whole, where `bytes` stand at `place`; at most `n` entries are looked at
-unfoldable pub entries_fault : ℕ → ℕ → Bool → ℕ → List ℕ → Option ℕ
-entries_fault zero ext long place bytes = None
-entries_fault (suc n) ext long place [] = None
-entries_fault (suc n) ext long place (b ∷ bs) =
-    let len = entry_len ext long (b ∷ bs) in
-    if nat_lt (length (b ∷ bs)) len then Some place
-    else entries_fault n ext long (place + len) (drop len (b ∷ bs))
+-- FIGs one after another, and nothing else
+abbrev pub AreWhole : List ℕ → List Fig → Type 0
+AreWhole bytes [] = bytes ≡ []
+AreWhole bytes (f ∷ fs) = (front rest : List ℕ) × (bytes ≡ front ++ rest) × IsFig front f × AreWhole rest fs
 
--- the one entry of FIG 0/0 must be whole, with a count in range; whatever follows it is at fault
-abbrev pub ensemble_fault : ℕ → List ℕ → Option ℕ
-ensemble_fault place bytes =
-    let len = entry_len 0 false bytes in
-    if nat_lt (length bytes) len then Some place
-    else if nat_lt 19 (get_or bytes 2 0 % 32) then Some place
-    else if nat_lt 249 (get_or bytes 3 0) then Some place
-    else if nat_lt len (length bytes) then Some (place + len)
-    else None
+-- whole FIGs lead up to the header at this place, which is no end marker; the rest follows it
+pub record StandsAt (bytes : List ℕ) (place header : ℕ) (rest : List ℕ) : Type 0 where
+  pub front : List ℕ
+  pub figs : List Fig
+  pub split : bytes ≡ front ++ header ∷ rest
+  pub whole : AreWhole front figs
+  pub place_is : length front ≡ place
+  pub no_marker : header ≢ 255
 
-abbrev pub body_fault : ℕ → Bool → ℕ → List ℕ → Option ℕ
-body_fault ext long place bytes =
-    if ext == 0 then ensemble_fault place bytes else entries_fault (length bytes) ext long place bytes
+-- the FIG at this place is longer than the bytes that are left
+abbrev pub IsOverrun : List ℕ → ℕ → Type 0
+IsOverrun bytes place =
+    (header : ℕ) × (rest : List ℕ) × StandsAt bytes place header rest × (length rest < header % 32)
 
-abbrev pub entry_at_fault : Option ℕ → Option FibFault
-entry_at_fault None = None
-entry_at_fault (Some place) = Some (Entry place)
+-- a whole entry; that of FIG 0/0 has a CIF count in range
+abbrev pub IsGood : ℕ → Bool → List ℕ → Type 0
+IsGood ext long e = IsEntry ext long e × (ext ≡ 0 → IsCounted e)
 
--- the fault of the FIG whose header `h` stands at `place`, before `bytes`
-abbrev pub fig_fault : ℕ → ℕ → List ℕ → Option FibFault
-fig_fault place h bytes =
-    if nat_lt (length bytes) (h % 32) then Some (Overrun place)
-    else if nat_lt 31 h then None
-    else if h == 0 then Some (Entry place)
-    else if is_open (get_or bytes 0 0)
-    then entry_at_fault (body_fault (get_or bytes 0 0 % 32) (is_long (get_or bytes 0 0)) (place + 2) (take (h - 1) (drop 1 bytes)))
-    else None
+abbrev pub BeginsNone : ℕ → Bool → List ℕ → Type 0
+BeginsNone ext long bytes = (e rest : List ℕ) → bytes ≡ e ++ rest → IsGood ext long e → ⊥
 
-abbrev pub or_else : Option FibFault → Option FibFault → Option FibFault
-or_else (Some e) other = Some e
-or_else None other = other
+-- whole entries lead up to this place, and there stand bytes that begin none
+pub record IsNoEntryAt (ext : ℕ) (long : Bool) (bytes : List ℕ) (place : ℕ) : Type 0 where
+  pub front : List ℕ
+  pub left : List ℕ
+  pub entries : List (List ℕ)
+  pub split : bytes ≡ front ++ left
+  pub whole : AreEntries ext long front entries
+  pub place_is : length front ≡ place
+  pub some : left ≢ []
+  pub none : BeginsNone ext long left
 
--- the first fault of the FIGs in `bytes`, which stand at `place`; at most `n` FIGs are looked at
-unfoldable pub figs_fault : ℕ → ℕ → List ℕ → Option FibFault
-figs_fault zero place bytes = None
-figs_fault (suc n) place [] = None
-figs_fault (suc n) place (h ∷ bs) =
-    if h == 255 then None
-    else or_else (fig_fault place h bs) (figs_fault n (place + 1 + h % 32) (drop (h % 32) bs))
+-- FIG 0/0 is to have one entry: it has none, or something follows it
+abbrev pub IsNotOneAt : Bool → List ℕ → ℕ → Type 0
+IsNotOneAt long bytes place =
+    ((place ≡ 0) × BeginsNone 0 long bytes)
+    ⊎ ((e left : List ℕ) × (bytes ≡ e ++ left) × IsGood 0 long e × (left ≢ []) × (place ≡ length e))
 
--- the one fault of 32 bytes that are no FIB
+-- what follows the second byte of a FIG that is looked into is at fault at this place
+abbrev pub IsBodyFault : ℕ → Bool → List ℕ → ℕ → Type 0
+IsBodyFault ext long bytes place =
+    ((ext ≢ 0) × IsNoEntryAt ext long bytes place) ⊎ ((ext ≡ 0) × IsNotOneAt long bytes place)
+
+-- a FIG that is looked into stands `at` its header, whole, and its entries are at fault
+pub record IsFigFault (bytes : List ℕ) (place : ℕ) : Type 0 where
+  pub at : ℕ
+  pub second : ℕ
+  pub body : List ℕ
+  pub after : List ℕ
+  pub within : ℕ
+  pub stands : StandsAt bytes at (1 + length body) (second ∷ body ++ after)
+  pub short : length body < 31
+  pub looked_into : is_open second ≡ true
+  pub fault : IsBodyFault (second % 32) (is_long second) body within
+  pub place_is : place ≡ at + 2 + within
+
+-- a FIG of type 0 without its second byte stands there, or an entry is at fault
+abbrev pub IsEntryFault : List ℕ → ℕ → Type 0
+IsEntryFault bytes place = ((rest : List ℕ) × StandsAt bytes place 0 rest) ⊎ IsFigFault bytes place
+
+-- the check word comes before all others
 abbrev pub IsFault : List ℕ → FibFault → Type 0
-IsFault bytes e =
-    ((e ≡ Crc) × (IsChecked bytes → ⊥))
-    ⊎ (IsChecked bytes × (figs_fault (length (take 30 bytes)) 0 (take 30 bytes) ≡ Some e))
+IsFault bytes Crc = IsChecked bytes → ⊥
+IsFault bytes (Overrun place) = IsChecked bytes × IsOverrun (take 30 bytes) place
+IsFault bytes (Entry place) = IsChecked bytes × IsEntryFault (take 30 bytes) place

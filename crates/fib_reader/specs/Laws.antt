@@ -1,18 +1,35 @@
 -- Laws of reading.
-use Rattle.std.specs.Prelude.{◌≡◌, ◌≤◌, ℕ, List, map, length}
+use Rattle.std.specs.Prelude.{◌≡◌, ◌≤◌, ℕ, ◌++◌, ◌⊎◌, List, map, flat_map, take, length}
+use Rattle.mux_config.specs.Entries.{EnsembleInformation}
+use Rattle.mux_config.specs.declared.entry.Entry.TheVariants.{Ensemble as EnsembleOf}
 use Rattle.mux_config.specs.Configuration.{Each}
 use Rattle.fib_codec.specs.Spelling.{Written, IsWritten, figs_bytes, fib_bytes}
-use Rattle.fib_codec.specs.Grammar.{Fig, IsFib, fig_of}
+use Rattle.fib_codec.specs.Grammar.{Fig, IsFib, fig_of, fig_spelled}
+use Rattle.fib_codec.specs.Ranges.{IsEnsembleInformation}
 use Rattle.fib_reader.specs.declared.fault.FibFault.{FibFault}
 use Rattle.fib_reader.specs.Faults.{IsFault}
+use Rattle.fib_reader.specs.Raw.{raw_entry, ensemble_in}
 
 -- what is a FIB has no fault
 abbrev pub FaultOrFigs : Type 0
 FaultOrFigs = (bytes : List ℕ) (figs : List Fig) (fault : FibFault) → IsFib bytes figs → IsFault bytes fault → ⊥
 
--- what is none has one fault that is the first
+-- and what is none has one
+abbrev pub FigsOrFault : Type 0
+FigsOrFault = (bytes : List ℕ) → ((figs : List Fig) × IsFib bytes figs) ⊎ ((fault : FibFault) × IsFault bytes fault)
+
+-- and only one
 abbrev pub OneFault : Type 0
 OneFault = (bytes : List ℕ) (one other : FibFault) → IsFault bytes one → IsFault bytes other → one ≡ other
+
+-- the FIGs of a FIB, spelled one after another, are the front of its thirty data bytes
+abbrev pub FigsAreTheFront : Type 0
+FigsAreTheFront =
+    (bytes : List ℕ) (figs : List Fig) → IsFib bytes figs → (rest : List ℕ) × (take 30 bytes ≡ flat_map fig_spelled figs ++ rest)
+
+-- ensemble information that is sent is heard as it is
+abbrev pub EnsembleIsHeard : Type 0
+EnsembleIsHeard = (e : EnsembleInformation) → IsEnsembleInformation e → ensemble_in (raw_entry (EnsembleOf e)) ≡ e
 
 -- a FIB that is written has no fault, and the FIGs that are read are those that were written
 abbrev pub WrittenIsGood : Type 0

@@ -1,10 +1,13 @@
 pub mod Faults
+pub mod FirstFault
 pub mod Raw
 pub mod Walk
 pub mod Listening
 pub mod Picture
+pub mod Forecast
 pub mod Laws
 pub use Rattle.mux_config.specs.Configuration
+pub use Rattle.mux_config.specs.Entries
 pub use Rattle.mux_config.specs.Facts
 pub use Rattle.mux_config.specs.Tables
 pub use Rattle.mux_config.specs.Edits

@@ -1,13 +1,14 @@
 -- What a receiver believes of the multiplex after what it has heard: a fold over the FIGs of undamaged FIBs
 -- (EN 300 401 clauses 6.2.1, 6.3.1, 6.3.2, 6.4 and 6.5).
-use Rattle.std.specs.Prelude.{◌≡◌, ℕ, ◌+◌, ◌*◌, ◌/◌, ◌==◌, ◌||◌, Bool, true, false, if◌then◌else◌, nat_lt, List, [], ◌∷◌, ◌++◌, length, get_or, Option, Some, None, Result, Ok, Err}
+use Rattle.std.specs.Prelude.{◌≡◌, ℕ, ◌+◌, ◌*◌, ◌/◌, ◌%◌, ◌==◌, ◌||◌, Bool, true, false, if◌then◌else◌, nat_lt, List, [], ◌∷◌, ◌++◌, length, get_or, Option, Some, None, Result, Ok, Err}
+use Rattle.mux_config.specs.Entries.{EnsembleInformation}
 use Rattle.mux_config.specs.Tables.{with_entry, with_entry_changed}
 use Rattle.mux_config.specs.Edits.{has_entry}
 use Rattle.fib_codec.specs.Grammar.{Fig, Open, Other, IsFib, is_next}
 use Rattle.fib_reader.specs.declared.fault.ListenFault.{ListenFault}
 use Rattle.fib_reader.specs.declared.fault.ListenFault.TheVariants.{Fib, Full}
 use Rattle.fib_reader.specs.Faults.{IsFault}
-use Rattle.fib_reader.specs.Raw.{Raw, entries_in}
+use Rattle.fib_reader.specs.Raw.{Raw, entries_in, word_at, ensemble_in}
 
 -- the entries heard of one configuration, each list in ascending order of identifiers
 pub record Pictured : Type 0 where
@@ -22,14 +23,12 @@ blank = record { subs = []; services = []; packets = [] }
 abbrev pub all_entries : Pictured → List Raw
 all_entries p = p.subs ++ p.services ++ p.packets
 
--- the identifier that tells an entry from others of its extension: the SubChId in both forms of FIG 0/1, the SId
--- with short ones before long ones, the SCId
-abbrev pub word_at : ℕ → List ℕ → ℕ
-word_at place bytes = get_or bytes place 0 * 256 + get_or bytes (place + 1) 0
-
+-- the identifier that tells an entry from others of its extension: the EId, the SubChId in both forms of FIG 0/1,
+-- the SId with short ones before long ones, the SCId
 abbrev pub identifier_of : Raw → ℕ
 identifier_of raw =
-    if raw.ext == 1 then get_or raw.bytes 0 0 / 4
+    if raw.ext == 0 then word_at 0 raw.bytes
+    else if raw.ext == 1 then get_or raw.bytes 0 0 / 4
     else if raw.ext == 2
     then (if raw.long then 65536 + (word_at 0 raw.bytes * 65536 + word_at 2 raw.bytes) else word_at 0 raw.bytes)
     else word_at 0 raw.bytes / 16
@@ -64,29 +63,20 @@ pub record Listening : Type 0 where
 abbrev pub untuned : Listening
 untuned = record { tuned = false; current = blank; next = blank; awaited = None }
 
--- FIG 0/0: the change flags, the low part of the CIF count, the occurrence change
-abbrev pub flags_of : Raw → ℕ
-flags_of raw = get_or raw.bytes 2 0 / 64
-
-abbrev pub low_part_of : Raw → ℕ
-low_part_of raw = get_or raw.bytes 3 0
-
-abbrev pub occurrence_of : Raw → ℕ
-occurrence_of raw = get_or raw.bytes 4 0
-
--- the awaited swap has been made: the flags are gone, or the count is the awaited one
-abbrev pub is_made : Option ℕ → Raw → Bool
-is_made None raw = false
-is_made (Some low) raw = flags_of raw == 0 || low_part_of raw == low
+-- the awaited swap has been made: no change flag is set any more, or the low part of the CIF count is the awaited one
+abbrev pub is_made : Option ℕ → EnsembleInformation → Bool
+is_made None e = false
+is_made (Some low) e = e.change == 0 || e.count % 250 == low
 
 abbrev pub swapped : Listening → Listening
 swapped l = record l { current = l.next; next = blank; awaited = None }
 
-abbrev pub awaiting : Raw → Listening → Listening
-awaiting raw l = if flags_of raw == 0 then l else record l { awaited = Some (occurrence_of raw) }
+-- where a change flag is set, the swap is awaited at the occurrence change
+abbrev pub awaiting : EnsembleInformation → Listening → Listening
+awaiting e l = if e.change == 0 then l else record l { awaited = e.occurrence }
 
-abbrev pub at_ensemble : Raw → Listening → Listening
-at_ensemble raw l = awaiting raw (record (if is_made l.awaited raw then swapped l else l) { tuned = true })
+abbrev pub at_ensemble : EnsembleInformation → Listening → Listening
+at_ensemble e l = awaiting e (record (if is_made l.awaited e then swapped l else l) { tuned = true })
 
 -- an entry of FIG 0/1 to 0/3 goes into the picture that its C/N flag names
 abbrev pub into : Bool → Listening → Option Pictured → Option Listening
@@ -100,7 +90,7 @@ picture_of next l = if next then l.next else l.current
 -- one entry, under this C/N flag; before the first FIG 0/0 the others are passed over
 abbrev pub hear_entry : Bool → Raw → Listening → Option Listening
 hear_entry next raw l =
-    if raw.ext == 0 then Some (at_ensemble raw l)
+    if raw.ext == 0 then Some (at_ensemble (ensemble_in raw) l)
     else if l.tuned then into next l (pictured raw (picture_of next l))
     else Some l
 

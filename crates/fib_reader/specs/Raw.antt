@@ -1,5 +1,6 @@
 -- Entries of FIGs as they are sent, as their bytes (EN 300 401 clauses 5.2.2.1, 6.2.1, 6.3.1, 6.3.2 and 6.4).
-use Rattle.std.specs.Prelude.{◌≡◌, ◌≢◌, ℕ, ◌%◌, ◌<◌, ◌==◌, ◌&&◌, Bool, false, List, [], map, Option, Some, None}
+use Rattle.std.specs.Prelude.{◌≡◌, ◌≢◌, ℕ, ◌+◌, ◌*◌, ◌/◌, ◌%◌, ◌<◌, ◌==◌, ◌&&◌, Bool, false, if◌then◌else◌, List, [], get_or, map, Option, Some, None}
+use Rattle.mux_config.specs.Entries.{EnsembleInformation}
 use Rattle.mux_config.specs.declared.entry.Entry.{Entry}
 use Rattle.fib_codec.specs.declared.head.Head.{Head}
 use Rattle.fib_codec.specs.Ranges.{IsWithin}
@@ -42,3 +43,17 @@ raw_entry e = record { ext = ext_of e; long = is_long_entry e; bytes = entry_byt
 pub record IsValue (raw : Raw) (e : Entry) : Type 0 where
   pub spelled : raw ≡ raw_entry e
   pub within : IsWithin e
+
+-- two bytes from a place on, as a number
+abbrev pub word_at : ℕ → List ℕ → ℕ
+word_at place bytes = get_or bytes place 0 * 256 + get_or bytes (place + 1) 0
+
+-- the ensemble information that an entry of FIG 0/0 says
+abbrev pub ensemble_in : Raw → EnsembleInformation
+ensemble_in raw = record {
+  eid = word_at 0 raw.bytes;
+  change = get_or raw.bytes 2 0 / 64;
+  al = get_or raw.bytes 2 0 / 32 % 2 == 1;
+  count = get_or raw.bytes 2 0 % 32 * 250 + get_or raw.bytes 3 0;
+  occurrence = if get_or raw.bytes 2 0 / 64 == 0 then None else Some (get_or raw.bytes 4 0);
+}

@@ -2,7 +2,7 @@
 
 ghost use Rattle.std.specs.Prelude.{◌≡◌, ◌<◌, get_or};
 ghost use Rattle.fib_codec.specs.Grammar.{entry_len, is_open, is_long};
-ghost use Rattle.fib_reader.specs.Listening.{word_at};
+ghost use Rattle.fib_reader.specs.Raw.{word_at};
 
 /// The byte at a place, or 0 past the end.
 pub(crate) fn byte_at(bytes: &[u8], place: usize) -> u8

@@ -2,7 +2,8 @@
 
 ghost use Rattle.std.specs.Prelude.{◌≡◌, ℕ, ◌+◌, ◌<◌, ◌≤◌, List, length, Ok, IfOk, IfErr};
 ghost use Rattle.fib_codec.specs.Grammar.{Fig, IsFib};
-ghost use Rattle.fib_reader.specs.Faults.{entries_fault, ensemble_fault, body_fault, fig_fault, figs_fault, IsFault};
+ghost use Rattle.fib_reader.specs.Faults.{IsFault};
+ghost use Rattle.fib_reader.specs.FirstFault.{entries_fault, ensemble_fault, body_fault, fig_fault, figs_fault};
 
 use crate::bytes::{byte_at, entry_len_of, is_long_of, is_open_of};
 use crate::fault::FibFault;

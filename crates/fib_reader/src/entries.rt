@@ -6,7 +6,7 @@ ghost use Rattle.fib_reader.specs.Walk.{entries_of};
 
 use crate::bytes::{byte_at, entry_len_of, is_long_of, word_at};
 use crate::value::{ensemble_of, packet_of, service_of, short_of, sub_of};
-use mux_config::Entry;
+use mux_config::{Ensemble, Entry};
 use std::marker::Model;
 
 /// An entry of FIG 0/0 to 0/3 as it is sent. It lends its bytes.
@@ -29,7 +29,7 @@ impl<'a> Model for RawEntry<'a> {
 
 impl<'a> RawEntry<'a> {
     ghost use Rattle.std.specs.Prelude.{◌≡◌, ◌<◌, ◌≤◌, length};
-    ghost use Rattle.fib_reader.specs.Raw.{IsRaw, IsValue};
+    ghost use Rattle.fib_reader.specs.Raw.{IsRaw, IsValue, ensemble_in};
     ghost use Rattle.fib_reader.specs.Listening.{identifier_of};
 
     /// An entry of these bytes, which must be whole.
@@ -40,14 +40,16 @@ impl<'a> RawEntry<'a> {
         RawEntry { ext, long, bytes }
     }
 
-    /// What tells it from the other entries of its extension: the SubChId in both forms of FIG 0/1, the SId
-    /// with all short ones before the long ones, the SCId (EN 300 401 clauses 6.2.1, 6.3.1 and 6.3.2).
+    /// What tells it from the other entries of its extension: the EId of ensemble information, the SubChId in
+    /// both forms of FIG 0/1, the SId with all short ones before the long ones, the SCId (EN 300 401 clauses 6.4,
+    /// 6.2.1, 6.3.1 and 6.3.2).
     pub fn identifier(&self) -> u64
         ensures value { result ≡ identifier_of self.now }
         ensures sub { self.now.ext ≡ 1 → result < 64 }
         ensures in_range { self.now.ext < 4 }
     {
         match self.ext {
+            0 => word_at(self.bytes, 0),
             1 => u64::from(byte_at(self.bytes, 0) / 4),
             2 => {
                 if self.long {
@@ -82,6 +84,14 @@ impl<'a> RawEntry<'a> {
         ensures { result ≡ self.now.long }
     {
         self.long
+    }
+
+    /// The ensemble information that an entry of FIG 0/0 says (EN 300 401 clause 6.4).
+    pub(crate) fn ensemble(&self) -> Ensemble
+        requires { self.now.ext ≡ 0 }
+        ensures { result ≡ ensemble_in self.now }
+    {
+        ensemble_of(self.bytes)
     }
 
     /// Its value: the entry that is sent so (EN 300 401 clauses 6.2.1, 6.3.1, 6.3.2 and 6.4).

@@ -150,4 +150,11 @@ impl<'a> Figs<'a> {
     {
         Figs { rest: bytes }
     }
+
+    /// The same FIGs, to be gone through once more.
+    pub(crate) fn again(&self) -> Figs<'a>
+        ensures { result ≡ self.now }
+    {
+        Figs { rest: self.rest }
+    }
 }

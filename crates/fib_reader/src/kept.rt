@@ -9,9 +9,11 @@ use std::marker::Model;
 /// The longest entry there can be: a service with an SId of 32 bits and 15 components.
 const LONGEST: usize = 35;
 
-/// An entry with bytes of its own. Contracts see it as the entry that is sent.
+/// An entry with bytes of its own, and with its identifier, by which it is looked up. Contracts see it as the
+/// entry that is sent.
 #[derive(Drop)]
 pub struct Kept {
+    identifier: u64,
     bytes: [u8; LONGEST],
     len: u8,
     ext: u8,
@@ -19,14 +21,16 @@ pub struct Kept {
 }
 
 impl Model for Kept {
-    ghost use Rattle.std.specs.Prelude.{take, ◌≤◌};
+    ghost use Rattle.std.specs.Prelude.{take, ◌≡◌, ◌≤◌};
     ghost use Rattle.fib_reader.specs.Raw.{Raw, IsRaw};
+    ghost use Rattle.fib_reader.specs.Listening.{identifier_of};
 
     ghost Value = { Raw };
 
     ghost view = { λ k. record { ext = k.ext; long = k.long; bytes = take k.len k.bytes } };
 
-    ghost invariant = { λ k. (k.len ≤ 35) × IsRaw (record { ext = k.ext; long = k.long; bytes = take k.len k.bytes }) };
+    ghost invariant = { λ k. (k.len ≤ 35) × IsRaw (record { ext = k.ext; long = k.long; bytes = take k.len k.bytes })
+        × (k.identifier ≡ identifier_of (record { ext = k.ext; long = k.long; bytes = take k.len k.bytes })) };
 }
 
 impl Kept {
@@ -38,6 +42,7 @@ impl Kept {
         let mut bytes = [0; LONGEST];
         bytes[..given.len()].copy_from_slice(given);
         Kept {
+            identifier: entry.identifier(),
             bytes,
             len: given.len() as u8,
             ext: entry.ext(),
@@ -71,6 +76,7 @@ impl Default for Kept {
     /// A sub-channel in the short form, all zeros. It fills the unused places of a table.
     fn default() -> Kept {
         Kept {
+            identifier: 0,
             bytes: [0; LONGEST],
             len: 3,
             ext: 1,
@@ -85,11 +91,12 @@ impl Keyed for Kept {
     ghost key = { identifier_of };
 
     fn key(&self) -> u64 {
-        self.lent().identifier()
+        self.identifier
     }
 
     fn copied(&self) -> Kept {
         Kept {
+            identifier: self.identifier,
             bytes: self.bytes,
             len: self.len,
             ext: self.ext,

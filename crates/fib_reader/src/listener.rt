@@ -1,11 +1,11 @@
 //! A receiver's memory of the multiplex configuration.
 
-use crate::bytes::byte_at;
 use crate::checking::check;
 use crate::entries::{Entries, RawEntry};
 use crate::fault::ListenFault;
 use crate::figs::Figs;
 use crate::picture::Picture;
+use mux_config::Ensemble;
 use std::marker::Model;
 use std::mem;
 
@@ -28,11 +28,10 @@ impl Model for Listener {
 }
 
 impl Listener {
-    ghost use Rattle.std.specs.Prelude.{◌≡◌, ◌≤◌, List, true, false, Some, None};
+    ghost use Rattle.std.specs.Prelude.{◌≡◌, List, true, false, Some, None, IfSome};
     ghost use Rattle.fib_codec.specs.Grammar.{Fig, IsFib};
-    ghost use Rattle.fib_reader.specs.Raw.{Raw};
-    ghost use Rattle.fib_reader.specs.Picture.{IsRoomy, entry_count};
-    ghost use Rattle.fib_reader.specs.Listening.{untuned, at_ensemble, hear_entry, hear_entries, hear_figs, swapped, Hears, Heard};
+    ghost use Rattle.fib_reader.specs.Forecast.{IsKnownTo, LeavesRoom};
+    ghost use Rattle.fib_reader.specs.Listening.{Listening, untuned, at_ensemble, hear_entry, hear_entries, hear_figs, swapped, Hears, Heard};
 
     /// A listener that has heard nothing.
     pub fn new() -> Listener
@@ -44,6 +43,13 @@ impl Listener {
             next: Picture::new(),
             awaited: None,
         }
+    }
+
+    /// Whether it has heard a FIG 0/0 yet, and keeps entries.
+    pub fn is_tuned(&self) -> bool
+        ensures { result ≡ self.now.tuned }
+    {
+        self.tuned
     }
 
     /// What it has heard of the current configuration.
@@ -79,18 +85,16 @@ impl Listener {
     }
 
     /// Takes note of ensemble information.
-    fn hear_ensemble(&mut self, entry: &RawEntry<'_>)
-        ensures { self.new ≡ at_ensemble entry.now self.old }
+    fn hear_ensemble(&mut self, ensemble: &Ensemble)
+        ensures { self.new ≡ at_ensemble ensemble.now self.old }
     {
-        let bytes = entry.bytes();
-        let flags = byte_at(bytes, 2) / 64;
         if let Some(low) = self.awaited {
-            if flags == 0 || byte_at(bytes, 3) == low {
+            if ensemble.change() == 0 || ensemble.count() % 250 == u16::from(low) {
                 self.swap();
             }
         }
-        if flags > 0 {
-            self.awaited = Some(byte_at(bytes, 4));
+        if ensemble.change() > 0 {
+            self.awaited = ensemble.occurrence();
         }
         self.tuned = true;
     }
@@ -101,7 +105,7 @@ impl Listener {
         ensures full { result ≡ false → hear_entry next entry.now self.old ≡ None }
     {
         if entry.ext() == 0 {
-            self.hear_ensemble(entry);
+            self.hear_ensemble(&entry.ensemble());
             return true;
         }
         if !self.tuned {
@@ -142,11 +146,114 @@ impl Listener {
         true
     }
 
-    /// Whether no picture can become full by the entries of one FIB, of which there are ten at most.
-    fn is_roomy(&self) -> bool
-        ensures { result ≡ true → IsRoomy 54 self.now }
+    /// Whether it knows this ensemble information, so that nothing changes where it is heard.
+    fn knows_ensemble(&self, ensemble: &Ensemble) -> bool
+        ensures { result ≡ true → IsKnownTo self.now ensemble.now }
     {
-        self.current.is_roomy() && self.next.is_roomy()
+        if !self.is_tuned() {
+            return false;
+        }
+        match self.awaited {
+            None => ensemble.change() == 0,
+            Some(low) => {
+                ensemble.change() > 0
+                    && ensemble.count() % 250 != u16::from(low)
+                    && ensemble.occurrence() == self.awaited
+            }
+        }
+    }
+
+    /// Whether it knows this entry, so that nothing changes where it is heard.
+    fn knows_entry(&self, next: bool, entry: &RawEntry<'_>) -> bool
+        ensures { result ≡ true → hear_entry next entry.now self.now ≡ Some self.now }
+    {
+        if entry.ext() == 0 {
+            return self.knows_ensemble(&entry.ensemble());
+        }
+        if !self.is_tuned() {
+            return true;
+        }
+        if next {
+            self.next.has(entry)
+        } else {
+            self.current.has(entry)
+        }
+    }
+
+    /// Whether it knows the entries of one FIG.
+    fn knows_entries(&self, next: bool, mut entries: Entries<'_>) -> bool
+        ensures { result ≡ true → hear_entries next entries.entry self.now ≡ Some self.now }
+    {
+        while let Some(entry) = entries.next() {
+            if !self.knows_entry(next, &entry) {
+                return false;
+            }
+        }
+        true
+    }
+
+    /// Whether it knows all that FIGs say, so that nothing changes where they are heard.
+    fn knows(&self, mut figs: Figs<'_>) -> bool
+        ensures { result ≡ true → hear_figs figs.entry self.now ≡ Some self.now }
+    {
+        while let Some(fig) = figs.next() {
+            if let Some(head) = fig.head() {
+                if !self.knows_entries(head.next, fig.entries()) {
+                    return false;
+                }
+            }
+        }
+        true
+    }
+
+    /// How many members would be new where this entry is heard after others, of which so many were new; None where
+    /// there may be no room for it, and at ensemble information that it does not know.
+    fn new_at_entry(&self, next: bool, others: usize, entry: &RawEntry<'_>) -> Option<usize>
+        ensures { IfSome result (λ all. LeavesRoom self.now others all (hear_entry next entry.now)) }
+    {
+        if entry.ext() == 0 {
+            return if self.knows_ensemble(&entry.ensemble()) {
+                Some(others)
+            } else {
+                None
+            };
+        }
+        if !self.is_tuned() {
+            return Some(others);
+        }
+        if next {
+            self.next.new_members(others, entry)
+        } else {
+            self.current.new_members(others, entry)
+        }
+    }
+
+    /// The same for the entries of one FIG.
+    fn new_at_entries(&self, next: bool, others: usize, mut entries: Entries<'_>) -> Option<usize>
+        ensures { IfSome result (λ all. LeavesRoom self.now others all (hear_entries next entries.entry)) }
+    {
+        let mut new = others;
+        while let Some(entry) = entries.next() {
+            new = self.new_at_entry(next, new, &entry)?;
+        }
+        Some(new)
+    }
+
+    /// Whether there is room for all that FIGs say. Of two new members of different kinds the first counts for the
+    /// second, and there is none certain at ensemble information that it does not know.
+    fn has_room(&self, mut figs: Figs<'_>) -> bool
+        ensures { result ≡ true → hear_figs figs.entry self.now ≡ None → ⊥ }
+    {
+        let mut new = 0;
+        while let Some(fig) = figs.next() {
+            if let Some(head) = fig.head() {
+                match self.new_at_entries(head.next, new, fig.entries()) {
+                    Some(all) => new = all,
+                    None => return false,
+                }
+            }
+        }
+        true
     }
 
     /// Takes note of FIGs in order, on a copy, so that nothing changes where a picture becomes full. The answer
@@ -179,12 +286,14 @@ impl Listener {
     /// Takes note of FIGs in order; false where a picture has no room for an entry of them, and then nothing
     /// changes.
     fn hear_all(&mut self, figs: Figs<'_>) -> bool
-        requires { entry_count figs ≤ 10 }
         ensures heard { result ≡ true → hear_figs figs.entry self.old ≡ Some self.new }
         ensures full { result ≡ false → hear_figs figs.entry self.old ≡ None }
         ensures unchanged { result ≡ false → self.new ≡ self.old }
     {
-        if self.is_roomy() {
+        if self.knows(figs.again()) {
+            return true;
+        }
+        if self.has_room(figs.again()) {
             return self.hear_figs(figs);
         }
         self.hear_aside(figs)

@@ -32,10 +32,11 @@ impl Model for Picture {
 }
 
 impl Picture {
-    ghost use Rattle.std.specs.Prelude.{◌≡◌, ◌≢◌, true, false, Some, None, IfSome};
+    ghost use Rattle.std.specs.Prelude.{◌≡◌, ◌≢◌, ◌≤◌, true, false, Some, None, IfSome};
     ghost use Rattle.mux_config.specs.Configuration.{Configuration, IsConfiguration};
-    ghost use Rattle.fib_reader.specs.Listening.{blank, pictured, all_entries};
-    ghost use Rattle.fib_reader.specs.Picture.{HasRoom, Shows};
+    ghost use Rattle.fib_reader.specs.Listening.{Pictured, blank, pictured, all_entries};
+    ghost use Rattle.fib_reader.specs.Picture.{AreInOrder, Shows};
+    ghost use Rattle.fib_reader.specs.Forecast.{HasGrownBy};
 
     /// The picture of nothing.
     pub(crate) fn new() -> Self
@@ -74,11 +75,32 @@ impl Picture {
         }
     }
 
-    /// Whether it has room for ten services and ten packet components more.
-    pub(crate) fn is_roomy(&self) -> bool
-        ensures { result ≡ true → HasRoom 54 self.now }
+    /// Whether this very entry of FIG 0/1 to 0/3 is in it, so that nothing changes where it is taken in again.
+    #[inline(always)]
+    pub(crate) fn has(&self, entry: &RawEntry<'_>) -> bool
+        requires { entry.now.ext ≢ 0 }
+        ensures { result ≡ true → pictured entry.now self.now ≡ Some self.now }
     {
-        self.services.len() <= 54 && self.packets.len() <= 54
+        match entry.ext() {
+            1 => self.subs.has(entry),
+            2 => self.services.has(entry),
+            _ => self.packets.has(entry),
+        }
+    }
+
+    /// How many members of its kind are new where an entry of FIG 0/1 to 0/3 is taken in after others, of which so
+    /// many were new; None where there may be no room for it. Of sub-channels there are never too many, so they
+    /// are not counted.
+    pub(crate) fn new_members(&self, others: usize, entry: &RawEntry<'_>) -> Option<usize>
+        requires { entry.now.ext ≢ 0 }
+        ensures { IfSome result (λ all. (p : Pictured) → HasGrownBy others self.now p
+            → (q : Pictured) × (pictured entry.now p ≡ Some q) × HasGrownBy all self.now q × (others ≤ all)) }
+    {
+        match entry.ext() {
+            1 => Some(others),
+            2 => self.services.new_members(others, entry),
+            _ => self.packets.new_members(others, entry),
+        }
     }
 
     /// The configuration that it shows: Some where its entries are exactly those of one configuration of this
@@ -106,7 +128,8 @@ impl Picture {
     /// Its entries in ascending order of extension and identifier: FIG 0/1 by SubChId, FIG 0/2 by SId with the
     /// short ones first, FIG 0/3 by SCId.
     pub fn entries(&self) -> PictureEntries<'_>
-        ensures { result ≡ all_entries self.now }
+        ensures value { result ≡ all_entries self.now }
+        ensures ascending { AreInOrder result }
     {
         PictureEntries {
             subs: self.subs.as_slice(),

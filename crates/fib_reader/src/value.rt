@@ -1,8 +1,9 @@
 //! The values of entries: of whole bytes, every one has one.
 
-ghost use Rattle.std.specs.Prelude.{◌≡◌, ◌*◌, ◌+◌, ◌%◌, ◌<◌, ◌≤◌, ◌∷◌, [], length, get_or};
+ghost use Rattle.std.specs.Prelude.{◌≡◌, ◌*◌, ◌+◌, ◌%◌, ◌<◌, ◌≤◌, ◌∷◌, [], false, length, get_or};
 ghost use Rattle.byteorder.specs.Endian.{big_bytes};
 ghost use Rattle.mux_config.specs.Configuration.{Each};
+ghost use Rattle.fib_reader.specs.Raw.{ensemble_in};
 ghost use Rattle.fib_codec.specs.Grammar.{ensemble_len, sub_len, service_len, packet_len, IsCounted};
 ghost use Rattle.fib_codec.specs.Ranges.{IsEnsembleInformation, IsSubEntry, IsShortEntry, IsServiceEntry, IsPacketEntry, IsComponentEntry};
 ghost use Rattle.fib_codec.specs.Spelling.{ensemble_bytes, sub_bytes, short_bytes, service_bytes, packet_bytes, component_word, components_bytes, is_long_sid};
@@ -25,6 +26,7 @@ pub(crate) fn ensemble_of(bytes: &[u8]) -> Ensemble
     requires counted { IsCounted bytes.now }
     ensures spelled { bytes.now ≡ ensemble_bytes result }
     ensures within { IsEnsembleInformation result }
+    ensures fields { result ≡ ensemble_in (record { ext = 0; long = false; bytes = bytes.now }) }
 {
     let flags = bytes[2];
     let count = u16::from(flags % 32) * 250 + u16::from(bytes[3]);

@@ -124,7 +124,7 @@ without_takes key k xs up = record {
 
 -- ---- one changed
 
-mapped_to : {T U : Type 0} (f : T → U) (xs : List T) (z : U) → Contains (map f xs) z → (x : T) × Contains xs x × (f x ≡ z)
+pub mapped_to : {T U : Type 0} (f : T → U) (xs : List T) (z : U) → Contains (map f xs) z → (x : T) × Contains xs x × (f x ≡ z)
 mapped_to f [] z h = absurd (contains_none z h)
 mapped_to f (x ∷ xs) z h =
     elim (contains_cases (f x) (map f xs) z h) [
@@ -132,7 +132,7 @@ mapped_to f (x ∷ xs) z h =
       | inr later ↦ let found = mapped_to f xs z later in (found.0, contains_later x xs found.0 found.1, found.2)
     ]
 
-mapped_from : {T U : Type 0} (f : T → U) (xs : List T) (x : T) → Contains xs x → Contains (map f xs) (f x)
+pub mapped_from : {T U : Type 0} (f : T → U) (xs : List T) (x : T) → Contains xs x → Contains (map f xs) (f x)
 mapped_from f [] x h = absurd (contains_none x h)
 mapped_from f (y ∷ ys) x h =
     elim (contains_cases y ys x h) [ inl e ↦ contains_same (f y) (map f ys) (f x) (ap f e) | inr later ↦ contains_later (f y) (map f ys) (f x) (mapped_from f ys x later) ]

@@ -10,10 +10,7 @@ use Rattle.mux_config.proofs.Walking.{cut}
 
 -- ---- a walk that looks for the first overlap
 
-abbrev pub pair_fault : Sub → Sub → Option ConfigFault
-pair_fault a b = cond (overlaps a b) (Some (Overlap a.id b.id)) None
-
-with_step : (a : Sub) (xs : List Sub) (i : ℕ) (b : Sub) → slice_get xs i ≡ Some b → overlap_with a (drop i xs) ≡ first_of_two (pair_fault a b) (overlap_with a (drop (i + 1) xs))
+with_step : (a : Sub) (xs : List Sub) (i : ℕ) (b : Sub) → slice_get xs i ≡ Some b → overlap_with a (drop i xs) ≡ first_of_two (cond (overlaps a b) (Some (Overlap a.id b.id)) None) (overlap_with a (drop (i + 1) xs))
 with_step a xs i b e = rw (cut xs i b e) (elim (overlaps a b) as (λ t. cond t (Some (Overlap a.id b.id)) (overlap_with a (drop (i + 1) xs)) ≡ first_of_two (cond t (Some (Overlap a.id b.id)) None) (overlap_with a (drop (i + 1) xs))) [ true ↦ refl | false ↦ refl ])
 
 first_step : (xs : List Sub) (i : ℕ) (a : Sub) → slice_get xs i ≡ Some a → first_overlap (drop i xs) ≡ first_of_two (overlap_with a (drop (i + 1) xs)) (first_overlap (drop (i + 1) xs))
@@ -27,13 +24,13 @@ kept : (one other all : Option ConfigFault) → first_of_two one other ≡ all �
 kept None other all e none = e
 kept (Some fault) other all e none = absurd (false≢true (sym none))
 
-pub with_found : (a : Sub) (xs : List Sub) (i : ℕ) (b : Sub) (fault all : Option ConfigFault) → overlap_with a (drop i xs) ≡ all → slice_get xs i ≡ Some b → fault ≡ pair_fault a b → is_some fault ≡ true → fault ≡ all
-with_found a xs i b fault all left e is some =
-    is ∙ found (pair_fault a b) (overlap_with a (drop (i + 1) xs)) all (sym (with_step a xs i b e) ∙ left) (ap is_some (sym is) ∙ some)
+pub with_found : (a : Sub) (xs : List Sub) (i : ℕ) (b : Sub) (all : Option ConfigFault) → overlap_with a (drop i xs) ≡ all → slice_get xs i ≡ Some b → overlaps a b ≡ true → Some (Overlap a.id b.id) ≡ all
+with_found a xs i b all left e is =
+    ap (λ (t : Bool). first_of_two (cond t (Some (Overlap a.id b.id)) None) (overlap_with a (drop (i + 1) xs))) (sym is) ∙ sym (with_step a xs i b e) ∙ left
 
-pub with_more : (a : Sub) (xs : List Sub) (i : ℕ) (b : Sub) (fault all : Option ConfigFault) → overlap_with a (drop i xs) ≡ all → slice_get xs i ≡ Some b → fault ≡ pair_fault a b → is_some fault ≡ false → overlap_with a (drop (i + 1) xs) ≡ all
-with_more a xs i b fault all left e is none =
-    kept (pair_fault a b) (overlap_with a (drop (i + 1) xs)) all (sym (with_step a xs i b e) ∙ left) (ap is_some (sym is) ∙ none)
+pub with_more : (a : Sub) (xs : List Sub) (i : ℕ) (b : Sub) (all : Option ConfigFault) → overlap_with a (drop i xs) ≡ all → slice_get xs i ≡ Some b → overlaps a b ≡ false → overlap_with a (drop (i + 1) xs) ≡ all
+with_more a xs i b all left e is =
+    ap (λ (t : Bool). first_of_two (cond t (Some (Overlap a.id b.id)) None) (overlap_with a (drop (i + 1) xs))) (sym is) ∙ sym (with_step a xs i b e) ∙ left
 
 pub first_found : (xs : List Sub) (i : ℕ) (a : Sub) (fault all : Option ConfigFault) → first_overlap (drop i xs) ≡ all → slice_get xs i ≡ Some a → fault ≡ overlap_with a (drop (i + 1) xs) → is_some fault ≡ true → fault ≡ all
 first_found xs i a fault all left e is some =

@@ -1,4 +1,4 @@
-use Rattle.std.proofs.Common.{◌≡◌, ◌≢◌, ℕ, ◌↔◌, Bool, true, false, not, ◌&&◌, eqb, List, [], ◌∷◌, map, refl, sym, ap, subst}
+use Rattle.std.proofs.Common.{◌≡◌, ℕ, ◌↔◌, Bool, true, false, not, ◌&&◌, eqb, List, [], ◌∷◌, map, refl, sym, ap, subst}
 use Rattle.std.proofs.lemmas.Bool.{false≢true, eqb-true, eq-eqb}
 use Rattle.mux_eep.specs.declared.sizes.EepSet.{EepSet}
 use Rattle.mux_eep.specs.declared.sizes.EepSet.TheVariants.{A, B}
@@ -12,9 +12,9 @@ use Rattle.mux_config.specs.declared.numbers.Sid.{Sid}
 use Rattle.mux_config.specs.declared.numbers.Sid.TheVariants.{Short, Long}
 use Rattle.mux_config.specs.declared.flags.Change.{Change}
 use Rattle.mux_config.specs.Configuration.{Configuration}
-use Rattle.mux_config.specs.Facts.{sub_entries, service_entries, sub_entry}
+use Rattle.mux_config.specs.Facts.{sub_entries, service_entries, sub_entry, HaveSameMembers}
 use Rattle.mux_config.specs.Change.{ChangeTells, is_same_flag, is_same_list, is_same_set, is_same_sub, is_same_sid, is_same_component, is_same_service, is_same_packet, has_same_subs, has_same_services}
-use Rattle.mux_config.proofs.Telling.{subs_told, services_told}
+use Rattle.mux_config.proofs.FactSets.{same_members, subs_of_sets, services_of_sets}
 
 -- ---- tests
 
@@ -155,20 +155,20 @@ services_itself c d e f =
     (subst (λ (zs : List Service). is_same_list is_same_service c.services zs ≡ true) e (list_itself is_same_service service_itself c.services))
     (subst (λ (zs : List Packet). is_same_list is_same_packet c.packets zs ≡ true) f (list_itself is_same_packet packet_itself c.packets))
 
--- a test that holds exactly where two lists are equal, turned round, is the only flag that says that they differ
-flag_told : {T : Type 0} (flag test : Bool) (xs ys : T) → (test ≡ true → xs ≡ ys) → (xs ≡ ys → test ≡ true) → ((flag ≡ true) ↔ (xs ≢ ys)) ↔ (flag ≡ not test)
-flag_told true true xs ys same itself = (λ h. absurd (h.0 refl (same refl)), λ e. absurd (false≢true (sym e)))
-flag_told true false xs ys same itself = (λ h. refl, λ e. (λ _ equal. false≢true (itself equal), λ _. refl))
-flag_told false true xs ys same itself = (λ h. refl, λ e. (λ wrong. absurd (false≢true wrong), λ differ. absurd (differ (same refl))))
-flag_told false false xs ys same itself = (λ h. absurd (false≢true (h.1 (λ equal. false≢true (itself equal)))), λ e. absurd (false≢true e))
+-- a test that holds exactly where a property does, turned round, is the only flag that says that it does not
+flag_told : (flag test : Bool) (P : Type 0) → (test ≡ true → P) → (P → test ≡ true) → ((flag ≡ true) ↔ (P → ⊥)) ↔ (flag ≡ not test)
+flag_told true true P same itself = (λ h. absurd (h.0 refl (same refl)), λ e. absurd (false≢true (sym e)))
+flag_told true false P same itself = (λ h. refl, λ e. (λ _ holds. false≢true (itself holds), λ _. refl))
+flag_told false true P same itself = (λ h. refl, λ e. (λ wrong. absurd (false≢true wrong), λ differ. absurd (differ (same refl))))
+flag_told false false P same itself = (λ h. absurd (false≢true (h.1 (λ holds. false≢true (itself holds)))), λ e. absurd (false≢true e))
 
 pub change_told : OneRate → ChangeTells
 change_told rates c d change h k =
-    let subs = flag_told change.subs (has_same_subs c d) (sub_entries c) (sub_entries d)
-    (λ e. ap (map sub_entry) (subs_same c.subs d.subs e)) (λ e. subs_itself c.subs d.subs (subs_told rates c d h k e)) in
-    let services = flag_told change.services (has_same_services c d) (service_entries c) (service_entries d)
-    (λ e. let parts = services_same c d e in cc)
-    (λ e. let parts = services_told c d e in services_itself c d parts.0 parts.1) in (
+    let subs = flag_told change.subs (has_same_subs c d) (HaveSameMembers (sub_entries c) (sub_entries d))
+    (λ e. same_members (ap (map sub_entry) (subs_same c.subs d.subs e))) (λ e. subs_itself c.subs d.subs (subs_of_sets rates c d h k e)) in
+    let services = flag_told change.services (has_same_services c d) (HaveSameMembers (service_entries c) (service_entries d))
+    (λ e. let parts = services_same c d e in let equal : service_entries c ≡ service_entries d = cc in same_members equal)
+    (λ e. let parts = services_of_sets c d h k e in services_itself c d parts.0 parts.1) in (
       λ is. let one : change.subs ≡ not (has_same_subs c d) = subs.0 is.subs in
           let two : change.services ≡ not (has_same_services c d) = services.0 is.services in
           λ i. record { subs = one i; services = two i },

@@ -1,4 +1,4 @@
-use Rattle.std.proofs.Common.{◌≡◌, ◌≢◌, ℕ, zero, suc, ◌+◌, ◌/◌, ◌%◌, ◌<◌, ◌==◌, Bool, true, false, not, cond, ◌&&◌, ◌||◌, ltb, List, [], ◌∷◌, length, Contains, Option, Some, None, refl, sym, ap, ◌∙◌, subst, ◌⊎◌, inl, inr, arith}
+use Rattle.std.proofs.Common.{◌≡◌, ◌≢◌, ℕ, zero, suc, ◌+◌, ◌/◌, ◌%◌, ◌<◌, ◌==◌, Bool, true, false, not, cond, ◌&&◌, ◌||◌, ltb, List, [], ◌∷◌, length, Contains, Option, Some, None, is_some, refl, sym, ap, ◌∙◌, subst, ◌⊎◌, inl, inr, arith}
 use Rattle.std.specs.List.{list_any}
 use Rattle.std.proofs.lemmas.Bool.{false≢true, eqb-true, eq-eqb, ne_eqb, ltb-true, lt-ltb, cases_lt}
 use Rattle.std.proofs.Math.Nat.{le-mul_of_pos_right}
@@ -15,7 +15,9 @@ use Rattle.mux_config.specs.declared.fault.ConfigFault.{ConfigFault}
 use Rattle.mux_config.specs.declared.fault.ConfigFault.TheVariants.{Overlap, Orphan, AddressUsed, EmptyService}
 use Rattle.mux_config.specs.Configuration.{Configuration, IsConfiguration, Each, IsAscending, IsPlaced, size_of_sub, sub_key, packet_key, carrier_of}
 use Rattle.mux_config.specs.Edits.{has_entry}
-use Rattle.mux_config.specs.Sound.{IsUnitOf, IsThere, IsSound, overlaps, overlap_with, first_of_two, first_overlap, is_missing, has_orphan, has_same_address, has_address_twice, is_empty_service, other_fault, first_fault}
+use Rattle.mux_config.specs.Tables.{entry_at}
+use Rattle.mux_config.specs.Sound.{IsUnitOf, IsThere, IsSound, IsCrowded, overlaps, overlap_with, first_of_two, first_overlap, is_crowded, is_missing, has_orphan, has_same_address, has_address_twice, is_empty_service, other_fault, first_fault}
+use Rattle.mux_config.specs.SoundFaults.{AreCarried, AreFilled}
 use Rattle.mux_config.proofs.Rates.{units_positive}
 
 -- ---- members of a list
@@ -119,7 +121,7 @@ sized s h =
     let more = le-mul_of_pos_right (units_of_step s.protection.set s.protection.level) steps in
     omega (arith, units, more)
 
-overlaps_told : (a b : Sub) → IsPlaced a → IsPlaced b → overlaps a b ≡ true → (unit : ℕ) × IsUnitOf a unit × IsUnitOf b unit
+pub overlaps_told : (a b : Sub) → IsPlaced a → IsPlaced b → overlaps a b ≡ true → (unit : ℕ) × IsUnitOf a unit × IsUnitOf b unit
 overlaps_told a b h k e =
     let parts = both_parts (ltb a.start (b.start + size_of_sub b)) (ltb b.start (a.start + size_of_sub a)) e in
     let one : a.start < b.start + size_of_sub b = ltb-true _ _ parts.0 in
@@ -128,7 +130,7 @@ overlaps_told a b h k e =
     let n = sized b k in
     elim (cases_lt a.start b.start) [ inl lt ↦ (b.start, (omega arith, two), (omega arith, omega (arith, n))) | inr ge ↦ (a.start, (omega arith, omega (arith, m)), (ge, one)) ]
 
-overlaps_found : (a b : Sub) (unit : ℕ) → IsUnitOf a unit → IsUnitOf b unit → overlaps a b ≡ true
+pub overlaps_found : (a b : Sub) (unit : ℕ) → IsUnitOf a unit → IsUnitOf b unit → overlaps a b ≡ true
 overlaps_found a b unit h k =
     both_hold _ _ (lt-ltb a.start (b.start + size_of_sub b) (omega (arith, h.0, k.1))) (lt-ltb b.start (a.start + size_of_sub a) (omega (arith, k.0, h.1)))
 
@@ -137,7 +139,7 @@ with_none a [] h = refl
 with_none a (b ∷ bs) h =
     ap (λ (t : Bool). cond t (Some (Overlap a.id b.id)) (overlap_with a bs)) (h b (contains_first b bs)) ∙ with_none a bs (λ x there. h x (contains_later b bs x there))
 
-with_told : (a : Sub) (bs : List Sub) (b : Sub) → overlap_with a bs ≡ None → Contains bs b → overlaps a b ≡ false
+pub with_told : (a : Sub) (bs : List Sub) (b : Sub) → overlap_with a bs ≡ None → Contains bs b → overlaps a b ≡ false
 with_told a [] b e there = absurd (contains_none b there)
 with_told a (y ∷ ys) b e there =
     let parts = no_pair (overlaps a y) (Overlap a.id y.id) (overlap_with a ys) e in
@@ -147,7 +149,7 @@ decided : (t : Bool) → (t ≡ true → ⊥) → t ≡ false
 decided true h = absurd (h refl)
 decided false h = refl
 
-apart_found : (xs : List Sub) → IsAscending sub_key xs → Each IsPlaced xs → ((a b : Sub) (unit : ℕ) → Contains xs a → Contains xs b → IsUnitOf a unit → IsUnitOf b unit → a.id ≡ b.id) → first_overlap xs ≡ None
+pub apart_found : (xs : List Sub) → IsAscending sub_key xs → Each IsPlaced xs → ((a b : Sub) (unit : ℕ) → Contains xs a → Contains xs b → IsUnitOf a unit → IsUnitOf b unit → a.id ≡ b.id) → first_overlap xs ≡ None
 apart_found [] order placed apart = refl
 apart_found (a ∷ bs) order placed apart =
     let none : overlap_with a bs ≡ None = with_none a bs (λ b there. decided (overlaps a b) (λ e.
@@ -158,7 +160,7 @@ apart_found (a ∷ bs) order placed apart =
     ap (λ (o : Option ConfigFault). first_of_two o (first_overlap bs)) none
     ∙ apart_found bs order.1 placed.1 (λ x y unit h k. apart x y unit (contains_later a bs x h) (contains_later a bs y k))
 
-apart_told : (xs : List Sub) → first_overlap xs ≡ None → (a b : Sub) (unit : ℕ) → Contains xs a → Contains xs b → IsUnitOf a unit → IsUnitOf b unit → a.id ≡ b.id
+pub apart_told : (xs : List Sub) → first_overlap xs ≡ None → (a b : Sub) (unit : ℕ) → Contains xs a → Contains xs b → IsUnitOf a unit → IsUnitOf b unit → a.id ≡ b.id
 apart_told [] e a b unit h k i j = absurd (contains_none a h)
 apart_told (x ∷ xs) e a b unit h k i j =
     let parts = no_fault (overlap_with x xs) (first_overlap xs) e in
@@ -192,7 +194,7 @@ missing_found c (ByPacket scid) there = ap not (any_holds (λ x. packet_key x ==
 same_address_told : (p q : Packet) → p.sub ≡ q.sub → p.address ≡ q.address → has_same_address p q ≡ true
 same_address_told p q e f = both_hold _ _ (eq-eqb _ _ e) (eq-eqb _ _ f)
 
-twice_told : (ps : List Packet) → has_address_twice ps ≡ false → (p q : Packet) → Contains ps p → Contains ps q → p.sub ≡ q.sub → p.address ≡ q.address → p.scid ≡ q.scid
+pub twice_told : (ps : List Packet) → has_address_twice ps ≡ false → (p q : Packet) → Contains ps p → Contains ps q → p.sub ≡ q.sub → p.address ≡ q.address → p.scid ≡ q.scid
 twice_told [] e p q h k i j = absurd (contains_none p h)
 twice_told (x ∷ xs) e p q h k i j =
     let parts = either (list_any (has_same_address x) xs) (has_address_twice xs) e in
@@ -207,7 +209,7 @@ twice_told (x ∷ xs) e p q h k i j =
       ]
     ]
 
-twice_none : (ps : List Packet) → IsAscending packet_key ps → ((p q : Packet) → Contains ps p → Contains ps q → p.sub ≡ q.sub → p.address ≡ q.address → p.scid ≡ q.scid) → has_address_twice ps ≡ false
+pub twice_none : (ps : List Packet) → IsAscending packet_key ps → ((p q : Packet) → Contains ps p → Contains ps q → p.sub ≡ q.sub → p.address ≡ q.address → p.scid ≡ q.scid) → has_address_twice ps ≡ false
 twice_none [] order h = refl
 twice_none (x ∷ xs) order h =
     let first : list_any (has_same_address x) xs ≡ false = none_holds (has_same_address x) xs (λ q there. decided (has_same_address x q) (λ e.
@@ -226,27 +228,129 @@ empty_told : (ms : List Component) → length ms ≡ 0 → ms ≡ []
 empty_told [] e = refl
 empty_told (m ∷ ms) e = absurd (omega arith)
 
+pub orphans_told : (c : Configuration) → has_orphan c ≡ false → AreCarried c
+orphans_told c e =
+    let orphans = either (list_any (λ (s : Service). list_any (λ (m : Component). is_missing c (carrier_of m)) s.components) c.services) (list_any (λ (p : Packet). is_missing c (BySub p.sub)) c.packets) e in
+    record {
+      components = λ s m h k. missing_told c (carrier_of m) (none_told (λ (m : Component). is_missing c (carrier_of m)) s.components m (none_told (λ (s : Service). list_any (λ (m : Component). is_missing c (carrier_of m)) s.components) c.services s orphans.0 h) k);
+      packets = λ p h. missing_told c (BySub p.sub) (none_told (λ (p : Packet). is_missing c (BySub p.sub)) c.packets p orphans.1 h);
+    }
+
+pub orphans_found : (c : Configuration) → AreCarried c → has_orphan c ≡ false
+orphans_found c carried =
+    neither _ _
+    (none_holds (λ (s : Service). list_any (λ (m : Component). is_missing c (carrier_of m)) s.components) c.services (λ s h. none_holds (λ (m : Component). is_missing c (carrier_of m)) s.components (λ m k. missing_found c (carrier_of m) (carried.components s m h k))))
+    (none_holds (λ (p : Packet). is_missing c (BySub p.sub)) c.packets (λ p h. missing_found c (BySub p.sub) (carried.packets p h)))
+
+pub filled_found : (c : Configuration) → AreFilled c → list_any is_empty_service c.services ≡ false
+filled_found c filled = none_holds is_empty_service c.services (λ s h. ne_eqb _ _ (λ e. filled s h (empty_told s.components e)))
+
 pub sound_told : (c : Configuration) → first_fault c ≡ None → IsSound c
 sound_told c e =
     let one = no_fault (first_overlap c.subs) (other_fault c) e in
     let two = no_tests (has_orphan c) (has_address_twice c.packets) (list_any is_empty_service c.services) one.1 in
-    let orphans = either (list_any (λ (s : Service). list_any (λ (m : Component). is_missing c (carrier_of m)) s.components) c.services) (list_any (λ (p : Packet). is_missing c (BySub p.sub)) c.packets) two.0 in
+    let carried = orphans_told c two.0 in
     record {
       apart = apart_told c.subs one.0;
-      carried = λ s m h k. missing_told c (carrier_of m) (none_told (λ (m : Component). is_missing c (carrier_of m)) s.components m (none_told (λ (s : Service). list_any (λ (m : Component). is_missing c (carrier_of m)) s.components) c.services s orphans.0 h) k);
-      placed = λ p h. missing_told c (BySub p.sub) (none_told (λ (p : Packet). is_missing c (BySub p.sub)) c.packets p orphans.1 h);
+      carried = carried.components;
+      placed = carried.packets;
       addressed = twice_told c.packets two.1;
       filled = λ s h. filled_told s (none_told is_empty_service c.services s two.2 h);
     }
 
 pub sound_found : (c : Configuration) → IsConfiguration c → IsSound c → first_fault c ≡ None
 sound_found c is sound =
-    let overlap : first_overlap c.subs ≡ None = apart_found c.subs is.subs_ascend is.subs_placed sound.apart in
-    let components : list_any (λ (s : Service). list_any (λ (m : Component). is_missing c (carrier_of m)) s.components) c.services ≡ false =
-    none_holds (λ (s : Service). list_any (λ (m : Component). is_missing c (carrier_of m)) s.components) c.services (λ s h. none_holds (λ (m : Component). is_missing c (carrier_of m)) s.components (λ m k. missing_found c (carrier_of m) (sound.carried s m h k))) in
-    let packets : list_any (λ (p : Packet). is_missing c (BySub p.sub)) c.packets ≡ false =
-    none_holds (λ (p : Packet). is_missing c (BySub p.sub)) c.packets (λ p h. missing_found c (BySub p.sub) (sound.placed p h)) in
-    let addresses : has_address_twice c.packets ≡ false = twice_none c.packets is.packets_ascend sound.addressed in
-    let empty : list_any is_empty_service c.services ≡ false =
-    none_holds is_empty_service c.services (λ s h. ne_eqb _ _ (λ e. sound.filled s h (empty_told s.components e))) in
-    all_none (first_overlap c.subs) (has_orphan c) (has_address_twice c.packets) (list_any is_empty_service c.services) overlap (neither _ _ components packets) addresses empty
+    all_none (first_overlap c.subs) (has_orphan c) (has_address_twice c.packets) (list_any is_empty_service c.services)
+    (apart_found c.subs is.subs_ascend is.subs_placed sound.apart)
+    (orphans_found c (record { components = sound.carried; packets = sound.placed }))
+    (twice_none c.packets is.packets_ascend sound.addressed)
+    (filled_found c sound.filled)
+
+-- ---- two sub-channels that share a capacity unit
+
+none_or_some : (o : Option ConfigFault) → (o ≡ None) ⊎ (is_some o ≡ true)
+none_or_some None = inl refl
+none_or_some (Some fault) = inr refl
+
+pub stays_first : (one other : Option ConfigFault) → is_some one ≡ true → one ≡ first_of_two one other
+stays_first None other e = absurd (false≢true e)
+stays_first (Some fault) other e = refl
+
+either_some : (one other : Option ConfigFault) → is_some (first_of_two one other) ≡ true → (is_some one ≡ true) ⊎ (is_some other ≡ true)
+either_some None other e = inr e
+either_some (Some fault) other e = inl refl
+
+with_some_by : (a b : Sub) (bs : List Sub) (t : Bool) → overlaps a b ≡ t → is_some (cond t (Some (Overlap a.id b.id)) (overlap_with a bs)) ≡ true → (is_some (overlap_with a bs) ≡ true → (y : Sub) × Contains bs y × (overlaps a y ≡ true)) → (y : Sub) × Contains (b ∷ bs) y × (overlaps a y ≡ true)
+with_some_by a b bs true is e rest = (b, contains_first b bs, is)
+with_some_by a b bs false is e rest = let found = rest e in (found.0, contains_later b bs found.0 found.1, found.2)
+
+with_some : (a : Sub) (bs : List Sub) → is_some (overlap_with a bs) ≡ true → (b : Sub) × Contains bs b × (overlaps a b ≡ true)
+with_some a [] e = absurd (false≢true e)
+with_some a (b ∷ bs) e = with_some_by a b bs (overlaps a b) refl e (with_some a bs)
+
+shared : (xs : List Sub) → IsAscending sub_key xs → Each IsPlaced xs → is_some (first_overlap xs) ≡ true → (a b : Sub) × (unit : ℕ) × Contains xs a × Contains xs b × (a.id < b.id) × IsUnitOf a unit × IsUnitOf b unit
+shared [] order placed e = absurd (false≢true e)
+shared (a ∷ bs) order placed e =
+    elim (either_some (overlap_with a bs) (first_overlap bs) e) [
+      | inl here ↦
+          let found = with_some a bs here in
+          let unit = overlaps_told a found.0 placed.0 (each_contains IsPlaced bs found.0 placed.1 found.1) found.2 in
+          (a, found.0, unit.0, contains_first a bs, contains_later a bs found.0 found.1, each_contains (λ (y : Sub). a.id < y.id) bs found.0 order.0 found.1, unit.1, unit.2)
+      | inr later ↦
+          let found = shared bs order.1 placed.1 later in
+          (found.0, found.1, found.2, contains_later a bs found.0 found.3, contains_later a bs found.1 found.4, found.5, found.6, found.7)
+    ]
+
+pub crowded_told : (c : Configuration) → IsConfiguration c → is_some (first_overlap c.subs) ≡ true → IsCrowded c
+crowded_told c is e =
+    let found = shared c.subs is.subs_ascend is.subs_placed e in
+    let less : found.0.id < found.1.id = found.5 in
+    record {
+      first = found.0;
+      second = found.1;
+      unit = found.2;
+      has_first = found.3;
+      has_second = found.4;
+      differ = λ same. omega arith;
+      of_first = found.6;
+      of_second = found.7;
+    }
+
+pub crowded_found : (c : Configuration) → IsCrowded c → is_some (first_overlap c.subs) ≡ true
+crowded_found c h =
+    elim (none_or_some (first_overlap c.subs)) [
+      | inl none ↦ absurd (h.differ (apart_told c.subs none h.first h.second h.unit h.has_first h.has_second h.of_first h.of_second))
+      | inr some ↦ some
+    ]
+
+pub not_crowded : (c : Configuration) → IsConfiguration c → (IsCrowded c → ⊥) → first_overlap c.subs ≡ None
+not_crowded c is h =
+    elim (none_or_some (first_overlap c.subs)) [
+      | inl none ↦ none
+      | inr some ↦ absurd (h (crowded_told c is some))
+    ]
+
+with_any_by : (t : Bool) (fault : ConfigFault) (rest : Option ConfigFault) (u : Bool) → is_some rest ≡ u → is_some (cond t (Some fault) rest) ≡ (t || u)
+with_any_by true fault rest u e = refl
+with_any_by false fault rest u e = e
+
+with_any : (a : Sub) (bs : List Sub) → is_some (overlap_with a bs) ≡ list_any (overlaps a) bs
+with_any a [] = refl
+with_any a (b ∷ bs) = with_any_by (overlaps a b) (Overlap a.id b.id) (overlap_with a bs) (list_any (overlaps a) bs) (with_any a bs)
+
+first_any_by : (one other : Option ConfigFault) (t u : Bool) → is_some one ≡ t → is_some other ≡ u → is_some (first_of_two one other) ≡ (t || u)
+first_any_by None other t u e f = f ∙ ap (λ (b : Bool). b || u) e
+first_any_by (Some fault) other t u e f = ap (λ (b : Bool). b || u) e
+
+pub first_any : (xs : List Sub) → is_some (first_overlap xs) ≡ is_crowded xs
+first_any [] = refl
+first_any (a ∷ bs) = first_any_by (overlap_with a bs) (first_overlap bs) (list_any (overlaps a) bs) (is_crowded bs) (with_any a bs) (first_any bs)
+
+-- a look-up finds a member exactly where there is one
+has_found_by : {T : Type 0} (t : Bool) (x : T) (rest : Option T) (u : Bool) → is_some rest ≡ u → is_some (cond t (Some x) rest) ≡ (t || u)
+has_found_by true x rest u e = refl
+has_found_by false x rest u e = e
+
+pub has_found : {T : Type 0} (key : T → ℕ) (k : ℕ) (xs : List T) → is_some (entry_at key k xs) ≡ has_entry key k xs
+has_found key k [] = refl
+has_found key k (x ∷ xs) = has_found_by (key x == k) x (entry_at key k xs) (has_entry key k xs) (has_found key k xs)

@@ -86,11 +86,11 @@ service_value s = record { sid = s.sid; rfa = false; ca_id = 0; components = com
 abbrev packet_value : Packet → PacketEntry
 packet_value p = record { scid = p.scid; rfa = 0; dg = p.dg; rfu = false; ty = p.ty; sub = p.sub; address = p.address; ca_org = None }
 
-abbrev is_sub : Entry → Bool
+abbrev pub is_sub : Entry → Bool
 is_sub (SubOf s) = true
 is_sub e = false
 
-abbrev is_service : Entry → Bool
+abbrev pub is_service : Entry → Bool
 is_service (ServiceOf s) = true
 is_service e = false
 
@@ -162,7 +162,7 @@ services_told c d e =
       lists_told packet_entry (λ (x : Packet). Unit {0}) (λ x y _ _. packet_told x y) c.packets d.packets (each_holds c.packets) (each_holds d.packets) parts.1,
     )
 
-each_join : {T : Type 0} (P : T → Type 0) (xs ys : List T) → Each P xs → Each P ys → Each P (xs ++ ys)
+pub each_join : {T : Type 0} (P : T → Type 0) (xs ys : List T) → Each P xs → Each P ys → Each P (xs ++ ys)
 each_join P [] ys h k = k
 each_join P (x ∷ xs) ys h k = (h.0, each_join P xs ys h.1 k)
 

@@ -1,6 +1,6 @@
 -- Which of the two organizations of the multiplex a reconfiguration changes, as the change flags of FIG 0/0
 -- say it (EN 300 401 clauses 6.4 and 6.5).
-use Rattle.std.specs.Prelude.{◌≡◌, ◌≢◌, ℕ, ◌+◌, ◌==◌, ◌&&◌, ◌↔◌, Bool, true, false, not, IsTrue, if◌then◌else◌, List, [], ◌∷◌}
+use Rattle.std.specs.Prelude.{◌≡◌, ℕ, ◌+◌, ◌==◌, ◌&&◌, ◌↔◌, Bool, true, false, not, IsTrue, if◌then◌else◌, List, [], ◌∷◌}
 use Rattle.mux_eep.specs.declared.sizes.EepSet.{EepSet}
 use Rattle.mux_eep.specs.declared.sizes.EepSet.TheVariants.{A, B}
 use Rattle.mux_config.specs.declared.parts.Sub.{Sub}
@@ -12,13 +12,17 @@ use Rattle.mux_config.specs.declared.numbers.Sid.{Sid}
 use Rattle.mux_config.specs.declared.numbers.Sid.TheVariants.{Short, Long}
 use Rattle.mux_config.specs.declared.flags.Change.{Change}
 use Rattle.mux_config.specs.Configuration.{Configuration, IsConfiguration}
-use Rattle.mux_config.specs.Facts.{sub_entries, service_entries}
+use Rattle.mux_config.specs.Facts.{sub_entries, service_entries, HaveSameMembers}
 
--- the sub-channel organization changes where the entries of FIG 0/1 differ, the service organization where
--- those of FIG 0/2 or 0/3 differ
+-- the sets of entries are not the same
+abbrev pub AreOtherSets : {T : Type 0} → List T → List T → Type 0
+AreOtherSets xs ys = HaveSameMembers xs ys → ⊥
+
+-- the sub-channel organization changes where the sets of entries of FIG 0/1 differ, the service organization
+-- where those of FIG 0/2 and 0/3 differ
 pub record IsChange (c d : Configuration) (change : Change) : Type 0 where
-  pub subs : IsTrue change.subs ↔ (sub_entries c ≢ sub_entries d)
-  pub services : IsTrue change.services ↔ (service_entries c ≢ service_entries d)
+  pub subs : IsTrue change.subs ↔ AreOtherSets (sub_entries c) (sub_entries d)
+  pub services : IsTrue change.services ↔ AreOtherSets (service_entries c) (service_entries d)
 
 -- the change flags as a number: 1 for the sub-channel organization, 2 for the service organization
 abbrev pub bits_of : Change → ℕ

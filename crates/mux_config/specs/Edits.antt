@@ -235,6 +235,12 @@ abbrev pub Edits : Configuration → Configuration → Result Configuration Edit
 Edits old new outcome (Ok done) = outcome ≡ Ok new
 Edits old new outcome (Err fault) = (outcome ≡ Err fault) × (new ≡ old)
 
+-- an edit that is refused changes nothing
+abbrev pub RefusalsChangeNothing : Type 0
+RefusalsChangeNothing =
+    (old new : Configuration) (outcome : Result Configuration EditFault) (fault : EditFault)
+    → Edits old new outcome (Err fault) → new ≡ old
+
 -- ---- edits keep configurations
 
 -- the numbers of an edit are within their bits

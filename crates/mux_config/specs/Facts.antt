@@ -1,5 +1,5 @@
 -- What the entries of FIG 0/1 to 0/3 say of a configuration (EN 300 401 clauses 6.2.1, 6.3.1 and 6.3.2).
-use Rattle.std.specs.Prelude.{◌≡◌, ℕ, ◌-◌, Bool, true, false, List, [], ◌∷◌, ◌++◌, map, None}
+use Rattle.std.specs.Prelude.{◌≡◌, ℕ, ◌-◌, ◌↔◌, Bool, true, false, List, [], ◌∷◌, ◌++◌, map, None, Contains}
 use Rattle.mux_eep.specs.declared.sizes.EepSet.{EepSet}
 use Rattle.mux_eep.specs.declared.sizes.EepSet.TheVariants.{A, B}
 use Rattle.mux_config.specs.declared.parts.Sub.{Sub}
@@ -80,3 +80,13 @@ abbrev pub FactsTell : Type 0
 FactsTell =
     (c d : Configuration) (next : Bool) → IsConfiguration c → IsConfiguration d
     → facts_of c next ≡ facts_of d next → c ≡ d
+
+-- two lists have the same members
+abbrev pub HaveSameMembers : {T : Type 0} → List T → List T → Type 0
+HaveSameMembers {T} xs ys = (x : T) → Contains xs x ↔ Contains ys x
+
+-- and so do the sets of facts: what is heard in any order, and any number of times, names the configuration
+abbrev pub FactSetsTell : Type 0
+FactSetsTell =
+    (c d : Configuration) (next : Bool) → IsConfiguration c → IsConfiguration d
+    → HaveSameMembers (facts_of c next) (facts_of d next) → c ≡ d

@@ -4,8 +4,10 @@ pub mod Edits
 pub mod Entries
 pub mod Facts
 pub mod Reading
+pub mod RecordFaults
 pub mod Sets
 pub mod Sound
+pub mod SoundFaults
 pub mod Spelling
 pub mod Tables
 pub use Rattle.mux_eep.specs.Sizes

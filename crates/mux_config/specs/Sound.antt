@@ -21,6 +21,17 @@ abbrev pub IsThere : Configuration → Carrier → Type 0
 IsThere c (BySub id) = (s : Sub) × Contains c.subs s × (s.id ≡ id)
 IsThere c (ByPacket scid) = (p : Packet) × Contains c.packets p × (p.scid ≡ scid)
 
+-- two sub-channels share a capacity unit
+pub record IsCrowded (c : Configuration) : Type 0 where
+  pub first : Sub
+  pub second : Sub
+  pub unit : ℕ
+  pub has_first : Contains c.subs first
+  pub has_second : Contains c.subs second
+  pub differ : first.id ≢ second.id
+  pub of_first : IsUnitOf first unit
+  pub of_second : IsUnitOf second unit
+
 pub record IsSound (c : Configuration) : Type 0 where
   pub apart : (a b : Sub) (unit : ℕ) → Contains c.subs a → Contains c.subs b → IsUnitOf a unit → IsUnitOf b unit → a.id ≡ b.id
   pub carried : (s : Service) (m : Component) → Contains c.services s → Contains s.components m → IsThere c (carrier_of m)
@@ -33,6 +44,11 @@ pub record IsSound (c : Configuration) : Type 0 where
 -- two sub-channels, each of which has a capacity unit, share one
 abbrev pub overlaps : Sub → Sub → Bool
 overlaps a b = nat_lt a.start (b.start + size_of_sub b) && nat_lt b.start (a.start + size_of_sub a)
+
+-- some two of these share one
+abbrev pub is_crowded : List Sub → Bool
+is_crowded [] = false
+is_crowded (a ∷ bs) = list_any (overlaps a) bs || is_crowded bs
 
 -- the first of these that shares a capacity unit with a sub-channel
 abbrev pub overlap_with : Sub → List Sub → Option ConfigFault

@@ -11,7 +11,8 @@ impl Edit {
     /// Carries the edit out. It answers the first of its faults, in the order of the method of [`Store`] that
     /// does it, and changes nothing then.
     pub fn apply<S: Store>(self, store: &mut S) -> Result<(), EditFault>
-        ensures { Edits (S.content store.old) (S.content store.new) (edited self (S.content store.old)) result }
+        ensures { Edits (S.content store.old) (S.content store.new)
+            (edited self (S.content store.old)) result }
     {
         match self {
             Edit::AddSub(sub) => store.add_sub(sub.get()),

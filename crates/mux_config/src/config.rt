@@ -23,7 +23,8 @@ impl Model for Config {
 
     ghost view = { λ c. record { subs = c.subs; services = c.services; packets = c.packets } };
 
-    ghost invariant = { λ c. IsConfiguration (record { subs = c.subs; services = c.services; packets = c.packets }) };
+    ghost invariant = { λ c.
+        IsConfiguration (record { subs = c.subs; services = c.services; packets = c.packets }) };
 }
 
 impl Config {
@@ -45,7 +46,11 @@ impl Config {
         services: Table<Service, 64>,
         packets: Table<Packet, 64>,
     ) -> Config
-        requires { IsConfiguration (record { subs = subs; services = services; packets = packets }) }
+        requires { IsConfiguration (record {
+          subs = subs;
+          services = services;
+          packets = packets;
+        }) }
         ensures { result ≡ record { subs = subs; services = services; packets = packets } }
     {
         Config {

@@ -83,7 +83,8 @@ impl NewSub {
 
     /// The sub-channel of these fields, to be added.
     pub fn from_parts(id: SubId, start: Start, protection: Protection, kbits: u16) -> NewSub
-        ensures { result ≡ record { id = id; start = start; protection = protection; kbits = kbits } }
+        ensures { result
+            ≡ record { id = id; start = start; protection = protection; kbits = kbits } }
     {
         NewSub {
             sub: Sub {

@@ -2,7 +2,7 @@
 
 ghost use Rattle.std.specs.Prelude.{◌≡◌, ◌<◌, if◌then◌else◌, not, length, filter, Some, None, IfSome, IfNone, option_copied};
 ghost use Rattle.std.specs.List.{remove};
-ghost use Rattle.mux_config.specs.Configuration.{IsPlaced, IsService, AreDifferent};
+ghost use Rattle.mux_config.specs.Configuration.{IsConfiguration, IsPlaced, IsService, AreDifferent};
 ghost use Rattle.mux_config.specs.Edits.{has_entry, sub_at, service_at, at_start, names, without_carrier, placing_fault, component_fault, is_past_end, add_sub_fault, drop_sub_fault, move_sub_fault, rate_sub_fault, add_service_fault, drop_service_fault, add_component_fault, drop_component_fault, add_packet_fault, drop_packet_fault};
 ghost use Rattle.mux_config.specs.declared.fault.EditFault.TheVariants.{PastEnd};
 
@@ -10,6 +10,7 @@ use crate::config::Config;
 use crate::fault::EditFault;
 use crate::keys::sid_key;
 use crate::numbers::{ScId, Sid, SubId};
+use crate::overlap::is_crowded;
 use crate::parts::{Carrier, Component, Packet, Service, Sub};
 use crate::sameness::{has_same_packets, has_same_services, has_same_subs};
 use crate::store::Store;
@@ -64,6 +65,7 @@ fn start_fault(sub: &Sub, start: u16) -> Option<EditFault>
 fn find_sub(config: &Config, id: SubId) -> Option<Sub>
     ensures value { result ≡ sub_at id config.now }
     ensures placed { IfSome result (λ s. IsPlaced s) }
+    ensures configuration { IsConfiguration config.now }
 {
     match config.subs.get(u64::from(id.get())) {
         Some(sub) => Some(*sub),
@@ -75,6 +77,7 @@ fn find_sub(config: &Config, id: SubId) -> Option<Sub>
 fn find_service(config: &Config, sid: Sid) -> Option<&Service>
     ensures value { option_copied result ≡ service_at sid config.now }
     ensures formed { IfSome result (λ s. IsService s.now) }
+    ensures configuration { IsConfiguration config.now }
 {
     match config.services.get(sid_key(sid)) {
         Some(service) => Some(service),
@@ -197,7 +200,7 @@ fn add_packet_fault(config: &Config, packet: &Packet) -> Option<EditFault>
 fn drop_packet_fault(config: &Config, scid: ScId) -> Option<EditFault>
     ensures { result ≡ drop_packet_fault scid config.now }
 {
-    match config.packets.get(u64::from(scid.get())) {
+    match config.packet(scid) {
         Some(_) => None,
         None => Some(EditFault::IdAbsent),
     }
@@ -219,8 +222,10 @@ fn without_carrier(service: &Service, carrier: &Carrier) -> Service
 fn place_of(components: &[Component], carrier: &Carrier) -> Option<usize>
     requires { AreDifferent components.now }
     ensures in_bounds { IfSome result (λ place. place < length components.now) }
-    ensures found { IfSome result (λ place. remove components.now place ≡ filter (λ m. not (names carrier.now m)) components.now) }
-    ensures none { IfNone result (filter (λ m. not (names carrier.now m)) components.now ≡ components.now) }
+    ensures found { let others = filter (λ m. not (names carrier.now m)) components.now in
+        IfSome result (λ place. remove components.now place ≡ others) }
+    ensures none { let others = filter (λ m. not (names carrier.now m)) components.now in
+        IfNone result (others ≡ components.now) }
 {
     for place in 0..components.len() {
         if names(carrier, &components[place]) {
@@ -290,6 +295,25 @@ impl Store for Config {
 
     fn packet_at(&self, place: usize) -> Packet {
         self.packets()[place]
+    }
+
+    fn sub(&self, id: SubId) -> Option<Sub> {
+        find_sub(self, id)
+    }
+
+    fn service(&self, sid: Sid) -> Option<&Service> {
+        find_service(self, sid)
+    }
+
+    fn packet(&self, scid: ScId) -> Option<Packet> {
+        match self.packets.get(u64::from(scid.get())) {
+            Some(packet) => Some(*packet),
+            None => None,
+        }
+    }
+
+    fn crowded(&self) -> bool {
+        is_crowded(self.subs())
     }
 
     fn add_sub(&mut self, sub: Sub) -> Result<(), EditFault> {

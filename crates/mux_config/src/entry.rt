@@ -52,11 +52,24 @@ impl Model for Ensemble {
 
     ghost Value = { EnsembleInformation };
 
-    ghost view = { λ e. record { eid = e.eid; change = e.change; al = e.al; count = e.count; occurrence = e.occurrence } };
+    ghost view = { λ e. record {
+      eid = e.eid;
+      change = e.change;
+      al = e.al;
+      count = e.count;
+      occurrence = e.occurrence;
+    } };
 
-    ghost invariant = { λ e. (e.change < 4) × (e.count < 5000) × (IsSome e.occurrence ↔ (0 < e.change)) };
+    ghost invariant = { λ e.
+        (e.change < 4) × (e.count < 5000) × (IsSome e.occurrence ↔ (0 < e.change)) };
 
-    ghost inverse = { λ e. record { eid = e.eid; change = e.change; al = e.al; count = e.count; occurrence = e.occurrence } };
+    ghost inverse = { λ e. record {
+      eid = e.eid;
+      change = e.change;
+      al = e.al;
+      count = e.count;
+      occurrence = e.occurrence;
+    } };
 }
 
 impl Ensemble {
@@ -71,8 +84,15 @@ impl Ensemble {
         count: u16,
         occurrence: Option<u8>,
     ) -> Option<Ensemble>
-        ensures within { IsSome result ↔ ((change < 4) × (count < 5000) × (IsSome occurrence ↔ (0 < change))) }
-        ensures value { IfSome result (λ e. e ≡ record { eid = eid; change = change; al = al; count = count; occurrence = occurrence }) }
+        ensures within { IsSome result
+            ↔ ((change < 4) × (count < 5000) × (IsSome occurrence ↔ (0 < change))) }
+        ensures value { IfSome result (λ e. e ≡ record {
+          eid = eid;
+          change = change;
+          al = al;
+          count = count;
+          occurrence = occurrence;
+        }) }
     {
         if change >= 4 {
             return None;

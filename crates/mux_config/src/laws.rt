@@ -1,8 +1,10 @@
 //! What holds of all configurations, whatever holds them.
 
 ghost use Rattle.mux_config.specs.Change.{ChangeTells};
-ghost use Rattle.mux_config.specs.Edits.{EditsKeep};
-ghost use Rattle.mux_config.specs.Facts.{FactsTell};
+ghost use Rattle.mux_config.specs.Edits.{EditsKeep, RefusalsChangeNothing};
+ghost use Rattle.mux_config.specs.Facts.{FactsTell, FactSetsTell};
+ghost use Rattle.mux_config.specs.SoundFaults.{FaultsTell};
+ghost use Rattle.mux_config.specs.RecordFaults.{CutsAreShort, FaultsStay, FaultsAreFirst};
 ghost use Rattle.mux_config.specs.Sets.{HasOneList, WithAdds, WithoutTakes, ChangedReplaces};
 
 use crate::table::Keyed;
@@ -12,6 +14,14 @@ use crate::table::Keyed;
 /// the law.
 pub fn facts()
     ensures { FactsTell }
+{
+    mux_eep::laws::sizes();
+}
+
+/// The law of sets of facts: the set of the entries names the configuration, in whatever order and however
+/// often they are heard. The function does nothing; its contract is the law.
+pub fn fact_sets()
+    ensures { FactSetsTell }
 {
     mux_eep::laws::sizes();
 }
@@ -29,6 +39,26 @@ pub fn changes()
 /// nothing; its contract is the law.
 pub fn edits()
     ensures { EditsKeep }
+{}
+
+/// The law of refusals: an edit that is refused changes nothing. The function does nothing; its contract is the law.
+pub fn refusals()
+    ensures { RefusalsChangeNothing }
+{}
+
+/// The law of faults: `soundness` names the first of its four conditions that fails, and where sub-channels share
+/// capacity units the first two that do. The function does nothing; its contract is the law.
+pub fn faults()
+    ensures { FaultsTell }
+{}
+
+/// The law of records: a record that is cut off is short; any other fault lies in the bytes that were read, so that
+/// it stays whatever follows them and nothing that begins with them is a record; and it is the first one. The
+/// function does nothing; its contract is the law.
+pub fn record_faults()
+    ensures cuts { CutsAreShort }
+    ensures stays { FaultsStay }
+    ensures first { FaultsAreFirst }
 {}
 
 /// The laws of sets: a list in ascending order of its keys is a finite set, and the words in which edits are

@@ -6,6 +6,7 @@
 
 mod apply;
 pub mod config;
+pub mod conformance;
 pub mod edit;
 mod edits;
 pub mod entry;
@@ -15,6 +16,7 @@ pub mod flags;
 pub mod keys;
 pub mod laws;
 pub mod numbers;
+mod overlap;
 pub mod parts;
 pub mod reader;
 pub mod reconfiguration;

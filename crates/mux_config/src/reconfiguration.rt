@@ -47,7 +47,8 @@ fn has_same_services<S: Store>(current: &S, next: &S) -> bool
 
 /// Whether two configurations have the same services, with the same components.
 fn has_same_service_set<S: Store>(current: &S, next: &S) -> bool
-    ensures { let c = S.content current.now in let d = S.content next.now in result ≡ is_same_list is_same_service c.services d.services }
+    ensures { let c = S.content current.now in let d = S.content next.now in
+        result ≡ is_same_list is_same_service c.services d.services }
 {
     if current.service_count() != next.service_count() {
         return false;
@@ -62,7 +63,8 @@ fn has_same_service_set<S: Store>(current: &S, next: &S) -> bool
 
 /// Whether two configurations have the same packet components.
 fn has_same_packet_set<S: Store>(current: &S, next: &S) -> bool
-    ensures { let c = S.content current.now in let d = S.content next.now in result ≡ is_same_list is_same_packet c.packets d.packets }
+    ensures { let c = S.content current.now in let d = S.content next.now in
+        result ≡ is_same_list is_same_packet c.packets d.packets }
 {
     if current.packet_count() != next.packet_count() {
         return false;

@@ -68,7 +68,8 @@ impl Member for Sub {
 /// Reads that many components of one service.
 fn components(reader: &mut Reader, count: u8) -> Result<Few<Component, 12>, RecordFault>
     requires { count ≤ 12 }
-    ensures read { Takes (components_at reader.old.total [] count reader.old.rest) result reader.new }
+    ensures read { Takes (components_at reader.old.total [] count reader.old.rest) result
+        reader.new }
     ensures total { reader.new.total ≡ reader.old.total }
 {
     let mut components = Few::new();
@@ -124,7 +125,8 @@ impl Member for Packet {
 /// Reads that many members of a set, each with an identifier above that of the one before it.
 fn members<T: Member>(reader: &mut Reader, count: u8) -> Result<Table<T, 64>, RecordFault>
     requires { count ≤ 64 }
-    ensures read { Takes (members_at T.key (T.member_at reader.old.total) 0 [] count reader.old.rest) result reader.new }
+    ensures read { let members = members_at T.key (T.member_at reader.old.total) 0 [] count in
+        Takes (members reader.old.rest) result reader.new }
     ensures total { reader.new.total ≡ reader.old.total }
 {
     let mut members = Table::new();
@@ -140,7 +142,8 @@ fn members<T: Member>(reader: &mut Reader, count: u8) -> Result<Table<T, 64>, Re
 /// Reads a record field by field.
 #[tactic(auto, unfolding(crate::specs::Reading::record_at))]
 fn record(bytes: &[u8]) -> Result<(Config, usize), RecordFault>
-    ensures read { IfOk result (λ found. config_at bytes.now ≡ Ok (found.0, drop found.1 bytes.now)) }
+    ensures read { IfOk result (λ found.
+        config_at bytes.now ≡ Ok (found.0, drop found.1 bytes.now)) }
     ensures whole { IfOk result (λ found. found.1 ≡ length (config_bytes found.0)) }
     ensures first_fault { IfErr result (λ fault. config_at bytes.now ≡ Err fault) }
 {
@@ -169,12 +172,16 @@ fn record(bytes: &[u8]) -> Result<(Config, usize), RecordFault>
 /// whose carrier the service has already is at fault at its first byte.
 pub fn read_config(bytes: &[u8]) -> Result<(Config, usize), RecordFault>
     ensures configuration { IfOk result (λ found. IsConfiguration found.0) }
-    ensures spelled { IfOk result (λ found. bytes.now ≡ config_bytes found.0 ++ drop found.1 bytes.now) }
+    ensures spelled { IfOk result (λ found.
+        bytes.now ≡ config_bytes found.0 ++ drop found.1 bytes.now) }
     ensures whole { IfOk result (λ found. found.1 ≡ length (config_bytes found.0)) }
-    ensures only { (c : Configuration) (rest : List ℕ) → IsConfiguration c → bytes.now ≡ config_bytes c ++ rest → result ≡ Ok (c, length (config_bytes c)) }
-    ensures read { IfOk result (λ found. config_at bytes.now ≡ Ok (found.0, drop found.1 bytes.now)) }
+    ensures only { (c : Configuration) (rest : List ℕ) → IsConfiguration c
+        → bytes.now ≡ config_bytes c ++ rest → result ≡ Ok (c, length (config_bytes c)) }
+    ensures read { IfOk result (λ found.
+        config_at bytes.now ≡ Ok (found.0, drop found.1 bytes.now)) }
     ensures first_fault { IfErr result (λ fault. config_at bytes.now ≡ Err fault) }
-    ensures within { (place : ℕ) → result ≡ Err (RecordFault.Field place) → place ≤ length bytes.now }
+    ensures within { (place : ℕ) → result ≡ Err (RecordFault.Field place)
+        → place ≤ length bytes.now }
 {
     record(bytes)
 }

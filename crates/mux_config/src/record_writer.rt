@@ -149,7 +149,8 @@ pub fn put_config(out: &mut Vec<u8>, config: &Config) -> Result<(), AllocError>
 /// The record of a configuration. Reading it gives the configuration again, whatever follows it.
 pub fn write_config(alloc: Global, config: &Config) -> Result<Vec<u8>, AllocError>
     ensures spelled { IfOk result (λ bytes. bytes.items ≡ config_bytes config.now) }
-    ensures read_back { IfOk result (λ bytes. (rest : List ℕ) → config_at (bytes.items ++ rest) ≡ Ok (config.now, rest)) }
+    ensures read_back { IfOk result (λ bytes. (rest : List ℕ)
+        → config_at (bytes.items ++ rest) ≡ Ok (config.now, rest)) }
 {
     let mut out = Vec::new(alloc);
     put_config(&mut out, config)?;

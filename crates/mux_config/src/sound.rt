@@ -4,15 +4,14 @@ ghost use Rattle.std.specs.Prelude.{◌≡◌, ◌≤◌, ◌↔◌, if◌then�
 ghost use Rattle.std.specs.List.{list_any};
 ghost use Rattle.mux_config.specs.Configuration.{IsConfiguration, IsPlaced, sub_key, packet_key, size_of_sub, carrier_of};
 ghost use Rattle.mux_config.specs.Edits.{has_entry};
-ghost use Rattle.mux_config.specs.Sound.{IsSound, sound_or_fault, first_fault, first_overlap, overlap_with, overlaps, has_orphan, is_missing, has_address_twice, has_same_address, is_empty_service};
+ghost use Rattle.mux_config.specs.Sound.{IsSound, sound_or_fault, first_fault, other_fault, first_overlap, overlap_with, has_orphan, is_missing, has_address_twice, has_same_address, is_empty_service};
 ghost use Rattle.mux_config.specs.declared.fault.ConfigFault.TheVariants.{Overlap};
 ghost use Rattle.mux_config.specs.declared.parts.Carrier.TheVariants.{Sub as BySub};
 
 use crate::fault::ConfigFault;
-use crate::numbers::{ScId, SubId};
+use crate::overlap::overlaps;
 use crate::parts::{Carrier, Component, Packet, Sub};
 use crate::store::Store;
-use mux_eep::size_of;
 
 /// Whether a configuration is sound: no two sub-channels share a capacity unit, what each component and each
 /// packet component names is there, no two packet components of a sub-channel have one address, and each
@@ -36,9 +35,16 @@ fn first_fault<S: Store>(store: &S) -> Option<ConfigFault>
     ensures value { result ≡ first_fault (S.content store.now) }
     ensures configuration { IsConfiguration (S.content store.now) }
 {
-    if let Some(fault) = first_overlap(store) {
-        return Some(fault);
+    if store.crowded() {
+        return first_overlap(store);
     }
+    other_fault(store)
+}
+
+/// The first fault after an overlap, if there is one.
+fn other_fault<S: Store>(store: &S) -> Option<ConfigFault>
+    ensures { result ≡ other_fault (S.content store.now) }
+{
     if has_orphan(store) {
         return Some(ConfigFault::Orphan);
     }
@@ -72,39 +78,12 @@ fn overlap_with<S: Store>(store: &S, sub: &Sub, from: usize) -> Option<ConfigFau
     ensures { let c = S.content store.now in result ≡ overlap_with sub.now (drop from c.subs) }
 {
     for place in from..store.sub_count() {
-        let fault = overlap_of(sub, &store.sub_at(place));
-        if fault.is_some() {
-            return fault;
+        let other = store.sub_at(place);
+        if overlaps(sub, &other) {
+            return Some(ConfigFault::Overlap(sub.id, other.id));
         }
     }
     None
-}
-
-/// What is wrong with two sub-channels, if they share a capacity unit.
-fn overlap_of(a: &Sub, b: &Sub) -> Option<ConfigFault>
-    requires first { IsPlaced a.now }
-    requires second { IsPlaced b.now }
-    ensures { result ≡ (if overlaps a.now b.now then Some (Overlap a.now.id b.now.id) else None) }
-{
-    if u32::from(a.start) >= u32::from(b.start) + units(b) {
-        return None;
-    }
-    if u32::from(b.start) >= u32::from(a.start) + units(a) {
-        return None;
-    }
-    Some(ConfigFault::Overlap(a.id, b.id))
-}
-
-/// The size of a sub-channel in capacity units.
-fn units(sub: &Sub) -> u32
-    requires { IsPlaced sub.now }
-    ensures value { result ≡ size_of_sub sub.now }
-    ensures bound { result ≤ 864 }
-{
-    match size_of(sub.protection, sub.kbits) {
-        Ok(size) => u32::from(size),
-        Err(_) => 0,
-    }
 }
 
 /// Whether a component or a packet component names something that is not there.
@@ -116,7 +95,8 @@ fn has_orphan<S: Store>(store: &S) -> bool
 
 /// Whether a component of a service names something that is not there.
 fn has_orphan_component<S: Store>(store: &S) -> bool
-    ensures { let c = S.content store.now in result ≡ list_any (λ s. list_any (λ m. is_missing c (carrier_of m)) s.components) c.services }
+    ensures { let c = S.content store.now in
+        result ≡ list_any (λ s. list_any (λ m. is_missing c (carrier_of m)) s.components) c.services }
 {
     for place in 0..store.service_count() {
         if names_missing(store, store.service_at(place).components.as_slice()) {
@@ -128,7 +108,8 @@ fn has_orphan_component<S: Store>(store: &S) -> bool
 
 /// Whether one of these components names something that is not there.
 fn names_missing<S: Store>(store: &S, components: &[Component]) -> bool
-    ensures { result ≡ list_any (λ m. is_missing (S.content store.now) (carrier_of m)) components.now }
+    ensures { result ≡ list_any (λ m.
+        is_missing (S.content store.now) (carrier_of m)) components.now }
 {
     for component in components {
         if is_missing(store, component.carrier()) {
@@ -140,7 +121,8 @@ fn names_missing<S: Store>(store: &S, components: &[Component]) -> bool
 
 /// Whether a packet component names a sub-channel that is not there.
 fn has_orphan_packet<S: Store>(store: &S) -> bool
-    ensures { let c = S.content store.now in result ≡ list_any (λ p. is_missing c (BySub p.sub)) c.packets }
+    ensures { let c = S.content store.now in
+        result ≡ list_any (λ p. is_missing c (BySub p.sub)) c.packets }
 {
     for place in 0..store.packet_count() {
         if is_missing(store, Carrier::Sub(store.packet_at(place).sub)) {
@@ -151,37 +133,14 @@ fn has_orphan_packet<S: Store>(store: &S) -> bool
 }
 
 /// Whether a carrier is not there.
+#[tactic(auto, using(crate::proofs::Sounding::has_found))]
 fn is_missing<S: Store>(store: &S, carrier: Carrier) -> bool
     ensures { result ≡ is_missing (S.content store.now) carrier }
 {
     match carrier {
-        Carrier::Sub(id) => !has_sub(store, id),
-        Carrier::Packet(scid) => !has_packet(store, scid),
+        Carrier::Sub(id) => !store.sub(id).is_some(),
+        Carrier::Packet(scid) => !store.packet(scid).is_some(),
     }
-}
-
-/// Whether there is a sub-channel of this identifier.
-fn has_sub<S: Store>(store: &S, id: SubId) -> bool
-    ensures { let c = S.content store.now in result ≡ has_entry sub_key id c.subs }
-{
-    for place in 0..store.sub_count() {
-        if store.sub_at(place).id.get() == id.get() {
-            return true;
-        }
-    }
-    false
-}
-
-/// Whether there is a packet component of this identifier.
-fn has_packet<S: Store>(store: &S, scid: ScId) -> bool
-    ensures { let c = S.content store.now in result ≡ has_entry packet_key scid c.packets }
-{
-    for place in 0..store.packet_count() {
-        if store.packet_at(place).scid.get() == scid.get() {
-            return true;
-        }
-    }
-    false
 }
 
 /// Whether two packet components of one sub-channel have one address.
@@ -199,7 +158,8 @@ fn has_address_twice<S: Store>(store: &S) -> bool
 /// Whether a packet component, from a place on, has the sub-channel and the address of this one.
 fn has_same_address_from<S: Store>(store: &S, packet: &Packet, from: usize) -> bool
     requires { let c = S.content store.now in from ≤ length c.packets }
-    ensures { let c = S.content store.now in result ≡ list_any (has_same_address packet.now) (drop from c.packets) }
+    ensures { let c = S.content store.now in
+        result ≡ list_any (has_same_address packet.now) (drop from c.packets) }
 {
     for place in from..store.packet_count() {
         if has_same_address(packet, &store.packet_at(place)) {

@@ -1,8 +1,9 @@
 //! What holds a configuration, however it holds it.
 
-ghost use Rattle.std.specs.Prelude.{◌≡◌, ◌<◌, ◌↔◌, IsTrue, length, slice_get, Some, None};
+ghost use Rattle.std.specs.Prelude.{◌≡◌, ◌<◌, ◌↔◌, IsTrue, length, option_copied, slice_get, Some, None};
 ghost use Rattle.mux_config.specs.Configuration.{Configuration, IsConfiguration, nothing};
-ghost use Rattle.mux_config.specs.Edits.{Edits, add_sub, add_sub_fault, sub_added, drop_sub, drop_sub_fault, sub_dropped, move_sub, move_sub_fault, sub_moved, rate_sub, rate_sub_fault, sub_rated, add_service, add_service_fault, service_added, drop_service, drop_service_fault, service_dropped, add_component, add_component_fault, component_added, drop_component, drop_component_fault, component_dropped, add_packet, add_packet_fault, packet_added, drop_packet, drop_packet_fault, packet_dropped};
+ghost use Rattle.mux_config.specs.Sound.{IsCrowded};
+ghost use Rattle.mux_config.specs.Edits.{Edits, sub_at, service_at, packet_at, add_sub, add_sub_fault, sub_added, drop_sub, drop_sub_fault, sub_dropped, move_sub, move_sub_fault, sub_moved, rate_sub, rate_sub_fault, sub_rated, add_service, add_service_fault, service_added, drop_service, drop_service_fault, service_dropped, add_component, add_component_fault, component_added, drop_component, drop_component_fault, component_dropped, add_packet, add_packet_fault, packet_added, drop_packet, drop_packet_fault, packet_dropped};
 
 use crate::config::Config;
 use crate::fault::EditFault;
@@ -74,10 +75,31 @@ pub trait Store: Drop {
         ensures value { let c = content self.now in slice_get c.packets place ≡ Some result }
         ensures configuration { IsConfiguration (content self.now) };
 
+    /// The sub-channel of an identifier; None where there is none.
+    fn sub(&self, id: SubId) -> Option<Sub>
+        ensures value { result ≡ sub_at id (content self.now) }
+        ensures configuration { IsConfiguration (content self.now) };
+
+    /// The service of an identifier; None where there is none.
+    fn service(&self, sid: Sid) -> Option<&Service>
+        ensures value { option_copied result ≡ service_at sid (content self.now) }
+        ensures configuration { IsConfiguration (content self.now) };
+
+    /// The packet component of an identifier; None where there is none.
+    fn packet(&self, scid: ScId) -> Option<Packet>
+        ensures value { result ≡ packet_at scid (content self.now) }
+        ensures configuration { IsConfiguration (content self.now) };
+
+    /// Whether two sub-channels share a capacity unit (EN 300 401 clause 6.2.1).
+    fn crowded(&self) -> bool
+        ensures value { IsTrue result ↔ IsCrowded (content self.now) }
+        ensures configuration { IsConfiguration (content self.now) };
+
     /// Adds a sub-channel. Faults: `IdUsed` (its identifier is there), `BadRate` (its profile has no size at
     /// its rate), `PastEnd` (it would end past capacity unit 863).
     fn add_sub(&mut self, sub: Sub) -> Result<(), EditFault>
-        ensures { Edits (content self.old) (content self.new) (add_sub sub (content self.old)) result };
+        ensures { Edits (content self.old) (content self.new)
+            (add_sub sub (content self.old)) result };
 
     /// [`Store::add_sub`] where no fault holds.
     fn add_sub_known(&mut self, sub: Sub)
@@ -86,7 +108,8 @@ pub trait Store: Drop {
 
     /// Takes a sub-channel away. Fault: `IdAbsent` (it is not there).
     fn drop_sub(&mut self, id: SubId) -> Result<(), EditFault>
-        ensures { Edits (content self.old) (content self.new) (drop_sub id (content self.old)) result };
+        ensures { Edits (content self.old) (content self.new)
+            (drop_sub id (content self.old)) result };
 
     /// [`Store::drop_sub`] where no fault holds.
     fn drop_sub_known(&mut self, id: SubId)
@@ -96,7 +119,8 @@ pub trait Store: Drop {
     /// Gives a sub-channel another start address. Faults: `IdAbsent` (it is not there), `PastEnd` (it would
     /// end past capacity unit 863).
     fn move_sub(&mut self, id: SubId, start: u16) -> Result<(), EditFault>
-        ensures { Edits (content self.old) (content self.new) (move_sub id start (content self.old)) result };
+        ensures { Edits (content self.old) (content self.new)
+            (move_sub id start (content self.old)) result };
 
     /// [`Store::move_sub`] where no fault holds.
     fn move_sub_known(&mut self, id: SubId, start: u16)
@@ -107,7 +131,8 @@ pub trait Store: Drop {
     /// is not there), `BadRate` (its profile has no size at that rate), `PastEnd` (it would end past capacity
     /// unit 863).
     fn rate_sub(&mut self, id: SubId, kbits: u16) -> Result<(), EditFault>
-        ensures { Edits (content self.old) (content self.new) (rate_sub id kbits (content self.old)) result };
+        ensures { Edits (content self.old) (content self.new)
+            (rate_sub id kbits (content self.old)) result };
 
     /// [`Store::rate_sub`] where no fault holds.
     fn rate_sub_known(&mut self, id: SubId, kbits: u16)
@@ -117,7 +142,8 @@ pub trait Store: Drop {
     /// Adds a service without components. Faults: `IdUsed` (its identifier is there), `TableFull` (there are
     /// 64 services).
     fn add_service(&mut self, sid: Sid) -> Result<(), EditFault>
-        ensures { Edits (content self.old) (content self.new) (add_service sid (content self.old)) result };
+        ensures { Edits (content self.old) (content self.new)
+            (add_service sid (content self.old)) result };
 
     /// [`Store::add_service`] where no fault holds.
     fn add_service_known(&mut self, sid: Sid)
@@ -126,7 +152,8 @@ pub trait Store: Drop {
 
     /// Takes a service away, with its components. Fault: `IdAbsent` (it is not there).
     fn drop_service(&mut self, sid: Sid) -> Result<(), EditFault>
-        ensures { Edits (content self.old) (content self.new) (drop_service sid (content self.old)) result };
+        ensures { Edits (content self.old) (content self.new)
+            (drop_service sid (content self.old)) result };
 
     /// [`Store::drop_service`] where no fault holds.
     fn drop_service_known(&mut self, sid: Sid)
@@ -136,7 +163,8 @@ pub trait Store: Drop {
     /// Adds a component at the end of a service. Faults: `IdAbsent` (the service is not there), `IdUsed` (it
     /// has a component of that carrier), `TooManyComponents` (it has 12, or 11 with a 32-bit SId).
     fn add_component(&mut self, sid: Sid, component: Component) -> Result<(), EditFault>
-        ensures { Edits (content self.old) (content self.new) (add_component sid component (content self.old)) result };
+        ensures { Edits (content self.old) (content self.new)
+            (add_component sid component (content self.old)) result };
 
     /// [`Store::add_component`] where no fault holds.
     fn add_component_known(&mut self, sid: Sid, component: Component)
@@ -146,7 +174,8 @@ pub trait Store: Drop {
     /// Takes the component of a carrier out of a service; the others close up. Fault: `IdAbsent` (the service
     /// is not there, or has no component of that carrier).
     fn drop_component(&mut self, sid: Sid, carrier: Carrier) -> Result<(), EditFault>
-        ensures { Edits (content self.old) (content self.new) (drop_component sid carrier (content self.old)) result };
+        ensures { Edits (content self.old) (content self.new)
+            (drop_component sid carrier (content self.old)) result };
 
     /// [`Store::drop_component`] where no fault holds.
     fn drop_component_known(&mut self, sid: Sid, carrier: Carrier)
@@ -156,7 +185,8 @@ pub trait Store: Drop {
     /// Adds a packet component. Faults: `IdUsed` (its SCId is there), `BadAddress` (its address is 0 or above
     /// 1023), `TableFull` (there are 64 packet components).
     fn add_packet(&mut self, packet: Packet) -> Result<(), EditFault>
-        ensures { Edits (content self.old) (content self.new) (add_packet packet (content self.old)) result };
+        ensures { Edits (content self.old) (content self.new)
+            (add_packet packet (content self.old)) result };
 
     /// [`Store::add_packet`] where no fault holds.
     fn add_packet_known(&mut self, packet: Packet)
@@ -165,7 +195,8 @@ pub trait Store: Drop {
 
     /// Takes a packet component away. Fault: `IdAbsent` (it is not there).
     fn drop_packet(&mut self, scid: ScId) -> Result<(), EditFault>
-        ensures { Edits (content self.old) (content self.new) (drop_packet scid (content self.old)) result };
+        ensures { Edits (content self.old) (content self.new)
+            (drop_packet scid (content self.old)) result };
 
     /// [`Store::drop_packet`] where no fault holds.
     fn drop_packet_known(&mut self, scid: ScId)

@@ -54,13 +54,17 @@ impl<T: Keyed, const CAP: usize> Table<T, CAP> {
 /// The place of the entry of a key; or, where none has it, the place where such an entry would stand.
 fn search<T: Keyed>(entries: &[T], key: u64) -> Result<usize, usize>
     requires { IsAscending T.key entries.now }
-    ensures found { IfOk result (λ place. slice_get entries.now place ≡ entry_at T.key key entries.now) }
+    ensures found { IfOk result (λ place.
+        slice_get entries.now place ≡ entry_at T.key key entries.now) }
     ensures in_bounds { IfOk result (λ place. place < length entries.now) }
-    ensures removed { IfOk result (λ place. remove entries.now place ≡ without_entry T.key key entries.now) }
-    ensures changed { IfOk result (λ place. (y : T) → T.key y ≡ key → set entries.now place y ≡ with_entry_changed T.key y entries.now) }
+    ensures removed { IfOk result (λ place.
+        remove entries.now place ≡ without_entry T.key key entries.now) }
+    ensures changed { IfOk result (λ place. (y : T) → T.key y ≡ key
+        → set entries.now place y ≡ with_entry_changed T.key y entries.now) }
     ensures absent { IfErr result (λ place. entry_at T.key key entries.now ≡ None) }
     ensures room { IfErr result (λ place. place ≤ length entries.now) }
-    ensures inserted { IfErr result (λ place. (y : T) → T.key y ≡ key → insert entries.now place y ≡ with_entry T.key y entries.now) }
+    ensures inserted { IfErr result (λ place. (y : T) → T.key y ≡ key
+        → insert entries.now place y ≡ with_entry T.key y entries.now) }
 {
     for place in 0..entries.len() {
         let found = entries[place].key();
@@ -109,7 +113,8 @@ impl<T: Keyed, const CAP: usize> Table<T, CAP> {
 
     /// The place of the member of a key; None where it has none.
     pub fn place(&self, key: u64) -> Option<usize>
-        ensures found { IfSome result (λ place. slice_get self.now place ≡ entry_at T.key key self.now) }
+        ensures found { IfSome result (λ place.
+            slice_get self.now place ≡ entry_at T.key key self.now) }
         ensures in_bounds { IfSome result (λ place. place < length self.now) }
         ensures absent { IfNone result (entry_at T.key key self.now ≡ None) }
         ensures ascending { IsAscending T.key self.now }

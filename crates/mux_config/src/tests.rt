@@ -1,5 +1,4 @@
-mod edits;
+mod faults;
 mod numbers;
-mod parts;
 mod records;
-mod soundness;
+mod stores;

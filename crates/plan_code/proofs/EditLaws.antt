@@ -1,12 +1,12 @@
 -- An edit that is read is spelled so, and an edit that is spelled is read again.
-use Rattle.std.proofs.Common.{◌≡◌, ℕ, ◌<◌, cond, eqb, List, [], ◌∷◌, ◌++◌, Ok, Err, refl, ap, arith, inl, inr}
+use Rattle.std.proofs.Common.{◌≡◌, ℕ, ◌<◌, cond, eqb, List, [], ◌∷◌, ◌++◌, Result, Ok, Err, refl, ap, arith, inl, inr}
 use Rattle.std.proofs.lemmas.Bool.{cases_eq, eq-eqb, ne_eqb}
 use Rattle.mux_config.specs.declared.edit.Edit.{Edit}
 use Rattle.mux_config.specs.declared.edit.Edit.TheVariants.{AddSub, DropSub, MoveSub, RateSub, AddService, DropService, AddComponent, DropComponent, AddPacket, DropPacket}
 use Rattle.mux_config.specs.declared.record.RecordFault.TheVariants.{Field}
 use Rattle.mux_config.specs.Configuration.{IsSid, IsComponent}
 use Rattle.mux_config.specs.Spelling.{word_bytes, sid_bytes, component_bytes, sub_bytes, packet_bytes}
-use Rattle.mux_config.specs.Reading.{Reads, sid_at, component_at}
+use Rattle.mux_config.specs.Reading.{sid_at, component_at}
 use Rattle.mux_config.proofs.FieldLaws.{IsBytes, Front, done}
 use Rattle.plan_code.specs.Program.{IsNewSub, IsNewPacket, IsCarrier, IsEdit}
 use Rattle.plan_code.specs.Spelling.{carrier_bytes, edit_bytes}
@@ -87,7 +87,7 @@ drop_packet_front total bytes x fits e =
     is_read 0x19 bytes (word_bytes t.first) x (DropPacket t.first) t.is t.front refl t.formed
 
 -- one of the opcodes, or none of those before
-pub choose : {T : Type 0} (opcode known : ℕ) (given other : Reads T) (x : T × List ℕ) (Q : ℕ → Type 0) → (given ≡ Ok x → Q known) → (other ≡ Ok x → Q opcode)
+pub choose : {T E : Type 0} (opcode known : ℕ) (given other : Result (T × List ℕ) E) (x : T × List ℕ) (Q : ℕ → Type 0) → (given ≡ Ok x → Q known) → (other ≡ Ok x → Q opcode)
     → cond (eqb opcode known) given other ≡ Ok x → Q opcode
 choose opcode known given other x Q here there e =
     elim (cases_eq opcode known) [

@@ -4,6 +4,8 @@ use Rattle.std.specs.Int.{w16, w32, to_be_bytes}
 use Rattle.std.specs.List.{flat_map}
 use Rattle.std.proofs.lemmas.Bool.{ltb-false, le-ltb, eqb-true, eqb-false, ne_eqb}
 use Rattle.std.proofs.lemmas.List.{append-nil, nil_from_length}
+use Rattle.fib_codec.specs.declared.modes.Mode.{Mode}
+use Rattle.fib_codec.specs.declared.modes.Mode.TheVariants.{I, II, III, IV}
 use Rattle.mux_config.specs.declared.record.RecordFault.{RecordFault}
 use Rattle.mux_config.specs.Configuration.{Configuration, IsConfiguration, Each, IsAscending}
 use Rattle.mux_config.specs.Spelling.{word_bytes, config_bytes}
@@ -16,10 +18,11 @@ use Rattle.plan_code.specs.declared.plan.Plan.{Plan}
 use Rattle.plan_code.specs.declared.label.Label.{Label}
 use Rattle.plan_code.specs.declared.instr.Line.{Line}
 use Rattle.plan_code.specs.Program.{Program, IsProgram, IsPlan, IsLabel, IsLine, label_key}
-use Rattle.plan_code.specs.Spelling.{magic, version, plan_bytes, header_bytes, label_bytes, line_bytes, code_bytes}
+use Rattle.plan_code.specs.Spelling.{magic, mode_bytes, plan_bytes, header_bytes, label_bytes, line_bytes, code_bytes}
 use Rattle.plan_code.specs.Parts.{label_at, line_at}
-use Rattle.plan_code.specs.Reading.{Parses, ◌>>=◌, refuse, read_from, in_file, magic_at, version_at, plan_at, count_at, config_in, line_in, items_at, labels_in, Header, header_at, program_at, code_of, Gives}
+use Rattle.plan_code.specs.Reading.{Parses, ◌>>=◌, refuse, read_from, in_file, magic_at, mode_of, mode_in, mode_at, plan_at, count_at, config_in, line_in, items_at, labels_in, Header, header_at, program_at, code_of, Gives}
 use Rattle.plan_code.proofs.Operands.{IsReading, byte_of, word_reading, byte_from_reading}
+use Rattle.plan_code.proofs.EditLaws.{choose}
 use Rattle.plan_code.proofs.LabelLaws.{label_front, label_again}
 use Rattle.plan_code.proofs.LineLaws.{line_front, line_again}
 
@@ -76,37 +79,79 @@ magic_front bytes x fits e =
 magic_again : (rest : List ℕ) → magic_at (to_be_bytes w32 magic ++ rest) ≡ Ok (magic, rest)
 magic_again rest = rw (ok_read 0 _ _ (long_again magic rest (omega arith))) refl
 
-version_front : (bytes : List ℕ) (x : ℕ × List ℕ) → IsBytes bytes → version_at bytes ≡ Ok x → Front bytes (byte_of version) x.1
-version_front bytes x fits e =
-    let a = then_ok (in_file (byte_at bytes)) _ x e in
-    let f = byte_front bytes a.0 fits (read_ok 0 _ a.0 a.1) in
-    let k = refuse_then (not (eqb a.0.0 version)) Version (λ known. made a.0) x a.2 in
-    let is : a.0.0 ≡ version = eqb-true _ _ (not_false _ k.0) in
-    let here : Front bytes (byte_of version) a.0.1 = subst (λ (n : ℕ). Front bytes (byte_of n) a.0.1) is f in
-    subst (λ (y : ℕ × List ℕ). Front bytes (byte_of version) y.1) (made_is a.0 x k.1) here
+number_bytes : (n : ℕ) → 2 ≤ n → n ≤ 4 → mode_bytes (mode_of n) ≡ 2 ∷ n ∷ []
+number_bytes zero from to = absurd (omega (arith, from))
+number_bytes (suc zero) from to = absurd (omega (arith, from))
+number_bytes (suc (suc zero)) from to = refl
+number_bytes (suc (suc (suc zero))) from to = refl
+number_bytes (suc (suc (suc (suc zero)))) from to = refl
+number_bytes (suc (suc (suc (suc (suc more))))) from to = absurd (omega (arith, to))
+
+first_version : (bytes rest : List ℕ) (x : Mode × List ℕ) → (let first : Mode × List ℕ = (I, rest) in made first) ≡ Ok x → Front bytes (byte_of 1) rest → Front bytes (mode_bytes x.0) x.1
+first_version bytes rest x e front =
+    let found : Mode × List ℕ = (I, rest) in
+    subst (λ (y : Mode × List ℕ). Front bytes (mode_bytes y.0) y.1) (made_is found x e) front
+
+second_version : (total : ℕ) (bytes rest : List ℕ) (x : Mode × List ℕ) → (in_file (byte_within total 2 4 rest) >>= λ number. let found : Mode × List ℕ = (mode_of number.0, number.1) in made found) ≡ Ok x
+    → Front bytes (byte_of 2) rest → Front bytes (mode_bytes x.0) x.1
+second_version total bytes rest x e front =
+    let n = then_ok (in_file (byte_within total 2 4 rest)) _ x e in
+    let fn = (byte_from_reading total 2 4).front rest n.0 front.rest_fits (read_ok 0 _ n.0 n.1) in
+    let found : Mode × List ℕ = (mode_of n.0.0, n.0.1) in
+    let both : Front bytes (2 ∷ n.0.0 ∷ []) n.0.1 = front_then bytes (byte_of 2) rest (byte_of n.0.0) n.0.1 front fn.0 in
+    let here : Front bytes (mode_bytes (mode_of n.0.0)) n.0.1 = subst (λ (t : List ℕ). Front bytes t n.0.1) (sym (number_bytes n.0.0 fn.1.0 fn.1.1)) both in
+    subst (λ (y : Mode × List ℕ). Front bytes (mode_bytes y.0) y.1) (made_is found x n.2) here
+
+version_front : (total version : ℕ) (bytes rest : List ℕ) (x : Mode × List ℕ) → mode_in total version rest ≡ Ok x → Front bytes (byte_of version) rest → Front bytes (mode_bytes x.0) x.1
+version_front total version bytes rest x =
+    let Q : ℕ → Type 0 = λ v. Front bytes (byte_of v) rest → Front bytes (mode_bytes x.0) x.1 in
+    choose version 1 _ _ x Q (first_version bytes rest x) (
+    choose version 2 _ _ x Q (second_version total bytes rest x) (
+    λ e. absurd (let wrong : Err Version ≡ made x = e in cc)))
+
+mode_front : (total : ℕ) (bytes : List ℕ) (x : Mode × List ℕ) → IsBytes bytes → mode_at total bytes ≡ Ok x → Front bytes (mode_bytes x.0) x.1
+unfolding mode_at
+mode_front total bytes x fits e =
+    let v = then_ok (in_file (byte_at bytes)) _ x e in
+    version_front total v.0.0 bytes v.0.1 x v.2 (byte_front bytes v.0 fits (read_ok 0 _ v.0 v.1))
+
+mode_again : (total : ℕ) (m : Mode) (rest : List ℕ) → mode_at total (mode_bytes m ++ rest) ≡ Ok (m, rest)
+unfolding mode_at
+mode_again total I rest = refl
+mode_again total II rest = refl
+mode_again total III rest = refl
+mode_again total IV rest = refl
 
 plan_front : (total : ℕ) (bytes : List ℕ) (x : Plan × List ℕ) → IsBytes bytes → plan_at total bytes ≡ Ok x → Front bytes (plan_bytes x.0) x.1 × IsPlan x.0
 unfolding plan_at
 plan_front total bytes x fits e =
-    let a = then_ok (in_file (number_at w16 bytes)) _ x e in
-    let fa = word_reading.front bytes a.0 fits (read_ok 0 _ a.0 a.1) in
+    let m = then_ok (mode_at total bytes) _ x e in
+    let fm = mode_front total bytes m.0 fits m.1 in
+    let a = then_ok (in_file (number_at w16 m.0.1)) _ x m.2 in
+    let fa = word_reading.front m.0.1 a.0 fm.rest_fits (read_ok 0 _ a.0 a.1) in
     let p = then_ok (in_file (byte_within total 1 60 a.0.1)) _ x a.2 in
     let fp = (byte_from_reading total 1 60).front a.0.1 p.0 fa.0.rest_fits (read_ok 0 _ p.0 p.1) in
     let n = then_ok (in_file (byte_within total 12 248 p.0.1)) _ x p.2 in
     let fn = (byte_from_reading total 12 248).front p.0.1 n.0 fp.0.rest_fits (read_ok 0 _ n.0 n.1) in
     let b = then_ok (in_file (byte_within total 1 255 n.0.1)) _ x n.2 in
     let fb = (byte_from_reading total 1 255).front n.0.1 b.0 fn.0.rest_fits (read_ok 0 _ b.0 b.1) in
-    let plan : Plan × List ℕ = (record { eid = a.0.0; period = p.0.0; notice = n.0.0; budget = b.0.0 }, b.0.1) in
+    let plan : Plan × List ℕ = (record { eid = a.0.0; mode = m.0.0; period = p.0.0; notice = n.0.0; budget = b.0.0 }, b.0.1) in
     let nb = front_then p.0.1 (byte_of n.0.0) n.0.1 (byte_of b.0.0) b.0.1 fn.0 fb.0 in
     let pnb = front_then a.0.1 (byte_of p.0.0) p.0.1 (byte_of n.0.0 ++ byte_of b.0.0) b.0.1 fp.0 nb in
-    let all = front_then bytes (word_bytes a.0.0) a.0.1 (byte_of p.0.0 ++ (byte_of n.0.0 ++ byte_of b.0.0)) b.0.1 fa.0 pnb in
+    let ma = front_then bytes (mode_bytes m.0.0) m.0.1 (word_bytes a.0.0) a.0.1 fm fa.0 in
+    let all = front_then bytes (mode_bytes m.0.0 ++ word_bytes a.0.0) a.0.1 (byte_of p.0.0 ++ (byte_of n.0.0 ++ byte_of b.0.0)) b.0.1 ma pnb in
     subst (λ (y : Plan × List ℕ). Front bytes (plan_bytes y.0) y.1 × IsPlan y.0) (made_is plan x b.2)
     (all, record { ensemble = fa.1; period_from = fp.1.0; period_to = fp.1.1; notice_from = fn.1.0; notice_to = fn.1.1; budget_from = fb.1.0; budget_to = fb.1.1 })
 
 plan_again : (total : ℕ) (p : Plan) (rest : List ℕ) → IsPlan p → plan_at total (plan_bytes p ++ rest) ≡ Ok (p, rest)
 unfolding plan_at
 plan_again total p rest is =
-    rw (
+    let last : List ℕ = p.period ∷ p.notice ∷ p.budget ∷ [] in
+    let grouped : plan_bytes p ++ rest ≡ mode_bytes p.mode ++ (word_bytes p.eid ++ (last ++ rest)) =
+    append_assoc (mode_bytes p.mode ++ word_bytes p.eid) last rest ∙ append_assoc (mode_bytes p.mode) (word_bytes p.eid) (last ++ rest) in
+    ap (plan_at total) grouped
+    ∙ rw (
+      mode_again total p.mode (word_bytes p.eid ++ (last ++ rest)),
       ok_read 0 _ _ (word_reading.again p.eid (p.period ∷ p.notice ∷ p.budget ∷ rest) is.ensemble),
       ok_read 0 _ _ ((byte_from_reading total 1 60).again p.period (p.notice ∷ p.budget ∷ rest) (is.period_from, is.period_to)),
       ok_read 0 _ _ ((byte_from_reading total 12 248).again p.notice (p.budget ∷ rest) (is.notice_from, is.notice_to)),
@@ -197,18 +242,17 @@ pub record IsHeaderRead (bytes : List ℕ) (h : Header) (rest : List ℕ) : Type
   pub labels : IsCount 1024 h.labels
   pub lines : IsCount 4096 h.lines
 
-header_made : (total : ℕ) (h : Header) (b0 b1 b2 b3 b4 b5 b6 : List ℕ) (m v : ℕ) → IsBytes b0 → magic_at b0 ≡ Ok (m, b1) → version_at b1 ≡ Ok (v, b2) → plan_at total b2 ≡ Ok (h.plan, b3)
+header_made : (total : ℕ) (h : Header) (b0 b2 b3 b4 b5 b6 : List ℕ) (m : ℕ) → IsBytes b0 → magic_at b0 ≡ Ok (m, b2) → plan_at total b2 ≡ Ok (h.plan, b3)
     → count_at total 256 b3 ≡ Ok (h.configurations, b4) → count_at total 1024 b4 ≡ Ok (h.labels, b5) → count_at total 4096 b5 ≡ Ok (h.lines, b6) → IsHeaderRead b0 h b6
-header_made total h b0 b1 b2 b3 b4 b5 b6 m v fits em ev ep ec el ei =
-    let fm = magic_front b0 (m, b1) fits em in
-    let fv = version_front b1 (v, b2) fm.rest_fits ev in
-    let fp = plan_front total b2 (h.plan, b3) fv.rest_fits ep in
+header_made total h b0 b2 b3 b4 b5 b6 m fits em ep ec el ei =
+    let fm = magic_front b0 (m, b2) fits em in
+    let fp = plan_front total b2 (h.plan, b3) fm.rest_fits ep in
     let fc = count_front total 256 b3 (h.configurations, b4) fp.0.rest_fits ec in
     let fl = count_front total 1024 b4 (h.labels, b5) fc.0.rest_fits el in
     let fi = count_front total 4096 b5 (h.lines, b6) fl.0.rest_fits ei in
     let magic_text : List ℕ = to_be_bytes w32 magic in
-    let plan_text : List ℕ = byte_of version ++ plan_bytes h.plan in
-    let planned = front_then b0 magic_text b1 plan_text b3 fm (front_then b1 (byte_of version) b2 (plan_bytes h.plan) b3 fv fp.0) in
+    let plan_text : List ℕ = plan_bytes h.plan in
+    let planned = front_then b0 magic_text b2 plan_text b3 fm fp.0 in
     let one = front_then b0 (magic_text ++ plan_text) b3 (word_bytes h.configurations) b4 planned fc.0 in
     let two = front_then b0 (magic_text ++ plan_text ++ word_bytes h.configurations) b4 (word_bytes h.labels) b5 one fl.0 in
     let all = front_then b0 (magic_text ++ plan_text ++ word_bytes h.configurations ++ word_bytes h.labels) b5 (word_bytes h.lines) b6 two fi.0 in
@@ -218,14 +262,13 @@ header_front : (total : ℕ) (bytes : List ℕ) (x : Header × List ℕ) → IsB
 unfolding header_at
 header_front total bytes x fits e =
     let m = then_ok (magic_at bytes) _ x e in
-    let v = then_ok (version_at m.0.1) _ x m.2 in
-    let p = then_ok (plan_at total v.0.1) _ x v.2 in
+    let p = then_ok (plan_at total m.0.1) _ x m.2 in
     let c = then_ok (count_at total 256 p.0.1) _ x p.2 in
     let l = then_ok (count_at total 1024 c.0.1) _ x c.2 in
     let i = then_ok (count_at total 4096 l.0.1) _ x l.2 in
     let found : Header × List ℕ = (record { plan = p.0.0; configurations = c.0.0; labels = l.0.0; lines = i.0.0 }, i.0.1) in
     subst (λ (y : Header × List ℕ). IsHeaderRead bytes y.0 y.1) (made_is found x i.2)
-    (header_made total found.0 bytes m.0.1 v.0.1 p.0.1 c.0.1 l.0.1 i.0.1 m.0.0 v.0.0 fits m.1 v.1 p.1 c.1 l.1 i.1)
+    (header_made total found.0 bytes m.0.1 p.0.1 c.0.1 l.0.1 i.0.1 m.0.0 fits m.1 p.1 c.1 l.1 i.1)
 
 -- what was read after a header are its tables
 pub record AreTablesRead (h : Header) (bytes : List ℕ) (p : Program) (rest : List ℕ) : Type 0 where
@@ -354,8 +397,15 @@ header_again total h rest planned configurations labels lines =
     let b4 : List ℕ = word_bytes h.labels ++ b5 in
     let b3 : List ℕ = word_bytes h.configurations ++ b4 in
     let b2 : List ℕ = plan_bytes h.plan ++ b3 in
-    rw (
-      magic_again (version ∷ b2),
+    let front : List ℕ = to_be_bytes w32 magic ++ plan_bytes h.plan in
+    let grouped : header_bytes h.plan h.configurations h.labels h.lines ++ rest ≡ to_be_bytes w32 magic ++ b2 =
+    append_assoc (front ++ word_bytes h.configurations ++ word_bytes h.labels) (word_bytes h.lines) rest
+    ∙ append_assoc (front ++ word_bytes h.configurations) (word_bytes h.labels) b5
+    ∙ append_assoc front (word_bytes h.configurations) b4
+    ∙ append_assoc (to_be_bytes w32 magic) (plan_bytes h.plan) b3 in
+    ap (header_at total) grouped
+    ∙ rw (
+      magic_again b2,
       plan_again total h.plan b3 planned,
       count_again total 256 h.configurations b4 (omega arith) configurations,
       count_again total 1024 h.labels b5 (omega arith) labels,

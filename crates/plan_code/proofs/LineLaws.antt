@@ -8,7 +8,7 @@ use Rattle.mux_config.specs.Spelling.{word_bytes}
 use Rattle.mux_config.specs.Reading.{Reads, ◌>>=◌, place, byte_at, flag_at}
 use Rattle.mux_config.proofs.FieldLaws.{IsBytes, Front, front_then, bind_ok, done, ok_is, byte_front}
 use Rattle.plan_code.specs.declared.instr.Instr.{Instr}
-use Rattle.plan_code.specs.declared.instr.Instr.TheVariants.{Wait, Until, WaitContact, CommitIn, CommitAt, Join, End, Edit as Edits, Test, Jump, Set, Loop}
+use Rattle.plan_code.specs.declared.instr.Instr.TheVariants.{Wait, Until, WaitContact, CommitIn, CommitAt, Join, Settle, End, Edit as Edits, Test, Jump, Set, Loop}
 use Rattle.plan_code.specs.declared.instr.Line.{Line}
 use Rattle.plan_code.specs.Program.{IsInstr, IsLine}
 use Rattle.plan_code.specs.Spelling.{edit_bytes, instr_bytes, line_bytes}
@@ -87,7 +87,8 @@ timing_front total at opcode bytes x fits =
     choose opcode 0x05 _ _ x Q (commit_at_front bytes x fits) (
     choose opcode 0x06 _ _ x Q (bare_front 0x06 bytes x Join fits refl tt) (
     choose opcode 0x07 _ _ x Q (bare_front 0x07 bytes x End fits refl tt) (
-    λ e. absurd (let wrong : Err (Field at) ≡ done x = e in cc))))))))
+    choose opcode 0x08 _ _ x Q (bare_front 0x08 bytes x Settle fits refl tt) (
+    λ e. absurd (let wrong : Err (Field at) ≡ done x = e in cc)))))))))
 
 -- ---- testing and jumping
 
@@ -193,6 +194,7 @@ instr_again total at (CommitIn k) rest is = one_again (delay_at total) word_byte
 instr_again total at (CommitAt n) rest is = one_again word_at word_bytes (λ m. m < 65536) CommitAt word_reading n rest is
 instr_again total at Join rest is = refl
 instr_again total at End rest is = refl
+instr_again total at Settle rest is = refl
 instr_again total at (Edits e) rest is = editing_again total at e rest is
 instr_again total at (Test c target) rest is = two_again (contact_at total) byte_of (λ n. n < 16) word_at word_bytes (λ n. n < 65536) Test (byte_reading total 15) word_reading c target rest is.0 is.1
 instr_again total at (Jump target) rest is = one_again word_at word_bytes (λ m. m < 65536) Jump word_reading target rest is
@@ -207,6 +209,7 @@ spelled_by_opcode (CommitIn k) = refl
 spelled_by_opcode (CommitAt n) = refl
 spelled_by_opcode Join = refl
 spelled_by_opcode End = refl
+spelled_by_opcode Settle = refl
 spelled_by_opcode (Edits (AddSub s)) = refl
 spelled_by_opcode (Edits (DropSub id)) = refl
 spelled_by_opcode (Edits (MoveSub id start)) = refl

@@ -1,3 +1,5 @@
+pub mod Faults
+pub mod FileFaults
 pub mod Flags
 pub mod Machine
 pub mod Parts

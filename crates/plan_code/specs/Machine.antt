@@ -1,13 +1,16 @@
 -- The machine that carries out instructions: its state, what each instruction makes of it, and what each
 -- needs so as not to trap.
-use Rattle.std.specs.Prelude.{◌≡◌, ◌≢◌, ℕ, ◌+◌, ◌-◌, ◌%◌, ◌<◌, ◌≤◌, if◌then◌else◌, nat_lt, List, Option, Some, None, IsSome, slice_index, slice_set}
+use Rattle.std.specs.Prelude.{◌≡◌, ◌≢◌, ℕ, zero, suc, ◌+◌, ◌-◌, ◌%◌, ◌<◌, ◌≤◌, if◌then◌else◌, nat_lt, List, length, Option, Some, None, IsSome, slice_index, slice_set}
 use Rattle.mux_config.specs.Configuration.{Configuration}
 use Rattle.mux_config.specs.Edits.{changed, edit_fault}
 use Rattle.mux_config.specs.Sound.{IsSound}
 use Rattle.mux_config.specs.declared.edit.Edit.{Edit}
+use Rattle.fib_codec.specs.Modes.{count_step}
+use Rattle.fib_codec.specs.declared.modes.Mode.{Mode}
+use Rattle.plan_code.specs.declared.limits.TheConstants.{COUNTS}
 use Rattle.plan_code.specs.declared.plan.Plan.{Plan}
 use Rattle.plan_code.specs.declared.instr.Instr.{Instr}
-use Rattle.plan_code.specs.declared.instr.Instr.TheVariants.{Wait, Until, WaitContact, CommitIn, CommitAt, Join, End, Edit as Edits, Test, Jump, Set, Loop}
+use Rattle.plan_code.specs.declared.instr.Instr.TheVariants.{Wait, Until, WaitContact, CommitIn, CommitAt, Join, Settle, End, Edit as Edits, Test, Jump, Set, Loop}
 use Rattle.plan_code.specs.declared.hold.Hold.{Hold}
 use Rattle.plan_code.specs.declared.hold.Hold.TheVariants.{Waits, WaitsDay, WaitsContact, WaitsSwap, Ended}
 use Rattle.plan_code.specs.declared.flags.Contacts.{Contacts}
@@ -36,13 +39,14 @@ pub record State : Type 0 where
 
 -- ---- when a swap falls
 
--- the first frames from `least` on, counted from one of this CIF count, whose count is a multiple of four
-abbrev pub left_in : (count least : ℕ) → ℕ
-left_in count least = least + (3 - (count + least + 3) % 4)
+-- the frames from one of this CIF count, `least` of them or more, to the first whose count is a multiple of
+-- the step
+abbrev pub left_in : (step count least : ℕ) → ℕ
+left_in step count least = least + (step - 1 - (count + least + (step - 1)) % step)
 
--- the first frames from `least` on whose count is `at`
+-- the frames from one of this CIF count, `least` of them or more, to the first whose count is `at`
 abbrev pub left_at : (count least at : ℕ) → ℕ
-left_at count least at = least + (at + 5000 - (count + least) % 5000) % 5000
+left_at count least at = least + (at + COUNTS - (count + least) % COUNTS) % COUNTS
 
 -- r is the least number from `least` on with the property
 pub record IsLeastFrom (least : ℕ) (P : ℕ → Type 0) (r : ℕ) : Type 0 where
@@ -51,33 +55,44 @@ pub record IsLeastFrom (least : ℕ) (P : ℕ → Type 0) (r : ℕ) : Type 0 whe
   pub first : (q : ℕ) → least ≤ q → P q → r ≤ q
 
 abbrev pub SwapsInTime : Type 0
-SwapsInTime = (count least : ℕ) → IsLeastFrom least (λ r. (count + r) % 4 ≡ 0) (left_in count least)
+SwapsInTime =
+    (mode : Mode) (count least : ℕ)
+    → IsLeastFrom least (λ r. (count + r) % count_step mode ≡ 0) (left_in (count_step mode) count least)
 
 abbrev pub SwapsAtCount : Type 0
-SwapsAtCount = (count least at : ℕ) → at < 5000 → IsLeastFrom least (λ r. (count + r) % 5000 ≡ at) (left_at count least at)
+SwapsAtCount =
+    (count least at : ℕ) → at < COUNTS
+    → IsLeastFrom least (λ r. (count + r) % COUNTS ≡ at) (left_at count least at)
 
 -- ---- what an instruction does
 
-abbrev pub goes_on : State → State
-goes_on s = record s { pc = s.pc + 1 }
+-- the next instruction runs at once
+abbrev pub advance : State → State
+advance s = record s { pc = s.pc + 1 }
 
--- it suspends, and goes on with the next instruction
-abbrev pub suspended : Hold → State → State
-suspended hold s = record s { hold = hold; pc = s.pc + 1 }
+-- the next instruction runs when the hold has ended
+abbrev pub suspend : Hold → State → State
+suspend hold s = record s { hold = hold; pc = s.pc + 1 }
 
-abbrev pub committed : ℕ → State → State
-committed left s = record s { left = Some left; pc = s.pc + 1 }
+abbrev pub commit : ℕ → State → State
+commit left s = record s { left = Some left; pc = s.pc + 1 }
 
-abbrev pub counter_at : State → ℕ → ℕ
-counter_at s r = slice_index s.counters r
+-- a pending swap is waited for
+abbrev pub settle : Option ℕ → State → State
+settle None s = advance s
+settle (Some left) s = suspend WaitsSwap s
+
+abbrev pub counter_of : State → ℕ → ℕ
+counter_of s r = slice_index s.counters r
 
 abbrev pub effect : Plan → Instr → State → State
-effect plan (Wait n) s = suspended (Waits n) s
-effect plan (Until t) s = suspended (WaitsDay t) s
-effect plan (WaitContact c closed) s = suspended (WaitsContact c closed) s
-effect plan (CommitIn k) s = committed (left_in s.count k) s
-effect plan (CommitAt n) s = committed (left_at s.count plan.notice n) s
-effect plan Join s = suspended WaitsSwap s
+effect plan (Wait n) s = suspend (Waits n) s
+effect plan (Until t) s = suspend (WaitsDay t) s
+effect plan (WaitContact c closed) s = suspend (WaitsContact c closed) s
+effect plan (CommitIn k) s = commit (left_in (count_step plan.mode) s.count k) s
+effect plan (CommitAt n) s = commit (left_at s.count plan.notice n) s
+effect plan Join s = suspend WaitsSwap s
+effect plan Settle s = settle s.left s
 effect plan End s = record s { hold = Ended }
 effect plan (Edits e) s = record s { next = changed e s.next; pc = s.pc + 1 }
 effect plan (Test c target) s = record s { pc = if is_closed s.contacts c then s.pc + 1 else target }
@@ -85,8 +100,8 @@ effect plan (Jump target) s = record s { pc = target }
 effect plan (Set r n) s = record s { counters = slice_set s.counters r n; pc = s.pc + 1 }
 effect plan (Loop r target) s =
     record s {
-      counters = slice_set s.counters r (counter_at s r - 1);
-      pc = if nat_lt 1 (counter_at s r) then target else s.pc + 1;
+      counters = slice_set s.counters r (counter_of s r - 1);
+      pc = if nat_lt 1 (counter_of s r) then target else s.pc + 1;
     }
 
 -- ---- what an instruction needs so as not to trap
@@ -112,19 +127,20 @@ abbrev pub IsNoticed : Plan → ℕ → Type 0
 IsNoticed plan k = plan.notice ≤ k
 
 -- a CIF count on which a swap can fall
-abbrev pub IsSwapCount : ℕ → Type 0
-IsSwapCount n = (n % 4 ≡ 0) × (n < 5000)
+abbrev pub IsSwapCount : Mode → ℕ → Type 0
+IsSwapCount mode n = (n % count_step mode ≡ 0) × (n < COUNTS)
 
 abbrev pub IsCounterSet : State → ℕ → Type 0
-IsCounterSet s r = 1 ≤ counter_at s r
+IsCounterSet s r = 1 ≤ counter_of s r
 
 abbrev pub IsAllowed : Plan → Instr → State → Type 0
 IsAllowed plan (Wait n) s = Unit {0}
-IsAllowed plan (Until t) s = IsIdle s
-IsAllowed plan (WaitContact c closed) s = IsIdle s
+IsAllowed plan (Until t) s = Unit {0}
+IsAllowed plan (WaitContact c closed) s = Unit {0}
 IsAllowed plan (CommitIn k) s = IsReady s × IsNoticed plan k
-IsAllowed plan (CommitAt n) s = IsReady s × IsSwapCount n
+IsAllowed plan (CommitAt n) s = IsReady s × IsSwapCount plan.mode n
 IsAllowed plan Join s = IsPending s
+IsAllowed plan Settle s = Unit {0}
 IsAllowed plan End s = Unit {0}
 IsAllowed plan (Edits e) s = IsIdle s × HasNoFault e s.next
 IsAllowed plan (Test c target) s = Unit {0}
@@ -145,3 +161,31 @@ effect_of plan (Some i) s = effect plan i s
 
 abbrev pub step : Program → State → State
 step p s = effect_of p.plan (instr_at p s.pc) s
+
+-- ---- what settling and loops come to
+
+-- settling does nothing where no swap is pending, and joins one that is
+pub record Settles (plan : Plan) (s : State) : Type 0 where
+  pub idle : IsIdle s → effect plan Settle s ≡ advance s
+  pub pending : IsPending s → effect plan Settle s ≡ effect plan Join s
+
+abbrev pub AlwaysSettles : Type 0
+AlwaysSettles = (plan : Plan) (s : State) → Settles plan s
+
+-- the machine has come to a loop this many times, and has done nothing else
+abbrev pub looped : Plan → (r target : ℕ) → (times : ℕ) → State → State
+looped plan r target zero s = s
+looped plan r target (suc times) s = effect plan (Loop r target) (looped plan r target times s)
+
+-- where a counter was set to n, its loop jumps n - 1 times; the next time it leaves the counter unset, and the
+-- instruction after it follows
+pub record LoopsAsSet (plan : Plan) (r target n : ℕ) (s : State) : Type 0 where
+  pub jumps : (k : ℕ) → k + 1 < n → (looped plan r target (k + 1) s).pc ≡ target
+  pub ends : (looped plan r target n s).pc ≡ (looped plan r target (n - 1) s).pc + 1
+  pub set : (k : ℕ) → k < n → IsCounterSet (looped plan r target k s) r
+  pub unset : counter_of (looped plan r target n s) r ≡ 0
+
+abbrev pub LoopsRun : Type 0
+LoopsRun =
+    (plan : Plan) (r target n : ℕ) (s : State) → r < length s.counters → 1 ≤ n
+    → LoopsAsSet plan r target n (effect plan (Set r n) s)

@@ -1,6 +1,6 @@
 -- Reading a label, and a line with its instruction, from left to right, with the first fault that is met: a
 -- field whose bytes are missing, or one that is out of its range.
-use Rattle.std.specs.Prelude.{ℕ, zero, suc, ◌-◌, ◌==◌, nat_lt, if◌then◌else◌, Bool, true, false, List, Option, Some, None, Ok, Err}
+use Rattle.std.specs.Prelude.{ℕ, zero, suc, ◌-◌, ◌==◌, nat_lt, if◌then◌else◌, List, Ok, Err}
 use Rattle.std.specs.Int.{w16, w32}
 use Rattle.mux_config.specs.Reading.{Reads, ◌>>=◌, place, byte_at, number_at, judged, byte_within, word_within, flag_at, protection_at, sid_at, component_at}
 use Rattle.mux_config.specs.declared.record.RecordFault.TheVariants.{Field}
@@ -12,34 +12,41 @@ use Rattle.mux_config.specs.declared.edit.Edit.{Edit}
 use Rattle.mux_config.specs.declared.edit.Edit.TheVariants.{AddSub, DropSub, MoveSub, RateSub, AddService, DropService, AddComponent, DropComponent, AddPacket, DropPacket}
 use Rattle.plan_code.specs.declared.flags.Counters.{Counters}
 use Rattle.plan_code.specs.declared.label.Label.{Label}
+use Rattle.plan_code.specs.declared.label.Swap.{Swap}
+use Rattle.plan_code.specs.declared.label.Swap.TheVariants.{Idle, Within, Perhaps}
 use Rattle.plan_code.specs.declared.instr.Instr.{Instr}
-use Rattle.plan_code.specs.declared.instr.Instr.TheVariants.{Wait, Until, WaitContact, CommitIn, CommitAt, Join, End, Edit as Edits, Test, Jump, Set, Loop}
+use Rattle.plan_code.specs.declared.instr.Instr.TheVariants.{Wait, Until, WaitContact, CommitIn, CommitAt, Join, Settle, End, Edit as Edits, Test, Jump, Set, Loop}
 use Rattle.plan_code.specs.declared.instr.Line.{Line}
 
 -- ---- labels
 
-abbrev pub bounds_of : (total : ℕ) → Bool → List ℕ → Reads (Option (ℕ × ℕ))
-bounds_of total false bytes = do
+-- the bounds of a swap, by its kind
+abbrev pub bounds_of : (total kind : ℕ) → List ℕ → Reads Swap
+bounds_of total zero bytes = do
   low ← word_within total 0 0 bytes
   high ← word_within total 0 0 low.1
-  Ok (None, high.1)
-bounds_of total true bytes = do
+  Ok (Idle, high.1)
+bounds_of total (suc zero) bytes = do
   low ← word_within total 1 65535 bytes
   high ← word_within total low.0 65535 low.1
-  Ok (Some (low.0, high.0), high.1)
+  Ok (Within low.0 high.0, high.1)
+bounds_of total (suc (suc more)) bytes = do
+  low ← word_within total 0 0 bytes
+  high ← word_within total 1 65535 low.1
+  Ok (Perhaps high.0, high.1)
 
-unfoldable pub pending_at : (total : ℕ) → List ℕ → Reads (Option (ℕ × ℕ))
-pending_at total bytes = do
-  pending ← flag_at total bytes
-  bounds_of total pending.0 pending.1
+unfoldable pub swap_at : (total : ℕ) → List ℕ → Reads Swap
+swap_at total bytes = do
+  kind ← byte_within total 0 2 bytes
+  bounds_of total kind.0 kind.1
 
--- a label at `low` or later, where the table has so many configurations
+-- a label at `low` or later, where the table has this many configurations
 unfoldable pub label_at : (total count low : ℕ) → List ℕ → Reads Label
 label_at total count low bytes = do
   pc ← word_within total low 65535 bytes
   cur ← word_within total 0 (count - 1) pc.1
   next ← word_within total 0 (count - 1) cur.1
-  pending ← pending_at total next.1
+  pending ← swap_at total next.1
   counters ← byte_at pending.1
   cost ← byte_within total 1 255 counters.1
   let set : Counters = record { 0 = counters.0 } in
@@ -247,6 +254,7 @@ timing_of total at opcode bytes =
     else if opcode == 0x05 then commit_at_at bytes
     else if opcode == 0x06 then Ok (Join, bytes)
     else if opcode == 0x07 then Ok (End, bytes)
+    else if opcode == 0x08 then Ok (Settle, bytes)
     else Err (Field at)
 
 unfoldable pub instr_of : (total at opcode : ℕ) → List ℕ → Reads Instr

@@ -1,6 +1,6 @@
 -- What a plan code is: a plan, a table of configurations, a table of labels and instructions, with every field
 -- within its limits.
-use Rattle.std.specs.Prelude.{ℕ, ◌<◌, ◌≤◌, ◌==◌, List, length, Option, Some, None, find, slice_get, option_map}
+use Rattle.std.specs.Prelude.{ℕ, ◌<◌, ◌≤◌, ◌==◌, List, length, Option, find, slice_get, option_map}
 use Rattle.mux_config.specs.Configuration.{Configuration, IsConfiguration, Each, IsAscending, IsSid, IsComponent}
 use Rattle.mux_config.specs.declared.parts.Sub.{Sub}
 use Rattle.mux_config.specs.declared.parts.Carrier.{Carrier}
@@ -8,10 +8,13 @@ use Rattle.mux_config.specs.declared.parts.Carrier.TheVariants.{Sub as BySub, Pa
 use Rattle.mux_config.specs.declared.parts.Packet.{Packet}
 use Rattle.mux_config.specs.declared.edit.Edit.{Edit}
 use Rattle.mux_config.specs.declared.edit.Edit.TheVariants.{AddSub, DropSub, MoveSub, RateSub, AddService, DropService, AddComponent, DropComponent, AddPacket, DropPacket}
+use Rattle.plan_code.specs.declared.limits.TheConstants.{MOST_CONFIGURATIONS, MOST_LABELS, MOST_INSTRUCTIONS, LONGEST_PERIOD, SHORTEST_NOTICE, LONGEST_NOTICE, LONGEST_DELAY, CONTACTS, COUNTERS, FRAMES_A_DAY}
 use Rattle.plan_code.specs.declared.plan.Plan.{Plan}
 use Rattle.plan_code.specs.declared.label.Label.{Label}
+use Rattle.plan_code.specs.declared.label.Swap.{Swap}
+use Rattle.plan_code.specs.declared.label.Swap.TheVariants.{Idle, Within, Perhaps}
 use Rattle.plan_code.specs.declared.instr.Instr.{Instr}
-use Rattle.plan_code.specs.declared.instr.Instr.TheVariants.{Wait, Until, WaitContact, CommitIn, CommitAt, Join, End, Edit as Edits, Test, Jump, Set, Loop}
+use Rattle.plan_code.specs.declared.instr.Instr.TheVariants.{Wait, Until, WaitContact, CommitIn, CommitAt, Join, Settle, End, Edit as Edits, Test, Jump, Set, Loop}
 use Rattle.plan_code.specs.declared.instr.Line.{Line}
 
 pub record Program : Type 0 where
@@ -36,18 +39,19 @@ line_at p pc = option_map (λ l. l.number) (slice_get p.lines pc)
 pub record IsPlan (p : Plan) : Type 0 where
   pub ensemble : p.eid < 65536
   pub period_from : 1 ≤ p.period
-  pub period_to : p.period ≤ 60
-  pub notice_from : 12 ≤ p.notice
-  pub notice_to : p.notice ≤ 248
+  pub period_to : p.period ≤ LONGEST_PERIOD
+  pub notice_from : SHORTEST_NOTICE ≤ p.notice
+  pub notice_to : p.notice ≤ LONGEST_NOTICE
   pub budget_from : 1 ≤ p.budget
   pub budget_to : p.budget ≤ 255
 
--- the least and the greatest number of frames until a swap, where one is pending
-abbrev pub AreBounds : Option (ℕ × ℕ) → Type 0
-AreBounds None = Unit {0}
-AreBounds (Some b) = (1 ≤ b.0) × (b.0 ≤ b.1) × (b.1 < 65536)
+-- the least and the greatest number of frames until a swap that is pending, or perhaps is
+abbrev pub AreBounds : Swap → Type 0
+AreBounds Idle = Unit {0}
+AreBounds (Within lo hi) = (1 ≤ lo) × (lo ≤ hi) × (hi < 65536)
+AreBounds (Perhaps hi) = (1 ≤ hi) × (hi < 65536)
 
--- a label, where the table has so many configurations
+-- a label, where the table has this many configurations
 pub record IsLabel (count : ℕ) (l : Label) : Type 0 where
   pub place : l.pc < 65536
   pub current : l.cur < count
@@ -91,17 +95,18 @@ IsEdit (DropPacket scid) = scid < 4096
 
 abbrev pub IsInstr : Instr → Type 0
 IsInstr (Wait n) = (1 ≤ n) × (n < 65536)
-IsInstr (Until t) = t < 3600000
-IsInstr (WaitContact c closed) = c < 16
-IsInstr (CommitIn k) = (1 ≤ k) × (k ≤ 60000)
+IsInstr (Until t) = t < FRAMES_A_DAY
+IsInstr (WaitContact c closed) = c < CONTACTS
+IsInstr (CommitIn k) = (1 ≤ k) × (k ≤ LONGEST_DELAY)
 IsInstr (CommitAt n) = n < 65536
 IsInstr Join = Unit {0}
+IsInstr Settle = Unit {0}
 IsInstr End = Unit {0}
 IsInstr (Edits e) = IsEdit e
-IsInstr (Test c target) = (c < 16) × (target < 65536)
+IsInstr (Test c target) = (c < CONTACTS) × (target < 65536)
 IsInstr (Jump target) = target < 65536
-IsInstr (Set r n) = (r < 8) × (1 ≤ n) × (n < 65536)
-IsInstr (Loop r target) = (r < 8) × (target < 65536)
+IsInstr (Set r n) = (r < COUNTERS) × (1 ≤ n) × (n < 65536)
+IsInstr (Loop r target) = (r < COUNTERS) × (target < 65536)
 
 pub record IsLine (l : Line) : Type 0 where
   pub numbered : l.number < 65536
@@ -110,12 +115,12 @@ pub record IsLine (l : Line) : Type 0 where
 pub record IsProgram (p : Program) : Type 0 where
   pub planned : IsPlan p.plan
   pub configurations_from : 1 ≤ length p.configurations
-  pub configurations_to : length p.configurations ≤ 256
+  pub configurations_to : length p.configurations ≤ MOST_CONFIGURATIONS
   pub configurations_formed : Each IsConfiguration p.configurations
   pub labels_from : 1 ≤ length p.labels
-  pub labels_to : length p.labels ≤ 1024
+  pub labels_to : length p.labels ≤ MOST_LABELS
   pub labels_formed : Each (IsLabel (length p.configurations)) p.labels
   pub labels_ascend : IsAscending label_key p.labels
   pub lines_from : 1 ≤ length p.lines
-  pub lines_to : length p.lines ≤ 4096
+  pub lines_to : length p.lines ≤ MOST_INSTRUCTIONS
   pub lines_formed : Each IsLine p.lines

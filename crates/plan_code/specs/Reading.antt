@@ -1,6 +1,8 @@
 -- Reading a code file from left to right, with the first fault that is met.
 use Rattle.std.specs.Prelude.{◌≡◌, ℕ, zero, suc, ◌+◌, ◌==◌, nat_lt, if◌then◌else◌, List, [], ◌∷◌, ◌++◌, length, Bool, not, Result, Ok, Err}
 use Rattle.std.specs.Int.{w16, w32}
+use Rattle.fib_codec.specs.declared.modes.Mode.{Mode}
+use Rattle.fib_codec.specs.declared.modes.Mode.TheVariants.{I, II, III, IV}
 use Rattle.mux_config.specs.Configuration.{Configuration}
 use Rattle.mux_config.specs.Reading.{Unread, place, byte_at, number_at, byte_within, config_at, members_at}
 use Rattle.mux_config.specs.declared.record.RecordFault.{RecordFault}
@@ -11,7 +13,7 @@ use Rattle.plan_code.specs.declared.instr.Line.{Line}
 use Rattle.plan_code.specs.declared.label.Label.{Label}
 use Rattle.plan_code.specs.declared.plan.Plan.{Plan}
 use Rattle.plan_code.specs.Program.{Program, label_key}
-use Rattle.plan_code.specs.Spelling.{magic, version}
+use Rattle.plan_code.specs.Spelling.{magic}
 use Rattle.plan_code.specs.Parts.{label_at, line_at}
 
 -- what is read, and the bytes after it; or the first fault
@@ -67,19 +69,30 @@ magic_at bytes = do
   known ← refuse (not (letters.0 == magic)) Magic
   Ok letters
 
-abbrev pub version_at : List ℕ → Parses ℕ
-version_at bytes = do
-  number ← in_file (byte_at bytes)
-  known ← refuse (not (number.0 == version)) Version
-  Ok number
+-- modes II to IV by their numbers
+abbrev pub mode_of : ℕ → Mode
+mode_of number = if number == 2 then II else if number == 3 then III else IV
+
+-- the mode of a file of this version
+abbrev pub mode_in : (total version : ℕ) → List ℕ → Parses Mode
+mode_in total version bytes =
+    if version == 1 then Ok (I, bytes)
+    else if version == 2 then (in_file (byte_within total 2 4 bytes) >>= λ number. Ok (mode_of number.0, number.1))
+    else Err Version
+
+unfoldable pub mode_at : (total : ℕ) → List ℕ → Parses Mode
+mode_at total bytes = do
+  version ← in_file (byte_at bytes)
+  mode_in total version.0 version.1
 
 unfoldable pub plan_at : (total : ℕ) → List ℕ → Parses Plan
 plan_at total bytes = do
-  eid ← in_file (number_at w16 bytes)
+  mode ← mode_at total bytes
+  eid ← in_file (number_at w16 mode.1)
   period ← in_file (byte_within total 1 60 eid.1)
   notice ← in_file (byte_within total 12 248 period.1)
   budget ← in_file (byte_within total 1 255 notice.1)
-  Ok (record { eid = eid.0; period = period.0; notice = notice.0; budget = budget.0 }, budget.1)
+  Ok (record { eid = eid.0; mode = mode.0; period = period.0; notice = notice.0; budget = budget.0 }, budget.1)
 
 -- how many of a kind follow: at least one, at most `limit`
 abbrev pub count_at : (total limit : ℕ) → List ℕ → Parses ℕ
@@ -99,8 +112,7 @@ pub record Header : Type 0 where
 unfoldable pub header_at : (total : ℕ) → List ℕ → Parses Header
 header_at total bytes = do
   letters ← magic_at bytes
-  number ← version_at letters.1
-  plan ← plan_at total number.1
+  plan ← plan_at total letters.1
   configurations ← count_at total 256 plan.1
   labels ← count_at total 1024 configurations.1
   lines ← count_at total 4096 labels.1

@@ -1,5 +1,5 @@
 -- The one file of a plan code. A number of two or four bytes is big-endian.
-use Rattle.std.specs.Prelude.{ℕ, List, [], ◌∷◌, ◌++◌, length, Option, Some, None}
+use Rattle.std.specs.Prelude.{ℕ, List, [], ◌∷◌, ◌++◌, length}
 use Rattle.std.specs.Int.{w32, to_be_bytes}
 use Rattle.std.specs.List.{flat_map}
 use Rattle.mux_config.specs.Spelling.{word_bytes, flag_byte, sub_bytes, sid_bytes, component_bytes, packet_bytes, config_bytes}
@@ -7,37 +7,46 @@ use Rattle.mux_config.specs.declared.parts.Carrier.{Carrier}
 use Rattle.mux_config.specs.declared.parts.Carrier.TheVariants.{Sub as BySub, Packet as ByPacket}
 use Rattle.mux_config.specs.declared.edit.Edit.{Edit}
 use Rattle.mux_config.specs.declared.edit.Edit.TheVariants.{AddSub, DropSub, MoveSub, RateSub, AddService, DropService, AddComponent, DropComponent, AddPacket, DropPacket}
+use Rattle.fib_codec.specs.declared.modes.Mode.{Mode}
+use Rattle.fib_codec.specs.declared.modes.Mode.TheVariants.{I, II, III, IV}
 use Rattle.plan_code.specs.declared.plan.Plan.{Plan}
 use Rattle.plan_code.specs.declared.label.Label.{Label}
+use Rattle.plan_code.specs.declared.label.Swap.{Swap}
+use Rattle.plan_code.specs.declared.label.Swap.TheVariants.{Idle, Within, Perhaps}
 use Rattle.plan_code.specs.declared.instr.Instr.{Instr}
-use Rattle.plan_code.specs.declared.instr.Instr.TheVariants.{Wait, Until, WaitContact, CommitIn, CommitAt, Join, End, Edit as Edits, Test, Jump, Set, Loop}
+use Rattle.plan_code.specs.declared.instr.Instr.TheVariants.{Wait, Until, WaitContact, CommitIn, CommitAt, Join, Settle, End, Edit as Edits, Test, Jump, Set, Loop}
 use Rattle.plan_code.specs.declared.instr.Line.{Line}
 use Rattle.plan_code.specs.Program.{Program}
 
--- the letters DABP as a number of four bytes, and the version of the format
+-- the letters DABP as a number of four bytes
 abbrev pub magic : ℕ
 magic = 0x44414250
 
-abbrev pub version : ℕ
-version = 1
+-- the version of the format, which is 1 in mode I; in the others it is 2, and the mode's number follows
+abbrev pub mode_bytes : Mode → List ℕ
+mode_bytes I = 1 ∷ []
+mode_bytes II = 2 ∷ 2 ∷ []
+mode_bytes III = 2 ∷ 3 ∷ []
+mode_bytes IV = 2 ∷ 4 ∷ []
 
 abbrev pub plan_bytes : Plan → List ℕ
-plan_bytes p = word_bytes p.eid ++ p.period ∷ p.notice ∷ p.budget ∷ []
+plan_bytes p = mode_bytes p.mode ++ word_bytes p.eid ++ p.period ∷ p.notice ∷ p.budget ∷ []
 
 -- with the numbers of configurations, labels and instructions
 abbrev pub header_bytes : Plan → (configurations labels lines : ℕ) → List ℕ
 header_bytes plan configurations labels lines =
-    to_be_bytes w32 magic ++ version ∷ plan_bytes plan
+    to_be_bytes w32 magic ++ plan_bytes plan
     ++ word_bytes configurations ++ word_bytes labels ++ word_bytes lines
 
--- a flag and the bounds of the swap that is pending; zeros where none is
-abbrev pub pending_bytes : Option (ℕ × ℕ) → List ℕ
-pending_bytes None = 0 ∷ word_bytes 0 ++ word_bytes 0
-pending_bytes (Some b) = 1 ∷ word_bytes b.0 ++ word_bytes b.1
+-- the kind, and the least and the greatest number of frames until the swap; zeros where there is none
+abbrev pub swap_bytes : Swap → List ℕ
+swap_bytes Idle = 0 ∷ word_bytes 0 ++ word_bytes 0
+swap_bytes (Within lo hi) = 1 ∷ word_bytes lo ++ word_bytes hi
+swap_bytes (Perhaps hi) = 2 ∷ word_bytes 0 ++ word_bytes hi
 
 abbrev pub label_bytes : Label → List ℕ
 label_bytes l =
-    word_bytes l.pc ++ word_bytes l.cur ++ word_bytes l.next ++ pending_bytes l.pending
+    word_bytes l.pc ++ word_bytes l.cur ++ word_bytes l.next ++ swap_bytes l.pending
     ++ l.counters.0 ∷ l.cost ∷ []
 
 abbrev pub carrier_bytes : Carrier → List ℕ
@@ -65,6 +74,7 @@ instr_bytes (CommitIn k) = 0x04 ∷ word_bytes k
 instr_bytes (CommitAt n) = 0x05 ∷ word_bytes n
 instr_bytes Join = 0x06 ∷ []
 instr_bytes End = 0x07 ∷ []
+instr_bytes Settle = 0x08 ∷ []
 instr_bytes (Edits e) = edit_bytes e
 instr_bytes (Test c target) = 0x20 ∷ c ∷ word_bytes target
 instr_bytes (Jump target) = 0x21 ∷ word_bytes target

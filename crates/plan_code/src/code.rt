@@ -7,6 +7,7 @@ ghost use Rattle.plan_code.specs.Program.{Program, IsProgram, IsLabel, label_key
 
 use crate::instr::{Instr, Line};
 use crate::label::Label;
+use crate::limits::{MOST_CONFIGURATIONS, MOST_INSTRUCTIONS, MOST_LABELS};
 use crate::plan::Plan;
 use crate::ranges::{configs_in_range, lines_in_range};
 use mux_config::Config;
@@ -27,21 +28,32 @@ impl Model for Code {
 
     ghost Value = { Program };
 
-    ghost view = { λ c. record { plan = c.plan; configurations = c.configs.items; labels = c.labels.items; lines = c.lines.items } };
+    ghost view = { λ c. record {
+      plan = c.plan;
+      configurations = c.configs.items;
+      labels = c.labels.items;
+      lines = c.lines.items;
+    } };
 
-    ghost invariant = { λ c. IsProgram (record { plan = c.plan; configurations = c.configs.items; labels = c.labels.items; lines = c.lines.items }) };
+    ghost invariant = { λ c. IsProgram (record {
+      plan = c.plan;
+      configurations = c.configs.items;
+      labels = c.labels.items;
+      lines = c.lines.items;
+    }) };
 }
 
 /// Whether a table has one member or more, and no more than this.
-fn is_count(len: usize, limit: usize) -> bool
+fn is_count(len: usize, limit: u16) -> bool
     ensures { IsTrue result ↔ ((1 ≤ len) × (len ≤ limit)) }
 {
-    1 <= len && len <= limit
+    1 <= len && len <= usize::from(limit)
 }
 
 /// Whether each label is within its limits, and their places ascend.
 fn are_labels(labels: &[Label], configs: usize) -> bool
-    ensures { IsTrue result ↔ (Each (IsLabel configs) labels.now × IsAscending label_key labels.now) }
+    ensures { IsTrue result
+        ↔ (Each (IsLabel configs) labels.now × IsAscending label_key labels.now) }
 {
     let mut low = 0u32;
     for label in labels {
@@ -87,19 +99,29 @@ impl Code {
         labels: Vec<Label>,
         lines: Vec<Line>,
     ) -> Option<Code>
-        ensures within { IsSome result ↔ IsProgram (record { plan = plan; configurations = configs.items; labels = labels.items; lines = lines.items }) }
-        ensures value { IfSome result (λ c. c ≡ record { plan = plan; configurations = configs.items; labels = labels.items; lines = lines.items }) }
+        ensures within { IsSome result ↔ IsProgram (record {
+          plan = plan;
+          configurations = configs.items;
+          labels = labels.items;
+          lines = lines.items;
+        }) }
+        ensures value { IfSome result (λ c. c ≡ record {
+          plan = plan;
+          configurations = configs.items;
+          labels = labels.items;
+          lines = lines.items;
+        }) }
     {
         if !plan.is_within_limits() {
             return None;
         }
-        if !is_count(configs.len(), 256) {
+        if !is_count(configs.len(), MOST_CONFIGURATIONS) {
             return None;
         }
-        if !is_count(labels.len(), 1024) {
+        if !is_count(labels.len(), MOST_LABELS) {
             return None;
         }
-        if !is_count(lines.len(), 4096) {
+        if !is_count(lines.len(), MOST_INSTRUCTIONS) {
             return None;
         }
         if !are_labels(&labels, configs.len()) {
@@ -122,8 +144,18 @@ impl Code {
         labels: Vec<Label>,
         lines: Vec<Line>,
     ) -> Code
-        requires { IsProgram (record { plan = plan; configurations = configs.items; labels = labels.items; lines = lines.items }) }
-        ensures { result ≡ record { plan = plan; configurations = configs.items; labels = labels.items; lines = lines.items } }
+        requires { IsProgram (record {
+          plan = plan;
+          configurations = configs.items;
+          labels = labels.items;
+          lines = lines.items;
+        }) }
+        ensures { result ≡ record {
+          plan = plan;
+          configurations = configs.items;
+          labels = labels.items;
+          lines = lines.items;
+        } }
     {
         Code {
             plan,

@@ -3,23 +3,22 @@
 ghost use Rattle.std.specs.Prelude.{◌≡◌, ◌≤◌, ◌<◌, ◌^◌, [], length, IfOk, Ok, Err};
 ghost use Rattle.plan_code.specs.Program.{Program, IsProgram};
 ghost use Rattle.plan_code.specs.Spelling.{code_bytes};
-ghost use Rattle.plan_code.specs.Reading.{Gives, GivesNext, magic_at, version_at, plan_at, count_at, header_at, config_in, line_in, items_at, labels_in, code_of};
+ghost use Rattle.plan_code.specs.Reading.{Gives, GivesNext, magic_at, mode_at, plan_at, count_at, header_at, config_in, line_in, items_at, labels_in, code_of};
 
 use crate::code::Code;
 use crate::fault::{CodeFault, fault_from};
 use crate::instr::Line;
 use crate::label::Label;
+use crate::limits::{MOST_CONFIGURATIONS, MOST_INSTRUCTIONS, MOST_LABELS};
 use crate::plan::Plan;
 use crate::read_label::label;
 use crate::read_line::line;
+use fib_codec::Mode;
 use mux_config::{Config, Reader, read_config};
 use std::alloc::Global;
 
 /// The letters DABP.
 pub(crate) const MAGIC: u32 = 0x4441_4250;
-
-/// The version of the format.
-pub(crate) const VERSION: u8 = 1;
 
 fn magic(reader: &mut Reader) -> Result<u32, CodeFault>
     ensures read { GivesNext (λ n. n) result reader.new (magic_at reader.old.rest) }
@@ -32,15 +31,21 @@ fn magic(reader: &mut Reader) -> Result<u32, CodeFault>
     Ok(letters)
 }
 
-fn version(reader: &mut Reader) -> Result<u8, CodeFault>
-    ensures read { GivesNext (λ n. n) result reader.new (version_at reader.old.rest) }
+/// Reads the version, and in version 2 the mode; a file of version 1 is one of mode I.
+#[tactic(auto, unfolding(crate::specs::Reading::mode_at))]
+fn mode(reader: &mut Reader) -> Result<Mode, CodeFault>
+    ensures read { GivesNext (λ m. m) result reader.new (mode_at reader.old.total reader.old.rest) }
     ensures total { reader.new.total ≡ reader.old.total }
 {
-    let number = reader.byte()?;
-    if number != VERSION {
-        return Err(CodeFault::Version);
+    match reader.byte()? {
+        1 => Ok(Mode::I),
+        2 => match reader.byte_within(2, 4)? {
+            2 => Ok(Mode::II),
+            3 => Ok(Mode::III),
+            _ => Ok(Mode::IV),
+        },
+        _ => Err(CodeFault::Version),
     }
-    Ok(number)
 }
 
 #[tactic(auto, unfolding(crate::specs::Reading::plan_at))]
@@ -48,12 +53,14 @@ fn plan(reader: &mut Reader) -> Result<Plan, CodeFault>
     ensures read { GivesNext (λ p. p) result reader.new (plan_at reader.old.total reader.old.rest) }
     ensures total { reader.new.total ≡ reader.old.total }
 {
+    let mode = mode(reader)?;
     let eid = reader.word()?;
     let period = reader.byte_within(1, 60)?;
     let notice = reader.byte_within(12, 248)?;
     let budget = reader.byte_within(1, 255)?;
     Ok(Plan {
         eid,
+        mode,
         period,
         notice,
         budget,
@@ -62,7 +69,8 @@ fn plan(reader: &mut Reader) -> Result<Plan, CodeFault>
 
 /// Reads how many of a kind follow, at most this.
 fn count(reader: &mut Reader, limit: u16) -> Result<u16, CodeFault>
-    ensures read { GivesNext (λ n. n) result reader.new (count_at reader.old.total limit reader.old.rest) }
+    ensures read { GivesNext (λ n. n) result reader.new
+        (count_at reader.old.total limit reader.old.rest) }
     ensures total { reader.new.total ≡ reader.old.total }
     ensures some { IfOk result (λ n. 1 ≤ n) }
 {
@@ -88,16 +96,21 @@ struct Opening {
 
 #[tactic(auto, unfolding(crate::specs::Reading::header_at))]
 fn header(reader: &mut Reader) -> Result<Opening, CodeFault>
-    ensures read { GivesNext (λ h. record { plan = h.plan; configurations = h.configs; labels = h.labels; lines = h.lines }) result reader.new (header_at reader.old.total reader.old.rest) }
+    ensures read { GivesNext (λ h. record {
+      plan = h.plan;
+      configurations = h.configs;
+      labels = h.labels;
+      lines = h.lines;
+    })
+        result reader.new (header_at reader.old.total reader.old.rest) }
     ensures total { reader.new.total ≡ reader.old.total }
     ensures configs { IfOk result (λ h. 1 ≤ h.configs) }
 {
     magic(reader)?;
-    version(reader)?;
     let plan = plan(reader)?;
-    let configs = count(reader, 256)?;
-    let labels = count(reader, 1024)?;
-    let lines = count(reader, 4096)?;
+    let configs = count(reader, MOST_CONFIGURATIONS)?;
+    let labels = count(reader, MOST_LABELS)?;
+    let lines = count(reader, MOST_INSTRUCTIONS)?;
     Ok(Opening {
         plan,
         configs,
@@ -114,7 +127,8 @@ trait Item: Drop {
     ghost item_at: { ℕ → List ℕ → Parses Self };
 
     fn read(reader: &mut Reader) -> Result<Self, CodeFault>
-        ensures read { GivesNext (λ x. x) result reader.new (item_at reader.old.total reader.old.rest) }
+        ensures read { GivesNext (λ x. x) result reader.new
+            (item_at reader.old.total reader.old.rest) }
         ensures total { reader.new.total ≡ reader.old.total };
 }
 
@@ -143,7 +157,8 @@ impl Item for Line {
 
 /// Reads so many items.
 fn items<T: Item>(alloc: Global, reader: &mut Reader, count: u16) -> Result<Vec<T>, CodeFault>
-    ensures read { GivesNext (λ v. v.items) result reader.new (items_at (T.item_at reader.old.total) [] count reader.old.rest) }
+    ensures read { GivesNext (λ v. v.items) result reader.new
+        (items_at (T.item_at reader.old.total) [] count reader.old.rest) }
     ensures total { reader.new.total ≡ reader.old.total }
 {
     let mut items = Vec::new(alloc);
@@ -162,7 +177,8 @@ fn labels(
     count: u16,
 ) -> Result<Vec<Label>, CodeFault>
     requires { 1 ≤ configs }
-    ensures read { GivesNext (λ v. v.items) result reader.new (labels_in reader.old.total configs count reader.old.rest) }
+    ensures read { GivesNext (λ v. v.items) result reader.new
+        (labels_in reader.old.total configs count reader.old.rest) }
     ensures total { reader.new.total ≡ reader.old.total }
 {
     let mut labels = Vec::new(alloc);
@@ -201,7 +217,8 @@ pub fn decode(alloc: Global, bytes: &[u8]) -> Result<Code, CodeFault>
     ensures formed { IfOk result (λ c. IsProgram c) }
     ensures found { IfOk result (λ c. bytes.now ≡ code_bytes c) }
     // The file of a code is read as this code, unless memory runs out.
-    ensures only { (p : Program) → IsProgram p → bytes.now ≡ code_bytes p → Gives (λ c. c) result (Ok p) }
+    ensures only { (p : Program) → IsProgram p → bytes.now ≡ code_bytes p
+        → Gives (λ c. c) result (Ok p) }
     // Which fault it is.
     ensures first_fault { Gives (λ c. c) result (code_of bytes.now) }
 {

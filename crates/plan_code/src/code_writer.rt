@@ -4,40 +4,59 @@ ghost use Rattle.std.specs.Prelude.{◌≡◌, ℕ, ◌++◌, ◌∷◌, [], Lis
 ghost use Rattle.std.specs.List.{flat_map};
 ghost use Rattle.mux_config.specs.Spelling.{sub_bytes, packet_bytes, config_bytes};
 ghost use Rattle.plan_code.specs.Program.{IsProgram};
-ghost use Rattle.plan_code.specs.Spelling.{plan_bytes, header_bytes, pending_bytes, label_bytes, carrier_bytes, edit_bytes, instr_bytes, line_bytes, code_bytes};
+ghost use Rattle.plan_code.specs.Spelling.{mode_bytes, plan_bytes, header_bytes, swap_bytes, label_bytes, carrier_bytes, edit_bytes, instr_bytes, line_bytes, code_bytes};
 ghost use Rattle.plan_code.specs.Reading.{code_of};
 
 use crate::code::Code;
-use crate::code_reader::{MAGIC, VERSION};
+use crate::code_reader::MAGIC;
 use crate::flags::Counters;
 use crate::instr::{Instr, Line};
-use crate::label::Label;
+use crate::label::{Label, Swap};
 use crate::plan::Plan;
+use fib_codec::Mode;
 use mux_config::record_writer::{
     put_component, put_config, put_long, put_protection, put_sid, put_word,
 };
 use mux_config::{Carrier, Config, Edit, NewSub, Packet};
 use std::alloc::{AllocError, Global};
 
+/// Writes the version of the file, and after version 2 the mode's number.
+fn put_mode(out: &mut Vec<u8>, mode: Mode) -> Result<(), AllocError>
+    ensures { OnOk result (out.new.items ≡ out.old.items ++ mode_bytes mode) }
+{
+    match mode {
+        Mode::I => out.extend_from_slice(&[1]),
+        Mode::II => out.extend_from_slice(&[2, 2]),
+        Mode::III => out.extend_from_slice(&[2, 3]),
+        Mode::IV => out.extend_from_slice(&[2, 4]),
+    }
+}
+
 fn put_plan(out: &mut Vec<u8>, plan: Plan) -> Result<(), AllocError>
     ensures { OnOk result (out.new.items ≡ out.old.items ++ plan_bytes plan) }
 {
+    put_mode(out, plan.mode)?;
     put_word(out, plan.eid)?;
     out.extend_from_slice(&[plan.period, plan.notice, plan.budget])
 }
 
-fn put_pending(out: &mut Vec<u8>, pending: Option<(u16, u16)>) -> Result<(), AllocError>
-    ensures { OnOk result (out.new.items ≡ out.old.items ++ pending_bytes pending) }
+fn put_swap(out: &mut Vec<u8>, swap: Swap) -> Result<(), AllocError>
+    ensures { OnOk result (out.new.items ≡ out.old.items ++ swap_bytes swap) }
 {
-    match pending {
-        None => {
+    match swap {
+        Swap::Idle => {
             out.push(0)?;
             put_word(out, 0)?;
             put_word(out, 0)
         }
-        Some((low, high)) => {
+        Swap::Within(low, high) => {
             out.push(1)?;
             put_word(out, low)?;
+            put_word(out, high)
+        }
+        Swap::Perhaps(high) => {
+            out.push(2)?;
+            put_word(out, 0)?;
             put_word(out, high)
         }
     }
@@ -147,6 +166,7 @@ fn put_instr(out: &mut Vec<u8>, instr: Instr) -> Result<(), AllocError>
         }
         Instr::Join => out.extend_from_slice(&[0x06]),
         Instr::End => out.extend_from_slice(&[0x07]),
+        Instr::Settle => out.extend_from_slice(&[0x08]),
         Instr::Edit(edit) => put_edit(out, edit),
         Instr::Test { contact, target } => {
             out.extend_from_slice(&[0x20, contact.get()])?;
@@ -201,7 +221,7 @@ fn put_label(out: &mut Vec<u8>, label: Label) -> Result<(), AllocError>
     put_word(out, label.pc)?;
     put_word(out, label.cur)?;
     put_word(out, label.next)?;
-    put_pending(out, label.pending)?;
+    put_swap(out, label.pending)?;
     let Counters(counters) = label.counters;
     out.extend_from_slice(&[counters, label.cost])
 }
@@ -213,7 +233,6 @@ fn file(alloc: Global, code: &Code) -> Result<Vec<u8>, AllocError>
     let plan = code.plan();
     let mut out = Vec::new(alloc);
     put_long(&mut out, MAGIC)?;
-    out.push(VERSION)?;
     put_plan(&mut out, plan)?;
     put_word(&mut out, code.configs().len() as u16)?;
     put_word(&mut out, code.labels().len() as u16)?;

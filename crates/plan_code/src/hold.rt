@@ -5,7 +5,7 @@ use crate::numbers::{ContactId, DayFrame};
 /// What has to come before the next instruction is carried out.
 #[derive(Clone, Copy, Debug, PartialEq, Eq)]
 pub enum Hold {
-    /// So many frames more; with 0 it waits for nothing, and goes on.
+    /// The machine resumes after this many frames; 0 means running.
     Waits(u16),
     /// A later frame that is this frame of the day.
     WaitsDay(DayFrame),

@@ -3,35 +3,40 @@
 use crate::numbers::{ContactId, CounterId, DayFrame, Delay, Frames, Times};
 use mux_config::Edit;
 
-/// An instruction. There are 21 kinds: eleven here, and one for each of the ten edits. Every operand is
-/// within its range by its type; a target may be any number.
+/// An instruction. There are 22 kinds: twelve here, and one for each of the ten edits. Every operand is
+/// within its range by its type; a target may be any number. An instruction that suspends ends the frame's
+/// instructions.
 #[derive(Clone, Copy, Debug, PartialEq, Eq)]
 pub enum Instr {
-    /// Suspends; goes on so many frames later.
+    /// Suspends; resumes after this many frames.
     Wait(Frames),
-    /// Suspends; goes on in the next frame that is this frame of the day, never in this one.
+    /// Suspends; resumes in the next frame that is this frame of the day, never in this one.
     Until(DayFrame),
-    /// Suspends; goes on in the first later frame in which the contact is closed, or open.
+    /// Suspends; resumes in the first later frame in which the contact is closed, or open.
     WaitContact { contact: ContactId, closed: bool },
-    /// Commits the next configuration: the swap comes so many frames later, or up to three frames after
-    /// that, on a CIF count that is a multiple of four.
+    /// Commits the next configuration: the swap comes after this many frames, or in the first frame after
+    /// that whose CIF count is a multiple of the mode's step.
     CommitIn(Delay),
-    /// Commits the next configuration: the swap comes at this CIF count, after a whole notice.
+    /// Commits the next configuration: the swap comes in the first frame with this CIF count that leaves a
+    /// whole notice before it.
     CommitAt(u16),
-    /// Suspends; goes on in the frame of the swap, after it.
+    /// Suspends; resumes in the frame of the swap, after it.
     Join,
-    /// Suspends for good. Frames go on, and a pending swap is still made.
+    /// Where a swap is pending, suspends, and resumes in the frame of the swap, after it. Else nothing
+    /// happens, and the next instruction runs at once.
+    Settle,
+    /// Suspends for good. Frames are still made, and a pending swap too.
     End,
     /// Edits the next configuration.
     Edit(Edit),
-    /// Goes on at the target if the contact is open.
+    /// Jumps to the target if the contact is open.
     Test { contact: ContactId, target: u16 },
-    /// Goes on at the target.
+    /// Jumps to the target.
     Jump(u16),
     /// Sets a counter.
     Set { counter: CounterId, times: Times },
-    /// Lowers a counter by one, and goes on at the target unless nothing is left of it: then the counter
-    /// is no longer set.
+    /// Lowers a counter by one. Jumps to the target if something is left of it; else the counter is no
+    /// longer set.
     Loop { counter: CounterId, target: u16 },
 }
 

@@ -1,47 +1,64 @@
 //! What a code declares of a place that instructions jump to.
 
 ghost use Rattle.std.specs.Prelude.{◌↔◌, IsTrue};
-ghost use Rattle.plan_code.specs.Program.{AreBounds};
 
 use crate::flags::Counters;
+
+/// What a label declares of the swap from its current configuration to its next one.
+#[derive(Clone, Copy, Debug, PartialEq, Eq)]
+pub enum Swap {
+    /// No swap is pending.
+    Idle,
+    /// A swap is pending, and comes after this many frames at least and at most: 1 or more, and the least
+    /// is not above the greatest.
+    Within(u16, u16),
+    /// A swap is pending and comes after this many frames at most, 1 or more; or it has been made, and the
+    /// label's next configuration is the current one.
+    Perhaps(u16),
+}
+
+impl Swap {
+    ghost use Rattle.plan_code.specs.Program.{AreBounds};
+
+    /// Whether its bounds are within their limits: the least is 1 or more, and not above the greatest.
+    pub fn is_within_limits(&self) -> bool
+        ensures { IsTrue result ↔ AreBounds self.now }
+    {
+        match *self {
+            Swap::Idle => true,
+            Swap::Within(low, high) => 1 <= low && low <= high,
+            Swap::Perhaps(high) => 1 <= high,
+        }
+    }
+}
 
 /// A label: what holds whenever the machine comes to an instruction.
 #[derive(Clone, Copy, Debug, PartialEq, Eq)]
 pub struct Label {
-    /// The place of the instruction.
+    /// The place of the instruction in the code, from 0.
     pub pc: u16,
     /// The current configuration, by its place in the table of configurations.
     pub cur: u16,
     /// The next configuration, by its place in the table.
     pub next: u16,
-    /// Where a swap is pending, the least and the greatest number of frames until it.
-    pub pending: Option<(u16, u16)>,
+    /// Whether a swap is pending, and when it comes.
+    pub pending: Swap,
     /// The counters that are set; others may be set too.
     pub counters: Counters,
     /// How many instructions may still run in this frame at least, 1 to 255 in a code.
     pub cost: u8,
 }
 
-/// Whether these are bounds: the least is 1 or more, and not above the greatest.
-fn are_bounds(pending: Option<(u16, u16)>) -> bool
-    ensures { IsTrue result ↔ AreBounds pending }
-{
-    match pending {
-        None => true,
-        Some((low, high)) => 1 <= low && low <= high,
-    }
-}
-
 impl Label {
     ghost use Rattle.plan_code.specs.Program.{IsLabel};
 
-    /// Whether each field is within its limits, where the table has so many configurations.
+    /// Whether each field is within its limits, where the table has this many configurations.
     pub fn is_within_limits(&self, configs: usize) -> bool
         ensures { IsTrue result ↔ IsLabel configs self.now }
     {
         let has_configs = usize::from(self.cur) < configs && usize::from(self.next) < configs;
         let _pc = self.pc;
         let _counters = self.counters.0;
-        has_configs && are_bounds(self.pending) && 1 <= self.cost
+        has_configs && self.pending.is_within_limits() && 1 <= self.cost
     }
 }

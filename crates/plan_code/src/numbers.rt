@@ -2,6 +2,7 @@
 
 ghost use Rattle.std.specs.Prelude.{◌≡◌, ◌<◌, ◌≤◌, ◌↔◌, IsSome, IfSome};
 
+use crate::limits::{CONTACTS, COUNTERS, FRAMES_A_DAY, LONGEST_DELAY};
 use std::marker::Model;
 
 /// The number of a contact, 0 to 15.
@@ -12,12 +13,13 @@ pub struct ContactId {
 
 impl Model for ContactId {
     ghost use Rattle.std.specs.Prelude.{ℕ, ◌<◌};
+    ghost use Rattle.plan_code.specs.declared.limits.TheConstants.{CONTACTS};
 
     ghost Value = { ℕ };
 
     ghost view = { λ c. c.id };
 
-    ghost invariant = { λ c. c.id < 16 };
+    ghost invariant = { λ c. c.id < CONTACTS };
 
     ghost inverse = { λ n. record { id = n } };
 }
@@ -25,10 +27,10 @@ impl Model for ContactId {
 impl ContactId {
     /// The contact of this number; None where it is above 15.
     pub fn new(id: u8) -> Option<ContactId>
-        ensures in_range { IsSome result ↔ (id < 16) }
+        ensures in_range { IsSome result ↔ (id < CONTACTS) }
         ensures value { IfSome result (λ c. c ≡ id) }
     {
-        if id < 16 {
+        if id < CONTACTS {
             Some(ContactId { id })
         } else {
             None
@@ -38,7 +40,7 @@ impl ContactId {
     /// Its number, 0 to 15.
     pub fn get(self) -> u8
         ensures value { result ≡ self }
-        ensures in_range { result < 16 }
+        ensures in_range { result < CONTACTS }
     {
         self.id
     }
@@ -52,12 +54,13 @@ pub struct CounterId {
 
 impl Model for CounterId {
     ghost use Rattle.std.specs.Prelude.{ℕ, ◌<◌};
+    ghost use Rattle.plan_code.specs.declared.limits.TheConstants.{COUNTERS};
 
     ghost Value = { ℕ };
 
     ghost view = { λ c. c.id };
 
-    ghost invariant = { λ c. c.id < 8 };
+    ghost invariant = { λ c. c.id < COUNTERS };
 
     ghost inverse = { λ n. record { id = n } };
 }
@@ -65,16 +68,20 @@ impl Model for CounterId {
 impl CounterId {
     /// The counter of this number; None where it is above 7.
     pub fn new(id: u8) -> Option<CounterId>
-        ensures in_range { IsSome result ↔ (id < 8) }
+        ensures in_range { IsSome result ↔ (id < COUNTERS) }
         ensures value { IfSome result (λ c. c ≡ id) }
     {
-        if id < 8 { Some(CounterId { id }) } else { None }
+        if id < COUNTERS {
+            Some(CounterId { id })
+        } else {
+            None
+        }
     }
 
     /// Its number, 0 to 7.
     pub fn get(self) -> u8
         ensures value { result ≡ self }
-        ensures in_range { result < 8 }
+        ensures in_range { result < COUNTERS }
     {
         self.id
     }
@@ -99,7 +106,7 @@ impl Model for Frames {
 }
 
 impl Frames {
-    /// So many frames; None where there is none.
+    /// This many frames; None where there is none.
     pub fn new(frames: u16) -> Option<Frames>
         ensures in_range { IsSome result ↔ (1 ≤ frames) }
         ensures value { IfSome result (λ f. f ≡ frames) }
@@ -139,7 +146,7 @@ impl Model for Times {
 }
 
 impl Times {
-    /// So many times; None where it is never.
+    /// This many times; None where it is never.
     pub fn new(times: u16) -> Option<Times>
         ensures in_range { IsSome result ↔ (1 ≤ times) }
         ensures value { IfSome result (λ t. t ≡ times) }
@@ -168,26 +175,27 @@ pub struct Delay {
 
 impl Model for Delay {
     ghost use Rattle.std.specs.Prelude.{ℕ, ◌≤◌};
+    ghost use Rattle.plan_code.specs.declared.limits.TheConstants.{LONGEST_DELAY};
 
     ghost Value = { ℕ };
 
     ghost view = { λ d. d.frames };
 
-    ghost invariant = { λ d. (1 ≤ d.frames) × (d.frames ≤ 60000) };
+    ghost invariant = { λ d. (1 ≤ d.frames) × (d.frames ≤ LONGEST_DELAY) };
 
     ghost inverse = { λ n. record { frames = n } };
 }
 
 impl Delay {
-    /// So many frames; None where they are not 1 to 60,000.
+    /// This many frames; None where they are not 1 to 60,000.
     pub fn new(frames: u16) -> Option<Delay>
-        ensures in_range { IsSome result ↔ ((1 ≤ frames) × (frames ≤ 60000)) }
+        ensures in_range { IsSome result ↔ ((1 ≤ frames) × (frames ≤ LONGEST_DELAY)) }
         ensures value { IfSome result (λ d. d ≡ frames) }
     {
         if frames < 1 {
             return None;
         }
-        if frames > 60_000 {
+        if frames > LONGEST_DELAY {
             return None;
         }
         Some(Delay { frames })
@@ -197,7 +205,7 @@ impl Delay {
     pub fn get(self) -> u16
         ensures value { result ≡ self }
         ensures from_one { 1 ≤ result }
-        ensures in_range { result ≤ 60000 }
+        ensures in_range { result ≤ LONGEST_DELAY }
     {
         self.frames
     }
@@ -211,12 +219,13 @@ pub struct DayFrame {
 
 impl Model for DayFrame {
     ghost use Rattle.std.specs.Prelude.{ℕ, ◌<◌};
+    ghost use Rattle.plan_code.specs.declared.limits.TheConstants.{FRAMES_A_DAY};
 
     ghost Value = { ℕ };
 
     ghost view = { λ d. d.frame };
 
-    ghost invariant = { λ d. d.frame < 3600000 };
+    ghost invariant = { λ d. d.frame < FRAMES_A_DAY };
 
     ghost inverse = { λ n. record { frame = n } };
 }
@@ -224,10 +233,10 @@ impl Model for DayFrame {
 impl DayFrame {
     /// The frame of this number; None where the day has ended by then.
     pub fn new(frame: u32) -> Option<DayFrame>
-        ensures in_range { IsSome result ↔ (frame < 3600000) }
+        ensures in_range { IsSome result ↔ (frame < FRAMES_A_DAY) }
         ensures value { IfSome result (λ d. d ≡ frame) }
     {
-        if frame < 3_600_000 {
+        if frame < FRAMES_A_DAY {
             Some(DayFrame { frame })
         } else {
             None
@@ -237,7 +246,7 @@ impl DayFrame {
     /// Its number, 0 to 3,599,999.
     pub fn get(self) -> u32
         ensures value { result ≡ self }
-        ensures in_range { result < 3600000 }
+        ensures in_range { result < FRAMES_A_DAY }
     {
         self.frame
     }

@@ -2,13 +2,18 @@
 
 ghost use Rattle.std.specs.Prelude.{◌↔◌, IsTrue};
 
+use crate::limits::{LONGEST_NOTICE, LONGEST_PERIOD, SHORTEST_NOTICE};
+use fib_codec::Mode;
+
 /// The plan of an ensemble: what its frames carry and what its notices promise.
 #[derive(Clone, Copy, Debug, PartialEq, Eq)]
 pub struct Plan {
     /// The identifier of the ensemble, EId (EN 300 401 clause 6.4).
     pub eid: u16,
-    /// The period, in frames, 1 to 60 in a code: the whole current configuration goes out in any so many
-    /// successive frames.
+    /// The transmission mode: how many FIBs a frame has, and on which CIF counts FIG 0/0 and swaps fall.
+    pub mode: Mode,
+    /// The period P, in frames, 1 to 60 in a code: the whole current configuration goes out in any P
+    /// successive frames of one phase.
     pub period: u8,
     /// The notice, in frames, 12 to 248 in a code: for how long a swap is announced before it is made.
     pub notice: u8,
@@ -23,8 +28,8 @@ impl Plan {
     pub fn is_within_limits(&self) -> bool
         ensures { IsTrue result ↔ IsPlan self.now }
     {
-        let has_period = 1 <= self.period && self.period <= 60;
-        let has_notice = 12 <= self.notice && self.notice <= 248;
+        let has_period = 1 <= self.period && self.period <= LONGEST_PERIOD;
+        let has_notice = SHORTEST_NOTICE <= self.notice && self.notice <= LONGEST_NOTICE;
         let has_budget = 1 <= self.budget;
         let _eid = self.eid;
         has_period && has_notice && has_budget

@@ -110,6 +110,7 @@ fn instr_in_range(instr: Instr)
         }
         Instr::CommitAt(_) => {}
         Instr::Join => {}
+        Instr::Settle => {}
         Instr::End => {}
         Instr::Edit(edit) => edit_in_range(edit),
         Instr::Test { contact, .. } => {

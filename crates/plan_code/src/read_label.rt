@@ -2,32 +2,41 @@
 
 ghost use Rattle.std.specs.Prelude.{◌≡◌, ◌≤◌};
 ghost use Rattle.mux_config.specs.Reading.{Takes, word_within};
-ghost use Rattle.plan_code.specs.Parts.{pending_at, label_at};
+ghost use Rattle.plan_code.specs.Parts.{swap_at, label_at};
 
 use crate::flags::Counters;
-use crate::label::Label;
+use crate::label::{Label, Swap};
 use mux_config::{Reader, RecordFault};
 
-/// Reads the bounds of the swap that is pending.
-#[tactic(auto, unfolding(crate::specs::Parts::pending_at))]
-fn pending(reader: &mut Reader) -> Result<Option<(u16, u16)>, RecordFault>
-    ensures read { Takes (pending_at reader.old.total reader.old.rest) result reader.new }
+/// Reads what a label declares of a swap.
+#[tactic(auto, unfolding(crate::specs::Parts::swap_at))]
+fn swap(reader: &mut Reader) -> Result<Swap, RecordFault>
+    ensures read { Takes (swap_at reader.old.total reader.old.rest) result reader.new }
     ensures total { reader.new.total ≡ reader.old.total }
 {
-    if reader.flag()? {
-        let low = reader.word_within(1, u16::MAX)?;
-        let high = reader.word_within(low, u16::MAX)?;
-        Ok(Some((low, high)))
-    } else {
-        reader.word_within(0, 0)?;
-        reader.word_within(0, 0)?;
-        Ok(None)
+    match reader.byte_within(0, 2)? {
+        0 => {
+            reader.word_within(0, 0)?;
+            reader.word_within(0, 0)?;
+            Ok(Swap::Idle)
+        }
+        1 => {
+            let low = reader.word_within(1, u16::MAX)?;
+            let high = reader.word_within(low, u16::MAX)?;
+            Ok(Swap::Within(low, high))
+        }
+        _ => {
+            reader.word_within(0, 0)?;
+            let high = reader.word_within(1, u16::MAX)?;
+            Ok(Swap::Perhaps(high))
+        }
     }
 }
 
 /// Reads the place of a label, `low` or later.
 fn place_from(reader: &mut Reader, low: u32) -> Result<u16, RecordFault>
-    ensures read { Takes (word_within reader.old.total low 65535 reader.old.rest) result reader.new }
+    ensures read { Takes (word_within reader.old.total low 65535 reader.old.rest) result
+        reader.new }
     ensures total { reader.new.total ≡ reader.old.total }
 {
     let place = reader.place();
@@ -48,7 +57,7 @@ pub(crate) fn label(reader: &mut Reader, configs: u16, low: u32) -> Result<Label
     let pc = place_from(reader, low)?;
     let cur = reader.word_within(0, configs - 1)?;
     let next = reader.word_within(0, configs - 1)?;
-    let pending = pending(reader)?;
+    let pending = swap(reader)?;
     let counters = Counters(reader.byte()?);
     let cost = reader.byte_within(1, u8::MAX)?;
     Ok(Label {

@@ -108,6 +108,7 @@ fn timing(reader: &mut Reader, at: usize, opcode: u8) -> Result<Instr, RecordFau
         0x05 => commit_at(reader),
         0x06 => Ok(Instr::Join),
         0x07 => Ok(Instr::End),
+        0x08 => Ok(Instr::Settle),
         _ => Err(RecordFault::Field(at)),
     }
 }

@@ -7,6 +7,8 @@ mod full;
 mod kinds;
 mod largest;
 mod lines;
+mod modes;
+mod swaps;
 
 /// The file of a code of one instruction, `End` in line 7, with nothing in its one configuration.
 const SHORT_FILE: [u8; 35] = [

@@ -1,4 +1,4 @@
-mod Unmoved
-mod LastLevels
-mod Joined
-mod Vectors
+pub mod Keeping
+pub mod FrameFacts
+pub mod Delivering
+pub mod Places

@@ -1,11 +1,24 @@
-//! The player: a plan code played frame by frame, three FIBs to a frame.
+//! The player: a plan code played frame by frame.
 //!
-//! So far this crate has its definitions, which say what the player has to do, and first laws about them:
-//! `specs/Frames.antt` for one frame, `Runs.antt` for whole lists of events, `Announced.antt` and
-//! `RightBytes.antt` for what the bytes say, `Headline.antt` for the promises. The player itself comes next.
+//! A [`Player`] plays a code that `plan_verifier` accepted, over any store of configurations; [`play`] puts the frames
+//! of a list of events into a [`Sink`]. What it has to do is defined in the crate `plan_runs`, whose events, starts and
+//! laws this crate passes on, and the contracts cite it: `specs/Playing.antt` says what a player stands for and what
+//! becomes of it, `specs/Delivery.antt` what a sink is given.
 #![tactic(auto)]
 
-pub mod event;
+pub mod delivery;
+pub mod fault;
+mod frame_step;
 pub mod laws;
+mod phase_pages;
+pub mod player;
+pub mod sink;
 
-pub use event::{Event, Start};
+pub use delivery::play;
+pub use fault::{PlayFault, StartFault};
+pub use plan_runs::{Event, Start};
+pub use player::Player;
+pub use sink::{Sink, Writer};
+
+#[cfg(test)]
+mod tests;

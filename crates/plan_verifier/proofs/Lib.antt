@@ -1,1 +1,9 @@
+pub mod Answering
+pub mod Causes
+pub mod Deciding
+pub mod Entries
+pub mod OneVerdict
+pub mod Stepping
+pub mod Tabled
+pub mod Verdicts
 mod Vectors

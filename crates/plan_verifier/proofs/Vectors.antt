@@ -1,111 +1,274 @@
--- Small codes that are not typed, each for its reason, and the bounds of a pending swap.
-use Rattle.std.proofs.Common.{◌≡◌, ℕ, ◌<◌, true, List, [], ◌∷◌, Option, Some, None, is_some, refl, sym, ap, subst, arith, inl, inr}
-use Rattle.mux_config.specs.Configuration.{nothing}
+-- Small codes: which are typed, and why and where others are refused.
+use Rattle.std.proofs.Common.{◌≡◌, ℕ, ◌<◌, ◌≤◌, true, List, [], ◌∷◌, length, refl, arith}
+use Rattle.mux_config.specs.Configuration.{IsConfiguration, Each, IsAscending, nothing}
+use Rattle.mux_config.specs.declared.edit.Edit.TheVariants.{AddSub, DropSub, AddService}
+use Rattle.mux_config.specs.declared.fault.EditFault.TheVariants.{IdAbsent}
+use Rattle.mux_config.specs.declared.fault.ConfigFault.TheVariants.{EmptyService}
+use Rattle.mux_config.specs.declared.numbers.Sid.TheVariants.{Short}
+use Rattle.mux_config.specs.declared.parts.Sub.{Sub}
+use Rattle.mux_eep.specs.declared.sizes.EepSet.TheVariants.{A}
+use Rattle.fib_codec.specs.declared.modes.Mode.TheVariants.{I}
 use Rattle.plan_code.specs.declared.plan.Plan.{Plan}
 use Rattle.plan_code.specs.declared.flags.Counters.{Counters}
 use Rattle.plan_code.specs.declared.label.Label.{Label}
+use Rattle.plan_code.specs.declared.label.Swap.TheVariants.{Idle, Within, Perhaps}
 use Rattle.plan_code.specs.declared.instr.Instr.{Instr}
-use Rattle.plan_code.specs.declared.instr.Instr.TheVariants.{Wait, CommitIn, Join, Jump, Loop}
-use Rattle.plan_code.specs.Flags.{is_set}
-use Rattle.plan_code.specs.Program.{Program}
-use Rattle.plan_verifier.specs.Typing.{Known, IsFine, leaves, IsTyped, IsSafe}
+use Rattle.plan_code.specs.declared.instr.Line.{Line}
+use Rattle.plan_code.specs.declared.instr.Instr.TheVariants.{Wait, Until, WaitContact, CommitIn, CommitAt, Join, Settle, End, Edit as Edits, Jump, Set, Loop}
+use Rattle.plan_code.specs.Program.{Program, IsProgram, IsPlan, IsLabel, IsLine, IsInstr, label_key}
+use Rattle.plan_verifier.specs.declared.cause.Cause.{Cause}
+use Rattle.plan_verifier.specs.declared.cause.Cause.TheVariants.{Target, Table, Edit as OfEdit, Config as OfConfig, Pending, NoChange, Notice, Count, JoinIdle, SwapUncertain, CounterUnset, Mismatch, Cost, FallsOff}
+use Rattle.plan_verifier.specs.Typing.{Known, leaves, IsTyped}
+use Rattle.plan_verifier.specs.Refusals.{IsRefused}
+use Rattle.plan_verifier.proofs.OneVerdict.{typed_if, refused_if, codes_have_one_verdict}
 
 abbrev plan : Plan
-plan = record { eid = 0xe1c5; period = 4; notice = 24; budget = 20 }
+plan = record { eid = 0xe1c5; mode = I; period = 4; notice = 24; budget = 20 }
 
 abbrev no_counters : Counters
 no_counters = record { 0 = 0 }
 
-abbrev first_label : Label
-first_label = record { pc = 0; cur = 0; next = 0; pending = None; counters = no_counters; cost = 1 }
+abbrev one_counter : Counters
+one_counter = record { 0 = 1 }
 
--- the code of one instruction, with a label of cost 1 at its beginning and an empty configuration
+abbrev label : ℕ → Counters → ℕ → Label
+label pc counters cost = record { pc = pc; cur = 0; next = 0; pending = Idle; counters = counters; cost = cost }
+
+abbrev line : Instr → Line
+line i = record { number = 1; instr = i }
+
+-- a code that begins with an empty configuration
+abbrev code : List Label → List Line → Program
+code labels lines = record { plan = plan; configurations = nothing ∷ []; labels = labels; lines = lines }
+
+-- ---- their fields are within their limits
+
+empty_is : IsConfiguration nothing
+empty_is = record {
+  subs_ascend = tt;
+  services_ascend = tt;
+  packets_ascend = tt;
+  subs_placed = tt;
+  services_formed = tt;
+  packets_addressed = tt;
+  subs_few = omega arith;
+  services_few = omega arith;
+  packets_few = omega arith;
+}
+
+plan_is : IsPlan plan
+plan_is = record {
+  ensemble = omega arith;
+  period_from = omega arith;
+  period_to = omega arith;
+  notice_from = omega arith;
+  notice_to = omega arith;
+  budget_from = omega arith;
+  budget_to = omega arith;
+}
+
+label_is : (pc cost : ℕ) (counters : Counters) → pc < 65536 → counters.0 < 256 → 1 ≤ cost → cost ≤ 255 → IsLabel 1 (label pc counters cost)
+label_is pc cost counters low set from to = record {
+  place = low;
+  current = omega arith;
+  following = omega arith;
+  bounds = tt;
+  set = set;
+  cost_from = from;
+  cost_to = to;
+}
+
+line_is : (i : Instr) → IsInstr i → IsLine (line i)
+line_is i h = record { numbered = omega arith; formed = h }
+
+code_is : (labels : List Label) (lines : List Line) → Each (IsLabel 1) labels → IsAscending label_key labels → 1 ≤ length labels → length labels ≤ 1024
+    → Each IsLine lines → 1 ≤ length lines → length lines ≤ 4096 → IsProgram (code labels lines)
+code_is labels lines formed ascend from to each first last = record {
+  planned = plan_is;
+  configurations_from = omega arith;
+  configurations_to = omega arith;
+  configurations_formed = (empty_is, tt);
+  labels_from = from;
+  labels_to = to;
+  labels_formed = formed;
+  labels_ascend = ascend;
+  lines_from = first;
+  lines_to = last;
+  lines_formed = each;
+}
+
+-- one label, and instructions
+first_is : (cost : ℕ) (lines : List Line) → 1 ≤ cost → cost ≤ 255 → Each IsLine lines → 1 ≤ length lines → length lines ≤ 4096
+    → IsProgram (code (label 0 no_counters cost ∷ []) lines)
+first_is cost lines from to each first last =
+    code_is (label 0 no_counters cost ∷ []) lines (label_is 0 cost no_counters (omega arith) (omega arith) from to, tt) (tt, tt) (omega arith) (omega arith) each first last
+
+-- one instruction, which may cost 1
 abbrev lone : Instr → Program
-lone i = record { plan = plan; configurations = nothing ∷ []; labels = first_label ∷ []; lines = record { number = 1; instr = i } ∷ [] }
+lone i = code (label 0 no_counters 1 ∷ []) (line i ∷ [])
 
--- what is known while a swap is pending in 24 to 27 frames
+lone_is : (i : Instr) → IsInstr i → IsProgram (lone i)
+lone_is i h = first_is 1 (line i ∷ []) (omega arith) (omega arith) (line_is i h, tt) (omega arith) (omega arith)
+
+-- ---- codes of one instruction
+
+end_typed : IsTyped (lone End)
+end_typed = typed_if (lone End) (lone_is End tt) refl
+
+end_not_refused : (pc : ℕ) (cause : Cause) → IsRefused (lone End) pc cause → ⊥
+end_not_refused pc cause = (codes_have_one_verdict (lone End) (lone_is End tt)).never_both pc cause end_typed
+
+join_refused : IsRefused (lone Join) 0 JoinIdle
+join_refused = refused_if (lone Join) 0 JoinIdle (lone_is Join tt) refl
+
+join_not_typed : IsTyped (lone Join) → ⊥
+join_not_typed typed = (codes_have_one_verdict (lone Join) (lone_is Join tt)).never_both 0 JoinIdle typed join_refused
+
+loop_refused : IsRefused (lone (Loop 0 0)) 0 CounterUnset
+loop_refused = refused_if (lone (Loop 0 0)) 0 CounterUnset (lone_is (Loop 0 0) (omega arith, omega arith)) refl
+
+jump_refused : IsRefused (lone (Jump 5)) 0 Target
+jump_refused = refused_if (lone (Jump 5)) 0 Target (lone_is (Jump 5) (omega arith)) refl
+
+round_refused : IsRefused (lone (Jump 0)) 0 Cost
+round_refused = refused_if (lone (Jump 0)) 0 Cost (lone_is (Jump 0) (omega arith)) refl
+
+wait_refused : IsRefused (lone (Wait 1)) 0 FallsOff
+wait_refused = refused_if (lone (Wait 1)) 0 FallsOff (lone_is (Wait 1) (omega arith, omega arith)) refl
+
+edit_refused : IsRefused (lone (Edits (DropSub 5))) 0 (OfEdit IdAbsent)
+edit_refused = refused_if (lone (Edits (DropSub 5))) 0 (OfEdit IdAbsent) (lone_is (Edits (DropSub 5)) (omega arith)) refl
+
+notice_refused : IsRefused (lone (CommitIn 23)) 0 Notice
+notice_refused = refused_if (lone (CommitIn 23)) 0 Notice (lone_is (CommitIn 23) (omega arith, omega arith)) refl
+
+count_refused : IsRefused (lone (CommitAt 1002)) 0 Count
+count_refused = refused_if (lone (CommitAt 1002)) 0 Count (lone_is (CommitAt 1002) (omega arith)) refl
+
+change_refused : IsRefused (lone (CommitIn 24)) 0 NoChange
+change_refused = refused_if (lone (CommitIn 24)) 0 NoChange (lone_is (CommitIn 24) (omega arith, omega arith)) refl
+
+-- ---- labels
+
+abbrev late : Program
+late = code (label 1 no_counters 1 ∷ []) (line End ∷ [])
+
+late_is : IsProgram late
+late_is = code_is (label 1 no_counters 1 ∷ []) (line End ∷ []) (label_is 1 1 no_counters (omega arith) (omega arith) (omega arith) (omega arith), tt) (tt, tt) (omega arith) (omega arith) (line_is End tt, tt) (omega arith) (omega arith)
+
+late_refused : IsRefused late 0 Table
+late_refused = refused_if late 0 Table late_is refl
+
+abbrev counted : Program
+counted = code (label 0 one_counter 1 ∷ []) (line End ∷ [])
+
+counted_is : IsProgram counted
+counted_is = code_is (label 0 one_counter 1 ∷ []) (line End ∷ []) (label_is 0 1 one_counter (omega arith) (omega arith) (omega arith) (omega arith), tt) (tt, tt) (omega arith) (omega arith) (line_is End tt, tt) (omega arith) (omega arith)
+
+counted_refused : IsRefused counted 0 Mismatch
+counted_refused = refused_if counted 0 Mismatch counted_is refl
+
+-- the body of a loop runs three times, with a wait in it
+abbrev thrice : Program
+thrice =
+    code (label 0 no_counters 2 ∷ label 1 one_counter 1 ∷ [])
+    (line (Set 0 3) ∷ line (Wait 1) ∷ line (Loop 0 1) ∷ line End ∷ [])
+
+thrice_is : IsProgram thrice
+thrice_is =
+    code_is (label 0 no_counters 2 ∷ label 1 one_counter 1 ∷ []) (line (Set 0 3) ∷ line (Wait 1) ∷ line (Loop 0 1) ∷ line End ∷ [])
+    (label_is 0 2 no_counters (omega arith) (omega arith) (omega arith) (omega arith), (label_is 1 1 one_counter (omega arith) (omega arith) (omega arith) (omega arith), tt))
+    ((omega arith, tt), (tt, tt)) (omega arith) (omega arith)
+    (line_is (Set 0 3) (omega arith, omega arith, omega arith), (line_is (Wait 1) (omega arith, omega arith), (line_is (Loop 0 1) (omega arith, omega arith), (line_is End tt, tt))))
+    (omega arith) (omega arith)
+
+thrice_typed : IsTyped thrice
+thrice_typed = typed_if thrice thrice_is refl
+
+abbrev at_midnight : List Line
+at_midnight = line (Until 0) ∷ line End ∷ []
+
+midnight_typed : IsTyped (code (label 0 no_counters 1 ∷ []) at_midnight)
+midnight_typed =
+    typed_if (code (label 0 no_counters 1 ∷ []) at_midnight)
+    (first_is 1 at_midnight (omega arith) (omega arith) (line_is (Until 0) (omega arith), (line_is End tt, tt)) (omega arith) (omega arith)) refl
+
+-- ---- commits of one sub-channel
+
+abbrev sub : ℕ → ℕ → Sub
+sub id start = record { id = id; start = start; protection = record { set = A; level = 3 }; kbits = 128 }
+
+adds : (id start : ℕ) → id < 64 → start < 1024 → IsLine (line (Edits (AddSub (sub id start))))
+adds id start low at = line_is (Edits (AddSub (sub id start))) (record { named = low; start = at; from_one = omega arith; to_four = omega arith; rate = omega arith })
+
+commits : IsLine (line (CommitIn 24))
+commits = line_is (CommitIn 24) (omega arith, omega arith)
+
+abbrev joined : List Line
+joined = line (Edits (AddSub (sub 1 0))) ∷ line (CommitIn 24) ∷ line Join ∷ line End ∷ []
+
+joined_typed : IsTyped (code (label 0 no_counters 3 ∷ []) joined)
+joined_typed =
+    typed_if (code (label 0 no_counters 3 ∷ []) joined)
+    (first_is 3 joined (omega arith) (omega arith) (adds 1 0 (omega arith) (omega arith), (commits, (line_is Join tt, (line_is End tt, tt)))) (omega arith) (omega arith)) refl
+
+abbrev settled : List Line
+settled = line (Edits (AddSub (sub 1 0))) ∷ line (CommitIn 24) ∷ line (WaitContact 3 true) ∷ line Settle ∷ line (Edits (DropSub 1)) ∷ line End ∷ []
+
+settled_typed : IsTyped (code (label 0 no_counters 3 ∷ []) settled)
+settled_typed =
+    typed_if (code (label 0 no_counters 3 ∷ []) settled)
+    (first_is 3 settled (omega arith) (omega arith)
+    (adds 1 0 (omega arith) (omega arith), (commits, (line_is (WaitContact 3 true) (omega arith), (line_is Settle tt, (line_is (Edits (DropSub 1)) (omega arith), (line_is End tt, tt))))))
+    (omega arith) (omega arith)) refl
+
+abbrev twice : List Line
+twice = line (Edits (AddSub (sub 1 0))) ∷ line (CommitIn 24) ∷ line (Edits (AddSub (sub 2 96))) ∷ []
+
+pending_refused : IsRefused (code (label 0 no_counters 3 ∷ []) twice) 2 Pending
+pending_refused =
+    refused_if (code (label 0 no_counters 3 ∷ []) twice) 2 Pending
+    (first_is 3 twice (omega arith) (omega arith) (adds 1 0 (omega arith) (omega arith), (commits, (adds 2 96 (omega arith) (omega arith), tt))) (omega arith) (omega arith)) refl
+
+abbrev uncertain : List Line
+uncertain = line (Edits (AddSub (sub 1 0))) ∷ line (CommitIn 24) ∷ line (Wait 25) ∷ []
+
+wait_of_25_refused : IsRefused (code (label 0 no_counters 3 ∷ []) uncertain) 2 SwapUncertain
+wait_of_25_refused =
+    refused_if (code (label 0 no_counters 3 ∷ []) uncertain) 2 SwapUncertain
+    (first_is 3 uncertain (omega arith) (omega arith) (adds 1 0 (omega arith) (omega arith), (commits, (line_is (Wait 25) (omega arith, omega arith), tt))) (omega arith) (omega arith)) refl
+
+abbrev unsound : List Line
+unsound = line (Edits (AddService (Short 1))) ∷ line (CommitIn 24) ∷ []
+
+unsound_refused : IsRefused (code (label 0 no_counters 2 ∷ []) unsound) 1 (OfConfig EmptyService)
+unsound_refused =
+    refused_if (code (label 0 no_counters 2 ∷ []) unsound) 1 (OfConfig EmptyService)
+    (first_is 2 unsound (omega arith) (omega arith) (line_is (Edits (AddService (Short 1))) (omega arith), (commits, tt)) (omega arith) (omega arith)) refl
+
+-- ---- the bounds of a swap, and what waiting leaves of them
+
 abbrev idle : Known
-idle = record { current = nothing; next = nothing; pending = None; counters = no_counters; allowance = 5 }
+idle = record { current = nothing; next = nothing; pending = Idle; counters = no_counters; allowance = 5 }
 
 abbrev committed : Known
 committed = leaves plan (CommitIn 24) idle
 
-committed_bounds : committed.pending ≡ Some (24, 27)
+committed_bounds : committed.pending ≡ Within 24 27
 committed_bounds = refl
 
--- a wait of 25 frames may end before the swap or after it; one of 27 ends after it, one of 23 before it
-wait_of_25 : IsFine plan (Wait 25) committed → ⊥
-wait_of_25 h = elim h [ inl early ↦ omega (arith, early) | inr late ↦ omega (arith, late) ]
-
-wait_of_27 : (leaves plan (Wait 27) committed).pending ≡ None
-wait_of_27 = refl
-
-wait_of_23 : (leaves plan (Wait 23) committed).pending ≡ Some (1, 4)
+wait_of_23 : (leaves plan (Wait 23) committed).pending ≡ Within 1 4
 wait_of_23 = refl
 
--- ---- codes of one instruction that are not typed
+wait_of_27 : (leaves plan (Wait 27) committed).pending ≡ Idle
+wait_of_27 = refl
 
--- what a typing of such a code says at its one place
-record AtStart (i : Instr) : Type 0 where
-  typing : List Known
-  known : Known
-  pending : known.pending ≡ None
-  counters : known.counters ≡ no_counters
-  allowance : known.allowance ≡ 1
-  safe : IsSafe (lone i) typing 0 i known
+contact_awaited : (leaves plan (WaitContact 3 true) committed).pending ≡ Perhaps 26
+contact_awaited = refl
 
-at_start : (i : Instr) → IsTyped (lone i) → AtStart i
-at_start i h =
-    let place = h.1.labels first_label (0, omega arith, refl) in
-    record {
-      typing = h.0;
-      known = place.known;
-      pending = sym place.declares.pending;
-      counters = sym place.declares.counters;
-      allowance = sym place.declares.cost;
-      safe = h.1.safe 0 i place.known refl place.there;
-    }
+-- settling renews no allowance, joining does
+settled_allowance : (leaves plan Settle committed).allowance ≡ 3
+settled_allowance = refl
 
--- a join with nothing pending
-join_alone : IsTyped (lone Join) → ⊥
-join_alone h =
-    let a = at_start Join h in
-    let none : Option (ℕ × ℕ) = None in
-    let e : is_some none ≡ true = subst (λ (o : Option (ℕ × ℕ)). is_some o ≡ true) a.pending a.safe.fine in
-    grind (arith, e)
-
--- a loop whose counter is not set
-loop_alone : IsTyped (lone (Loop 0 0)) → ⊥
-loop_alone h =
-    let a = at_start (Loop 0 0) h in
-    let e : is_set no_counters 0 ≡ true = subst (λ (c : Counters). is_set c 0 ≡ true) a.counters a.safe.fine in
-    grind (arith, e)
-
--- a jump to where no label stands
-jump_outside : IsTyped (lone (Jump 5)) → ⊥
-jump_outside h =
-    let a = at_start (Jump 5) h in
-    let reaches = a.safe.targets 5 refl in
-    let none : Option Label = None in
-    let e : none ≡ Some reaches.label = reaches.there in
-    cc
-
--- a round without a suspension
-cost_of : Option Label → ℕ
-cost_of None = 0
-cost_of (Some l) = l.cost
-
-jump_to_itself : IsTyped (lone (Jump 0)) → ⊥
-unfolding cost_of
-jump_to_itself h =
-    let a = at_start (Jump 0) h in
-    let reaches = a.safe.targets 0 refl in
-    let one : 1 ≡ reaches.label.cost = ap cost_of reaches.there in
-    omega (arith, one, a.allowance, reaches.comes.affords)
-
--- a last instruction that goes on
-wait_alone : IsTyped (lone (Wait 1)) → ⊥
-wait_alone h =
-    let a = at_start (Wait 1) h in
-    let inside : 1 < 1 = a.safe.inside refl in
-    omega (arith, inside)
+joined_allowance : (leaves plan Join committed).allowance ≡ 20
+joined_allowance = refl

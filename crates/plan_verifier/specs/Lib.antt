@@ -1,1 +1,4 @@
+pub mod Held
+pub mod Refusals
 pub mod Typing
+pub mod Walking

@@ -1,57 +1,81 @@
 -- Typed codes: what is known at each instruction of a code, and when it keeps the code from going wrong.
-use Rattle.std.specs.Prelude.{◌≡◌, ◌≢◌, ℕ, ◌+◌, ◌-◌, ◌*◌, ◌%◌, ◌<◌, ◌≤◌, ◌⊎◌, Bool, true, false, if◌then◌else◌, nat_lt, List, length, slice_get, Contains, Option, Some, None, IsSome}
+use Rattle.std.specs.Prelude.{◌≡◌, ◌≢◌, ℕ, ◌+◌, ◌-◌, ◌*◌, ◌<◌, ◌≤◌, ◌⊎◌, Bool, true, false, if◌then◌else◌, nat_lt, List, length, slice_get, Contains, Option, Some, None}
 use Rattle.mux_config.specs.Configuration.{Configuration}
 use Rattle.mux_config.specs.Edits.{edit_fault, changed}
 use Rattle.mux_config.specs.Sound.{IsSound}
+use Rattle.fib_codec.specs.Modes.{count_step}
 use Rattle.fib_carousel.specs.Pages.{page_set, rounds}
+use Rattle.plan_code.specs.declared.limits.TheConstants.{COUNTS}
 use Rattle.plan_code.specs.declared.plan.Plan.{Plan}
 use Rattle.plan_code.specs.declared.flags.Counters.{Counters}
 use Rattle.plan_code.specs.declared.label.Label.{Label}
+use Rattle.plan_code.specs.declared.label.Swap.{Swap}
+use Rattle.plan_code.specs.declared.label.Swap.TheVariants.{Idle, Within, Perhaps}
 use Rattle.plan_code.specs.declared.instr.Instr.{Instr}
-use Rattle.plan_code.specs.declared.instr.Instr.TheVariants.{Wait, Until, WaitContact, CommitIn, CommitAt, Join, End, Edit as Edits, Test, Jump, Set, Loop}
+use Rattle.plan_code.specs.declared.instr.Instr.TheVariants.{Wait, Until, WaitContact, CommitIn, CommitAt, Join, Settle, End, Edit as Edits, Test, Jump, Set, Loop}
 use Rattle.plan_code.specs.Flags.{is_set, Includes, with_counter, without_counter}
+use Rattle.plan_code.specs.Machine.{IsSwapCount}
 use Rattle.plan_code.specs.Program.{Program, instr_at, label_at}
 
 -- what is known whenever the machine comes to an instruction
 pub record Known : Type 0 where
   pub current : Configuration
   pub next : Configuration
-  -- nothing pending, or the least and the greatest number of frames until the swap
-  pub pending : Option (ℕ × ℕ)
+  -- no swap is pending, or one is, or the next configuration has taken over already
+  pub pending : Swap
   -- counters that are set
   pub counters : Counters
   -- how many instructions may still run in this frame, this one included
   pub allowance : ℕ
 
--- ---- what an instruction needs
+-- ---- pages
+
+-- the pages that a configuration takes by itself
+abbrev pub pages_alone : Plan → Configuration → ℕ
+pages_alone plan c = rounds plan.mode (page_set c None)
 
 -- the pages that the current and the next configuration take together, in the frames of a notice
-abbrev pub notice_rounds : Known → ℕ
-notice_rounds t = rounds (page_set t.current (Some t.next))
+abbrev pub notice_pages : Plan → Known → ℕ
+notice_pages plan t = rounds plan.mode (page_set t.current (Some t.next))
 
--- a commit: no swap is pending, the next configuration is sound and not the current one, and its notice and
--- the phase after its swap have room for all their pages
+-- the notice has room for all pages within the period, and for three rounds of them, and the phase after the
+-- swap has room for the pages of the next configuration within the period
+pub record HasRoom (plan : Plan) (t : Known) : Type 0 where
+  pub within_period : notice_pages plan t ≤ plan.period
+  pub three_times : 3 * notice_pages plan t ≤ plan.notice
+  pub alone : pages_alone plan t.next ≤ plan.period
+
+-- ---- what an instruction needs
+
+-- a commit: no swap is pending, the next configuration is sound and not the current one, and there is room for
+-- its pages
 pub record CanCommit (plan : Plan) (t : Known) : Type 0 where
-  pub idle : t.pending ≡ None
+  pub idle : t.pending ≡ Idle
   pub sound : IsSound t.next
   pub changes : t.next ≢ t.current
-  pub within_period : notice_rounds t ≤ plan.period
-  pub three_times : 3 * notice_rounds t ≤ plan.notice
-  pub alone : rounds (page_set t.next None) ≤ plan.period
+  pub room : HasRoom plan t
 
--- a wait ends before each frame in which the swap can come, or not before the last of them
-abbrev pub IsCertain : ℕ → Option (ℕ × ℕ) → Type 0
-IsCertain n None = Unit {0}
-IsCertain n (Some bounds) = (n < bounds.0) ⊎ (bounds.1 ≤ n)
+-- a wait ends before each frame in which the swap can come, or not before the last of them; where the swap may
+-- have been made already, what is known after the wait is as little
+abbrev pub IsCertain : ℕ → Swap → Type 0
+IsCertain frames Idle = Unit {0}
+IsCertain frames (Within lo hi) = (frames < lo) ⊎ (hi ≤ frames)
+IsCertain frames (Perhaps hi) = Unit {0}
+
+abbrev pub IsSurelyPending : Swap → Type 0
+IsSurelyPending Idle = ⊥
+IsSurelyPending (Within lo hi) = Unit {0}
+IsSurelyPending (Perhaps hi) = ⊥
 
 abbrev pub IsFine : Plan → Instr → Known → Type 0
-IsFine plan (Edits edit) t = (t.pending ≡ None) × (edit_fault edit t.next ≡ None)
+IsFine plan (Edits edit) t = (t.pending ≡ Idle) × (edit_fault edit t.next ≡ None)
 IsFine plan (CommitIn delay) t = CanCommit plan t × (plan.notice ≤ delay)
-IsFine plan (CommitAt count) t = CanCommit plan t × (count < 5000) × (count % 4 ≡ 0)
+IsFine plan (CommitAt count) t = CanCommit plan t × IsSwapCount plan.mode count
 IsFine plan (Wait frames) t = IsCertain frames t.pending
-IsFine plan (Until day) t = t.pending ≡ None
-IsFine plan (WaitContact contact closed) t = t.pending ≡ None
-IsFine plan Join t = IsSome t.pending
+IsFine plan (Until day) t = Unit {0}
+IsFine plan (WaitContact contact closed) t = Unit {0}
+IsFine plan Join t = IsSurelyPending t.pending
+IsFine plan Settle t = Unit {0}
 IsFine plan (Loop counter target) t = is_set t.counters counter ≡ true
 IsFine plan (Set counter times) t = Unit {0}
 IsFine plan (Test contact target) t = Unit {0}
@@ -62,13 +86,31 @@ IsFine plan End t = Unit {0}
 
 -- the swap has been made
 abbrev pub swapped : Known → Known
-swapped t = record t { current = t.next; pending = None }
+swapped t = record t { current = t.next; pending = Idle }
 
--- after so many frames, of which the swap is certain to come in one, or certain to come after all
-abbrev pub waited : ℕ → Option (ℕ × ℕ) → Known → Known
-waited n None t = t
-waited n (Some bounds) t =
-    if nat_lt n bounds.0 then record t { pending = Some (bounds.0 - n, bounds.1 - n) } else swapped t
+-- after this many frames, of which the swap is certain to come in one, or certain to come after all, or is
+-- not known to come in any
+abbrev pub waited : ℕ → Swap → Known → Known
+waited frames Idle t = t
+waited frames (Within lo hi) t =
+    if nat_lt frames lo then record t { pending = Within (lo - frames) (hi - frames) } else swapped t
+waited frames (Perhaps hi) t = if nat_lt frames hi then record t { pending = Perhaps (hi - frames) } else swapped t
+
+-- after one frame or more, where the swap comes in this many frames at most
+abbrev pub perhaps_swapped : ℕ → Known → Known
+perhaps_swapped hi t = if nat_lt 1 hi then record t { pending = Perhaps (hi - 1) } else swapped t
+
+-- after one frame or more
+abbrev pub paused : Swap → Known → Known
+paused Idle t = t
+paused (Within lo hi) t = perhaps_swapped hi t
+paused (Perhaps hi) t = perhaps_swapped hi t
+
+-- after the swap, where one is pending
+abbrev pub settled : Swap → Known → Known
+settled Idle t = t
+settled (Within lo hi) t = swapped t
+settled (Perhaps hi) t = swapped t
 
 -- one instruction has run
 abbrev pub spent : Known → Known
@@ -78,15 +120,17 @@ spent t = record t { allowance = t.allowance - 1 }
 abbrev pub rested : Plan → Known → Known
 rested plan t = record t { allowance = plan.budget }
 
--- where it goes on to the instruction after it
+-- where it goes on to the instruction after it: a `Settle` may go on in the same frame, so it renews nothing
 abbrev pub leaves : Plan → Instr → Known → Known
 leaves plan (Edits edit) t = spent (record t { next = changed edit t.next })
-leaves plan (CommitIn delay) t = spent (record t { pending = Some (delay, delay + 3) })
-leaves plan (CommitAt count) t = spent (record t { pending = Some (plan.notice, plan.notice + 4999) })
+leaves plan (CommitIn delay) t =
+    spent (record t { pending = Within delay (delay + (count_step plan.mode - 1)) })
+leaves plan (CommitAt count) t = spent (record t { pending = Within plan.notice (plan.notice + (COUNTS - 1)) })
 leaves plan (Wait frames) t = rested plan (waited frames t.pending t)
-leaves plan (Until day) t = rested plan t
-leaves plan (WaitContact contact closed) t = rested plan t
+leaves plan (Until day) t = rested plan (paused t.pending t)
+leaves plan (WaitContact contact closed) t = rested plan (paused t.pending t)
 leaves plan Join t = rested plan (swapped t)
+leaves plan Settle t = spent (settled t.pending t)
 leaves plan (Set counter times) t = spent (record t { counters = with_counter counter t.counters })
 leaves plan (Loop counter target) t = spent (record t { counters = without_counter counter t.counters })
 leaves plan (Test contact target) t = spent t
@@ -116,18 +160,25 @@ pub record Declares (code : Program) (label : Label) (t : Known) : Type 0 where
   pub counters : label.counters ≡ t.counters
   pub cost : label.cost ≡ t.allowance
 
--- bounds that lie inside others
-abbrev pub AreInside : Option (ℕ × ℕ) → Option (ℕ × ℕ) → Type 0
-AreInside None None = Unit {0}
-AreInside None (Some outer) = ⊥
-AreInside (Some inner) None = ⊥
-AreInside (Some inner) (Some outer) = (outer.0 ≤ inner.0) × (inner.1 ≤ outer.1)
+abbrev pub HasConfigurationsOf : Known → Known → Type 0
+HasConfigurationsOf t declared = (t.current ≡ declared.current) × (t.next ≡ declared.next)
+
+-- the swap of a state and that of a label: nothing pending in both; bounds inside the label's; or a swap that
+-- comes no later than the label says, or has been made, to a label at which it may have been made
+abbrev pub FitsSwap : Swap → Swap → Known → Known → Type 0
+FitsSwap Idle Idle t declared = HasConfigurationsOf t declared
+FitsSwap Idle (Within low high) t declared = ⊥
+FitsSwap Idle (Perhaps high) t declared = (t.current ≡ declared.next) × (t.next ≡ declared.next)
+FitsSwap (Within lo hi) Idle t declared = ⊥
+FitsSwap (Within lo hi) (Within low high) t declared = HasConfigurationsOf t declared × (low ≤ lo) × (hi ≤ high)
+FitsSwap (Within lo hi) (Perhaps high) t declared = HasConfigurationsOf t declared × (hi ≤ high)
+FitsSwap (Perhaps hi) Idle t declared = ⊥
+FitsSwap (Perhaps hi) (Within low high) t declared = ⊥
+FitsSwap (Perhaps hi) (Perhaps high) t declared = HasConfigurationsOf t declared × (hi ≤ high)
 
 -- a state fits what a label declares: it knows as much or more
 pub record Fits (t declared : Known) : Type 0 where
-  pub current : t.current ≡ declared.current
-  pub next : t.next ≡ declared.next
-  pub pending : AreInside t.pending declared.pending
+  pub swap : FitsSwap t.pending declared.pending t declared
   pub counters : Includes t.counters declared.counters
 
 -- a state comes to a label: it fits it, and has an allowance for all that may run from there
@@ -139,13 +190,17 @@ pub record ComesTo (code : Program) (label : Label) (t : Known) : Type 0 where
 
 -- ---- typed codes
 
--- what the code begins with: one sound configuration that goes out in time, nothing pending and no counter set
-pub record IsOpening (plan : Plan) (t : Known) : Type 0 where
+-- what the code begins with: one configuration, nothing pending and no counter set
+pub record IsInitial (t : Known) : Type 0 where
   pub same : t.current ≡ t.next
-  pub sound : IsSound t.current
-  pub within_period : rounds (page_set t.current None) ≤ plan.period
-  pub idle : t.pending ≡ None
+  pub idle : t.pending ≡ Idle
   pub unset : t.counters.0 ≡ 0
+
+-- it is sound, and goes out in time
+pub record IsOpening (plan : Plan) (t : Known) : Type 0 where
+  pub initial : IsInitial t
+  pub sound : IsSound t.current
+  pub within_period : pages_alone plan t.current ≤ plan.period
 
 -- a state comes to a pc: it is what is known there, or it comes to the label there
 abbrev pub Arrives : Program → List Known → ℕ → Option Label → Known → Type 0

@@ -1,5 +1,22 @@
-//! What it means that a plan code is typed: each instruction has a state that is known to hold whenever the
-//! machine comes to it, and in that state the instruction can't go wrong.
+//! The verifier: whether a plan code is typed, so that it never goes wrong when it is played.
 //!
-//! So far this crate has definitions only: `specs/Typing.antt`. The verifier that decides them comes next.
+//! `verify` takes a `Code`, and gives it back as `Verified`, or `Refused` at an instruction with a `Cause`.
+//! What a typed code is stands in `specs/Typing.antt`, what a refusal says in `specs/Refusals.antt`.
 #![tactic(auto)]
+
+pub mod cause;
+mod holding;
+mod known;
+mod labels;
+pub mod laws;
+mod rounds;
+mod step;
+mod swaps;
+pub mod verified;
+mod walk;
+
+pub use cause::Cause;
+pub use verified::{Refused, Verified, verify};
+
+#[cfg(test)]
+mod tests;

@@ -8,7 +8,10 @@ use std::test::Fail;
 #[test]
 fn wrong_command_lines(rt: HostRuntime) -> Result<(), Fail> {
     for (line, wanted) in [
-        ("", "error: a command is wanted: frame, listen or help\n"),
+        (
+            "",
+            "error: a command is wanted: frame, listen, verify, play or help\n",
+        ),
         (
             "fram",
             "error: unrecognized subcommand 'fram'; tip: a similar subcommand exists: 'frame'\n",
@@ -46,6 +49,22 @@ fn wrong_command_lines(rt: HostRuntime) -> Result<(), Fail> {
             "error: invalid value '65536' for '--page <K>': 65536 is not in 0..=65535\n",
         ),
         (
+            "frame x.rec --ensemble E1C5 --count 0 --mode 0",
+            "error: invalid value '0' for '--mode <M>': 0 is not in 1..=4\n",
+        ),
+        (
+            "frame x.rec --ensemble E1C5 --count 0 --mode 5",
+            "error: invalid value '5' for '--mode <M>': 5 is not in 1..=4\n",
+        ),
+        (
+            "frame - --ensemble E1C5 --count 0 --mode III",
+            "error: invalid value 'III' for '--mode <M>': invalid digit found in string\n",
+        ),
+        (
+            "frame - --ensemble E1C5 --count 0 --mode 1 --mode 1",
+            "error: the argument '--mode <M>' cannot be used multiple times\n",
+        ),
+        (
             "frame - --ensemble E1C5 --count 0 --count 0",
             "error: the argument '--count <N>' cannot be used multiple times\n",
         ),
@@ -54,6 +73,11 @@ fn wrong_command_lines(rt: HostRuntime) -> Result<(), Fail> {
             "error: the following required arguments were not provided: <FILE>\n",
         ),
         ("listen a b", "error: unexpected argument 'b' found\n"),
+        (
+            "verify",
+            "error: the following required arguments were not provided: <CODE>\n",
+        ),
+        ("verify a b", "error: unexpected argument 'b' found\n"),
     ] {
         let mut files = OneFile::new("-", Ok(&[]));
         let (status, printed) = run(rt.alloc(), line, &mut files)?;
@@ -100,9 +124,10 @@ fn help_is_no_fault(rt: HostRuntime) -> Result<(), Fail> {
         ("help", "Usage: dabplan <COMMAND>"),
         (
             "frame --help",
-            "Usage: dabplan frame <CONFIG> --ensemble <HHHH> --count <N> [--page <K>]",
+            "Usage: dabplan frame <CONFIG> --ensemble <HHHH> --count <N> [--page <K>] [--mode <M>]",
         ),
         ("help listen", "Usage: dabplan listen <FILE>"),
+        ("verify --help", "Usage: dabplan verify <CODE>"),
     ] {
         let mut files = OneFile::new("-", Ok(&[]));
         let (status, printed) = run(rt.alloc(), line, &mut files)?;

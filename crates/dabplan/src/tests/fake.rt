@@ -37,12 +37,58 @@ impl<'a> OneFile<'a> {
 }
 
 impl Files for OneFile<'_> {
+    type Out = Failing;
+
     fn read(&mut self, alloc: Global, path: &str) -> Result<Vec<u8>, FileFault> {
         self.give(alloc, path)
     }
 
     fn input(&mut self, alloc: Global) -> Result<Vec<u8>, FileFault> {
         self.give(alloc, "-")
+    }
+
+    fn create(&mut self, _path: &str) -> Result<Failing, FileFault> {
+        Err(FileFault::Failed)
+    }
+}
+
+/// A code file `x.code` and an event file `x.events`; and what is made takes 96 bytes at a call for so many calls.
+#[derive(Drop)]
+pub struct PlayFiles<'a> {
+    pub code: &'a [u8],
+    pub events: &'a [u8],
+    pub calls: Option<u32>,
+    pub created: u32,
+}
+
+impl Files for PlayFiles<'_> {
+    type Out = Failing;
+
+    fn read(&mut self, alloc: Global, path: &str) -> Result<Vec<u8>, FileFault> {
+        let content = match path {
+            "x.code" => self.code,
+            "x.events" => self.events,
+            _ => return Err(FileFault::Failed),
+        };
+        content.to_vec(alloc).map_err(|_| FileFault::Memory)
+    }
+
+    fn input(&mut self, _alloc: Global) -> Result<Vec<u8>, FileFault> {
+        Err(FileFault::Failed)
+    }
+
+    fn create(&mut self, _path: &str) -> Result<Failing, FileFault> {
+        self.created = self.created.saturating_add(1);
+        match self.calls {
+            Some(calls) => Ok(Failing {
+                takes: 96,
+                calls,
+                fault: Some(ErrorKind::Other),
+                taken: 0,
+                tried: 0,
+            }),
+            None => Err(FileFault::Failed),
+        }
     }
 }
 
@@ -56,7 +102,7 @@ pub fn words_of<'a>(alloc: Global, line: &'a str) -> Result<Vec<&'a str>, AllocE
 }
 
 /// What the program prints, and its exit status.
-pub fn run(alloc: Global, line: &str, files: &mut OneFile<'_>) -> Result<(u8, String), AllocError> {
+pub fn run<F: Files>(alloc: Global, line: &str, files: &mut F) -> Result<(u8, String), AllocError> {
     let words = words_of(alloc, line)?;
     let mut printed = Vec::new(alloc);
     let status = answer(alloc, words.as_slice(), files, &mut printed);

@@ -42,6 +42,34 @@ fn records(rt: HostRuntime) -> Result<(), Fail> {
     Ok(())
 }
 
+/// In modes 2 and 3 FIG 0/0 is sent at every count, in mode 4 at the even ones. A frame of mode 3 has four FIBs.
+#[test]
+fn modes(rt: HostRuntime) -> Result<(), Fail> {
+    let first = "0500E1C500010501040088600602C221013F06FF0000000000000000000066DD\n";
+    let second = "0500E1C500020501040088600602C221013F06FF00000000000000000000A801\n";
+    let without = "0501040088600602C221013F06FF000000000000000000000000000000007FE7\n";
+    for (options, wanted, empty) in [
+        ("--count 1", without, 2),
+        ("--count 1 --mode 1", without, 2),
+        ("--count 2 --mode 1", without, 2),
+        ("--count 1 --mode 2", first, 2),
+        ("--count 1 --mode 3", first, 3),
+        ("--mode +3 --count 2", second, 3),
+        ("--count 1 --mode 4", without, 2),
+        ("--count 2 --mode 004", second, 2),
+    ] {
+        let line = format!(in rt.alloc(); "frame - --ensemble E1C5 {options}")?;
+        let bytes = bytes_of(rt.alloc(), ONE_PROGRAMME)?;
+        let mut files = OneFile::new("-", Ok(bytes.as_slice()));
+        let (status, printed) = run(rt.alloc(), line.as_str(), &mut files)?;
+        let others = EMPTY_FIB.repeat(rt.alloc(), empty)?;
+        let whole = format!(in rt.alloc(); "{wanted}{others}")?;
+        assert_eq!(rt; printed.as_str(), whole.as_str(), "{options}");
+        assert_eq!(rt; status, 0, "{options}");
+    }
+    Ok(())
+}
+
 /// A record that is at fault, and the one line that says how. The faults are tested in order: the record,
 /// bytes after it, soundness, the page.
 #[test]
@@ -107,6 +135,25 @@ fn row_of_subs(alloc: Global, count: u8, components: u8) -> Result<Vec<u8>, Allo
     Ok(record)
 }
 
+/// The last pages of 63 sub-channels: the fourth, and in mode 3 the third.
+#[test]
+fn last_pages(rt: HostRuntime) -> Result<(), Fail> {
+    for (options, lines) in [
+        ("--page 3", 3),
+        ("--page 3 --mode 2", 3),
+        ("--page 2 --mode 3", 4),
+        ("--page 3 --mode 4", 3),
+    ] {
+        let line = format!(in rt.alloc(); "frame - --ensemble E1C5 --count 1 {options}")?;
+        let record = row_of_subs(rt.alloc(), 63, 0)?;
+        let mut files = OneFile::new("-", Ok(record.as_slice()));
+        let (status, printed) = run(rt.alloc(), line.as_str(), &mut files)?;
+        assert_eq!(rt; printed.as_str().lines().count(), lines, "{options}");
+        assert_eq!(rt; status, 0, "{options}");
+    }
+    Ok(())
+}
+
 /// Configurations that take more than one FIB, and more than one page.
 #[test]
 fn packed_fibs(rt: HostRuntime) -> Result<(), Fail> {
@@ -126,6 +173,10 @@ fn packed_fibs(rt: HostRuntime) -> Result<(), Fail> {
         (13, 0, "--count 0 --page 1", 1, no_page),
         (19, 12, "--count 1 --page 1", 0, large_service),
         (19, 12, "--count 1 --page 2", 1, no_page),
+        (63, 0, "--count 1 --page 4", 1, no_page),
+        (63, 0, "--count 1 --page 4 --mode 2", 1, no_page),
+        (63, 0, "--count 1 --page 3 --mode 3", 1, no_page),
+        (63, 0, "--count 1 --page 4 --mode 4", 1, no_page),
     ] {
         let line = format!(in rt.alloc(); "frame - --ensemble E1C5 {options}")?;
         let record = row_of_subs(rt.alloc(), count, components)?;

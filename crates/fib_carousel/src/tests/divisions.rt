@@ -5,6 +5,7 @@ ghost use Rattle.std.specs.Prelude.{◌≤◌};
 use crate::tests::fixtures::{put_packet, put_service, put_sub};
 use crate::{page, pages};
 use arrayvec::ArrayVec;
+use fib_codec::Mode;
 use mux_config::{Config, Sid};
 use std::test::Fail;
 
@@ -25,8 +26,8 @@ type List = ArrayVec<Listed, 64>;
 type Ends = [u32; FIBS];
 
 /// The bits of the numbers of bytes that a FIB has room for.
-fn fitting(fib: usize) -> u32 {
-    if fib % 3 == 0 {
+fn fitting(mode: Mode, fib: usize) -> u32 {
+    if fib % mode.fibs() == 0 {
         (1 << 24) - 1
     } else {
         (1 << 31) - 1
@@ -34,16 +35,16 @@ fn fitting(fib: usize) -> u32 {
 }
 
 /// The ends of all divisions with one entry more. `first` says that it is the first of all.
-fn with_entry(ends: &Ends, entry: Listed, first: bool) -> Ends {
+fn with_entry(mode: Mode, ends: &Ends, entry: Listed, first: bool) -> Ends {
     let mut after = [0u32; FIBS];
     let mut earlier = first;
     for (fib, taken) in ends.iter().enumerate() {
         let size = u32::from(entry.size.min(28));
         if earlier {
-            after[fib] = (1u32 << (size + 2)) & fitting(fib);
+            after[fib] = (1u32 << (size + 2)) & fitting(mode, fib);
         }
         let cost = if entry.alike { size } else { size + 2 };
-        after[fib] |= (*taken << cost) & fitting(fib);
+        after[fib] |= (*taken << cost) & fitting(mode, fib);
         if *taken > 0 {
             earlier = true;
         }
@@ -57,12 +58,12 @@ fn least(ends: &Ends) -> usize {
 }
 
 /// The bytes that the FIGs of each FIB take where each entry has its least number.
-fn taken_by_least(list: &[Listed]) -> [u32; FIBS] {
+fn taken_by_least(mode: Mode, list: &[Listed]) -> [u32; FIBS] {
     let mut ends = [0u32; FIBS];
     let mut sizes = [0u32; FIBS];
     let mut before = FIBS;
     for entry in list {
-        ends = with_entry(&ends, *entry, before == FIBS);
+        ends = with_entry(mode, &ends, *entry, before == FIBS);
         let fib = least(&ends) % FIBS;
         let header = if entry.alike && fib == before { 0 } else { 2 };
         sizes[fib] = sizes[fib].saturating_add(u32::from(entry.size) + header);
@@ -116,21 +117,26 @@ fn small(subs: u8, few: u8, many: u8, packets: u16, list: &mut List) -> Result<C
 }
 
 /// Compares the pages of two configurations with the slow program's numbers.
-fn compare(rt: &impl std::process::Abort, current: &Config, next: &Config, list: &[Listed]) {
-    let sizes = taken_by_least(list);
+fn compare(
+    rt: &impl std::process::Abort,
+    mode: Mode,
+    current: &Config,
+    next: &Config,
+    list: &[Listed],
+) {
+    let sizes = taken_by_least(mode, list);
     let used = sizes.iter().rposition(|size| *size > 0).unwrap_or(0);
-    let count = pages(current, Some(next));
-    assert_eq!(rt; count, used / 3 + 1);
+    let count = pages(mode, current, Some(next));
+    assert_eq!(rt; count, used / mode.fibs() + 1);
     for k in 0..count {
-        let bytes = page(current, Some(next), k, None);
-        for place in 0..3 {
-            let want = sizes
-                .get(k.saturating_mul(3).saturating_add(place))
-                .copied()
-                .unwrap_or(0);
-            let fib = &bytes[32 * place..32 * place + 32];
-            assert_eq!(rt; taken_in(fib), want as usize, "page {k}, FIB {place}");
+        let frame = page(mode, current, Some(next), k, None);
+        for slot in 0..mode.fibs() {
+            let number = k.saturating_mul(mode.fibs()).saturating_add(slot);
+            let want = sizes.get(number).copied().unwrap_or(0);
+            let taken = frame.fib(slot).map(|fib| taken_in(fib));
+            assert_eq!(rt; taken, Some(want as usize), "page {k}, FIB {slot}");
         }
+        assert!(rt; frame.fib(mode.fibs()).is_none());
     }
 }
 
@@ -153,7 +159,8 @@ fn pages_are_those_of_the_least_division(rt: HostRuntime) -> Result<(), Fail> {
                 u16::from(few) % 4,
                 &mut list,
             )?;
-            compare(&rt, &current, &next, list.as_slice());
+            compare(&rt, Mode::I, &current, &next, list.as_slice());
+            compare(&rt, Mode::III, &current, &next, list.as_slice());
         }
     }
     Ok(())

@@ -4,6 +4,7 @@ ghost use Rattle.std.specs.Prelude.{◌<◌, ◌≤◌};
 
 use crate::tests::fixtures::{put_packet, put_service, put_sub};
 use crate::{page, pages};
+use fib_codec::Mode;
 use mux_config::{Config, Sid};
 use std::test::Fail;
 
@@ -11,7 +12,7 @@ use std::test::Fail;
 const ENTRIES: u16 = 192;
 
 /// 64 sub-channels, 64 services of 12 components and 64 packet components.
-fn largest() -> Result<Config, Fail> {
+pub fn largest() -> Result<Config, Fail> {
     let mut config = Config::new();
     for k in 0..64 {
         put_sub(&mut config, k, 4 * u16::from(k), 4, 8)?;
@@ -94,20 +95,36 @@ fn entries_in(fib: &[u8], place: u16) -> Option<u16> {
     None
 }
 
+/// Counts the entries that the pages carry, where they are those of the pair, whole and in order, and none else.
+fn entries_sent(mode: Mode, current: &Config, next: &Config) -> Result<u16, Fail> {
+    let mut index = 0;
+    for k in 0..pages(mode, current, Some(next)) {
+        let frame = page(mode, current, Some(next), k, None);
+        for fib in frame.bytes().chunks_exact(32) {
+            index = entries_in(fib, index).ok_or("the next entries, whole and in order")?;
+        }
+    }
+    Ok(index)
+}
+
 #[test]
 fn the_largest_pair_takes_81_pages(rt: HostRuntime) -> Result<(), Fail> {
     let current = largest()?;
     let next = largest()?;
-    assert_eq!(rt; pages(&current, None), 41);
-    let count = pages(&current, Some(&next));
-    assert_eq!(rt; count, 81);
-    let mut place = 0;
-    for k in 0..count {
-        let bytes = page(&current, Some(&next), k, None);
-        for fib in bytes.chunks_exact(32) {
-            place = entries_in(fib, place).ok_or("the next entries, whole and in order")?;
-        }
+    for mode in [Mode::I, Mode::II, Mode::IV] {
+        assert_eq!(rt; pages(mode, &current, None), 41);
+        assert_eq!(rt; pages(mode, &current, Some(&next)), 81);
+        assert_eq!(rt; entries_sent(mode, &current, &next)?, 2 * ENTRIES);
     }
-    assert_eq!(rt; place, 2 * ENTRIES);
+    Ok(())
+}
+
+#[test]
+fn in_mode_iii_it_takes_55(rt: HostRuntime) -> Result<(), Fail> {
+    let current = largest()?;
+    let next = largest()?;
+    assert_eq!(rt; pages(Mode::III, &current, None), 28);
+    assert_eq!(rt; pages(Mode::III, &current, Some(&next)), 55);
+    assert_eq!(rt; entries_sent(Mode::III, &current, &next)?, 2 * ENTRIES);
     Ok(())
 }

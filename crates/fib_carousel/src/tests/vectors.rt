@@ -2,6 +2,7 @@
 
 use crate::tests::fixtures::{one_programme, put_service, row_of_subs};
 use crate::{page, pages};
+use fib_codec::Mode;
 use mux_config::{Config, Ensemble, Sid};
 use std::test::Fail;
 
@@ -55,12 +56,42 @@ const NOTHING: [u8; 96] = [
     0x00, 0x00, 0x00, 0x00, 0x00, 0x00, 0x00, 0x00, 0x00, 0x00, 0x00, 0x00, 0x00, 0x00, 0xA8, 0xA8,
 ];
 
+/// The last of three pages in mode III of sub-channels 0 to 63, and FIG 0/0 of count 0: five, seven, and two FIBs
+/// without entries.
+const LAST_IN_MODE_III: [u8; 128] = [
+    0x05, 0x00, 0xE1, 0xC5, 0x00, 0x00, 0x15, 0x01, 0xD0, 0xD0, 0x8C, 0x04, 0xD4, 0xD4, 0x8C, 0x04,
+    0xD8, 0xD8, 0x8C, 0x04, 0xDC, 0xDC, 0x8C, 0x04, 0xE0, 0xE0, 0x8C, 0x04, 0xFF, 0x00, 0xDB, 0xB8,
+    0x1D, 0x01, 0xE4, 0xE4, 0x8C, 0x04, 0xE8, 0xE8, 0x8C, 0x04, 0xEC, 0xEC, 0x8C, 0x04, 0xF0, 0xF0,
+    0x8C, 0x04, 0xF4, 0xF4, 0x8C, 0x04, 0xF8, 0xF8, 0x8C, 0x04, 0xFC, 0xFC, 0x8C, 0x04, 0x36, 0x79,
+    0xFF, 0x00, 0x00, 0x00, 0x00, 0x00, 0x00, 0x00, 0x00, 0x00, 0x00, 0x00, 0x00, 0x00, 0x00, 0x00,
+    0x00, 0x00, 0x00, 0x00, 0x00, 0x00, 0x00, 0x00, 0x00, 0x00, 0x00, 0x00, 0x00, 0x00, 0xA8, 0xA8,
+    0xFF, 0x00, 0x00, 0x00, 0x00, 0x00, 0x00, 0x00, 0x00, 0x00, 0x00, 0x00, 0x00, 0x00, 0x00, 0x00,
+    0x00, 0x00, 0x00, 0x00, 0x00, 0x00, 0x00, 0x00, 0x00, 0x00, 0x00, 0x00, 0x00, 0x00, 0xA8, 0xA8,
+];
+
+#[test]
+fn sixty_four_sub_channels_in_mode_iii(rt: HostRuntime) -> Result<(), Fail> {
+    let config = row_of_subs(0, 64)?;
+    let ensemble = Ensemble::new(0xE1C5, 0, false, 0, None);
+    assert_eq!(rt; pages(Mode::III, &config, None), 3);
+    assert_eq!(rt;
+        page(Mode::III, &config, None, 2, ensemble).bytes(),
+        &LAST_IN_MODE_III[..]
+    );
+    assert_eq!(rt; pages(Mode::II, &config, None), 4);
+    assert_eq!(rt; pages(Mode::IV, &config, None), 4);
+    Ok(())
+}
+
 #[test]
 fn thirteen_sub_channels(rt: HostRuntime) -> Result<(), Fail> {
     let config = row_of_subs(1, 13)?;
     let ensemble = Ensemble::new(0xE1C5, 0, false, 0, None);
-    assert_eq!(rt; pages(&config, None), 1);
-    assert_eq!(rt; page(&config, None, 0, ensemble), THIRTEEN);
+    assert_eq!(rt; pages(Mode::I, &config, None), 1);
+    assert_eq!(rt;
+        page(Mode::I, &config, None, 0, ensemble).bytes(),
+        &THIRTEEN[..]
+    );
     Ok(())
 }
 
@@ -71,8 +102,8 @@ fn sixty_four_sub_channels(rt: HostRuntime) -> Result<(), Fail> {
     for k in 1..64 {
         crate::tests::fixtures::put_sub(&mut fewer, k, 4 * u16::from(k), 4, 8)?;
     }
-    assert_eq!(rt; pages(&config, None), 4);
-    assert_eq!(rt; pages(&config, Some(&fewer)), 7);
+    assert_eq!(rt; pages(Mode::I, &config, None), 4);
+    assert_eq!(rt; pages(Mode::I, &config, Some(&fewer)), 7);
     Ok(())
 }
 
@@ -80,8 +111,11 @@ fn sixty_four_sub_channels(rt: HostRuntime) -> Result<(), Fail> {
 fn a_service_that_no_first_fib_takes(rt: HostRuntime) -> Result<(), Fail> {
     let mut config = row_of_subs(1, 19)?;
     put_service(&mut config, Sid::Short(0xC221), 1, 12)?;
-    assert_eq!(rt; pages(&config, None), 2);
-    assert_eq!(rt; page(&config, None, 1, None), LARGE_SERVICE);
+    assert_eq!(rt; pages(Mode::I, &config, None), 2);
+    assert_eq!(rt;
+        page(Mode::I, &config, None, 1, None).bytes(),
+        &LARGE_SERVICE[..]
+    );
     Ok(())
 }
 
@@ -90,8 +124,11 @@ fn two_configurations_side_by_side(rt: HostRuntime) -> Result<(), Fail> {
     let current = one_programme(128)?;
     let next = one_programme(96)?;
     let ensemble = Ensemble::new(0xE1C5, 1, false, 4, Some(28));
-    assert_eq!(rt; pages(&current, Some(&next)), 1);
-    assert_eq!(rt; page(&current, Some(&next), 0, ensemble), SIDE_BY_SIDE);
+    assert_eq!(rt; pages(Mode::I, &current, Some(&next)), 1);
+    assert_eq!(rt;
+        page(Mode::I, &current, Some(&next), 0, ensemble).bytes(),
+        &SIDE_BY_SIDE[..]
+    );
     Ok(())
 }
 
@@ -99,7 +136,13 @@ fn two_configurations_side_by_side(rt: HostRuntime) -> Result<(), Fail> {
 fn one_programme_and_nothing(rt: HostRuntime) -> Result<(), Fail> {
     let config = one_programme(128)?;
     let ensemble = Ensemble::new(0xE1C5, 0, false, 0, None);
-    assert_eq!(rt; page(&config, None, 0, ensemble), ONE_PROGRAMME);
-    assert_eq!(rt; page(&Config::new(), None, 0, None), NOTHING);
+    assert_eq!(rt;
+        page(Mode::I, &config, None, 0, ensemble).bytes(),
+        &ONE_PROGRAMME[..]
+    );
+    assert_eq!(rt;
+        page(Mode::I, &Config::new(), None, 0, None).bytes(),
+        &NOTHING[..]
+    );
     Ok(())
 }

@@ -92,6 +92,54 @@ fn one_audio_service(rt: HostRuntime) -> Result<(), Fail> {
     Ok(())
 }
 
+#[test]
+fn an_entry_put_into_a_fig_begun(rt: HostRuntime) -> Result<(), Fail> {
+    let mut fib = Fib::new();
+    let head = Head {
+        next: false,
+        oe: false,
+        long: false,
+        ext: 1,
+    };
+    fib.begin_fig(head, 4);
+    fib.put_entry(&Entry::Sub(SubEntry {
+        id: SubId::new(1).ok_or("a SubChId")?,
+        start: Bits::default(),
+        option: Bits::default(),
+        level: Bits::new(2).ok_or("a level")?,
+        size: Bits::new(96).ok_or("a size")?,
+    }));
+    assert_eq!(rt; fib.data(), [0x05, 0x01, 0x04, 0x00, 0x88, 0x60].as_slice());
+    Ok(())
+}
+
+#[test]
+fn a_service_put_into_a_fig_begun(rt: HostRuntime) -> Result<(), Fail> {
+    let ty = ScTy::new(63).ok_or("a type")?;
+    let sub = SubId::new(1).ok_or("a SubChId")?;
+    let (primary, ca) = (true, false);
+    let mut fib = Fib::new();
+    let head = Head {
+        next: false,
+        oe: false,
+        long: false,
+        ext: 2,
+    };
+    fib.begin_fig(head, 5);
+    fib.begin_service(Sid::Short(0xc221), false, Bits::default(), 1);
+    fib.put_component(ComponentEntry::Sound {
+        ty,
+        sub,
+        primary,
+        ca,
+    });
+    assert_eq!(rt;
+        fib.data(),
+        [0x06, 0x02, 0xc2, 0x21, 0x01, 0x3f, 0x06].as_slice()
+    );
+    Ok(())
+}
+
 /// The service C221 with the packet component 1.
 fn carried() -> Made {
     let scid = ScId::new(1).ok_or("an SCId")?;

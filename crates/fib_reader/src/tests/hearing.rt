@@ -104,25 +104,73 @@ fn entries_before_the_first_ensemble_information(rt: HostRuntime) -> Result<(), 
     Ok(())
 }
 
-#[test]
-fn faults_change_nothing(rt: HostRuntime) -> Result<(), Fail> {
-    let mut listener = listener_of(&WORKED).map_err(|_| "a good FIB")?;
-    for place in 0..32 {
-        for bit in 0..8u32 {
-            let mut fib = fib_of(&WORKED);
-            fib[place] ^= 1u8 << bit;
-            assert_eq!(rt; listener.hear(&fib), Err(ListenFault::Fib(FibFault::Crc)));
+/// Whether two pictures have the same entries, byte for byte, in the same order.
+fn is_same_picture(one: &Picture, other: &Picture) -> bool {
+    let mut others = other.entries();
+    for entry in one.entries() {
+        let Some(second) = others.next() else {
+            return false;
+        };
+        if entry.ext() != second.ext()
+            || entry.long() != second.long()
+            || entry.bytes() != second.bytes()
+        {
+            return false;
         }
     }
-    // a sub-channel, and then half an entry
-    let half = [0x04, 0x01, 0x08, 0x60, 0x45, 0x02, 0x02, 0xC2, 0xFF];
+    others.next().is_none()
+}
+
+/// Whether two listeners know the same: whether they are tuned, both pictures, and the awaited swap.
+fn is_same(one: &Listener, other: &Listener) -> bool {
+    one.is_tuned() == other.is_tuned()
+        && is_same_picture(one.current(), other.current())
+        && is_same_picture(one.next(), other.next())
+        && one.swap_at() == other.swap_at()
+}
+
+/// A listener that has heard the worked example, and then the notice of a swap.
+fn noticed() -> Result<Listener, ListenFault> {
+    let mut listener = listener_of(&WORKED)?;
+    listener.hear(&fib_of(&[
+        0x06, 0x00, 0xE1, 0xC5, 0x40, 0x04, 0x1C, 0x05, 0x81, 0x04, 0x00, 0x88, 0x48, 0xFF,
+    ]))?;
+    Ok(listener)
+}
+
+/// Of a swap, with a sub-channel of each configuration and half an entry after them.
+const HALF: [u8; 21] = [
+    0x05, 0x00, 0xE1, 0xC5, 0x00, 0x1C, 0x05, 0x01, 0x08, 0x60, 0x88, 0x48, 0x05, 0x81, 0x04, 0x00,
+    0x88, 0x30, 0x02, 0x02, 0xC2,
+];
+
+#[test]
+fn faults_change_nothing(rt: HostRuntime) -> Result<(), Fail> {
+    let known = noticed().map_err(|_| "good FIBs")?;
+    assert_eq!(rt; known.swap_at(), Some(0x1C));
+    assert!(rt; has(known.next(), &[(1, 1)]));
+    let mut listener = noticed().map_err(|_| "good FIBs")?;
+    // the swap with a sub-channel of each configuration, in which each bit is turned
+    for place in 0..32 {
+        for bit in 0..8u32 {
+            let mut fib = fib_of(&HALF[..18]);
+            fib[place] ^= 1u8 << bit;
+            assert_eq!(rt; listener.hear(&fib), Err(ListenFault::Fib(FibFault::Crc)));
+            assert!(rt; is_same(&listener, &known));
+        }
+    }
+    // and the same before half an entry
     assert_eq!(rt;
-        listener.hear(&fib_of(&half)),
-        Err(ListenFault::Fib(FibFault::Entry(7)))
+        listener.hear(&fib_of(&HALF)),
+        Err(ListenFault::Fib(FibFault::Entry(20)))
     );
-    assert!(rt; has(listener.current(), &[(1, 1), (2, 0xC221)]));
-    assert!(rt; has(listener.next(), &[]));
-    assert_eq!(rt; listener.swap_at(), None);
+    assert!(rt; is_same(&listener, &known));
+    // without the half entry it is heard
+    let mut whole = HALF;
+    whole[18] = 0xFF;
+    assert_eq!(rt; listener.hear(&fib_of(&whole)), Ok(()));
+    assert!(rt; !is_same(&listener, &known));
+    assert!(rt; has(listener.current(), &[(1, 1), (1, 2)]));
     Ok(())
 }
 
@@ -224,6 +272,78 @@ fn a_picture_has_room_for_64_services(rt: HostRuntime) -> Result<(), Fail> {
     assert_eq!(rt; listener.hear(&fib_of(&service_data(0, 7))), Ok(()));
     assert_eq!(rt; listener.hear(&fib_of(&service_data(0x80, 0x40))), Ok(()));
     assert!(rt; has(listener.next(), &[(2, 0xC240)]));
+    Ok(())
+}
+
+/// A listener that has heard so many services.
+fn with_services(count: u8) -> Result<Listener, ListenFault> {
+    let mut listener = listener_of(&TUNE)?;
+    for sid in 0..count {
+        listener.hear(&fib_of(&service_data(0, sid)))?;
+    }
+    Ok(listener)
+}
+
+#[test]
+fn a_full_picture_hears_what_needs_no_room(rt: HostRuntime) -> Result<(), Fail> {
+    let mut listener = with_services(64).map_err(|_| "good FIBs")?;
+    let mut known = with_services(64).map_err(|_| "good FIBs")?;
+    // one that is known with another entry, and a sub-channel and a packet component that are new
+    let fits = [
+        0x06, 0x02, 0xC2, 0x07, 0x01, 0x3F, 0x06, 0x05, 0x01, 0x04, 0x00, 0x88, 0x60, 0x06, 0x03,
+        0x00, 0x10, 0x3C, 0x14, 0x01, 0xFF,
+    ];
+    assert_eq!(rt; listener.hear(&fib_of(&fits)), Ok(()));
+    let config = listener.current().config().ok_or("a configuration")?;
+    assert_eq!(rt; config.services().len(), 64);
+    assert_eq!(rt; config.subs().len(), 1);
+    assert_eq!(rt; config.packets().len(), 1);
+    // the same once more changes nothing, and neither does a FIB with a 65th one
+    assert_eq!(rt; known.hear(&fib_of(&fits)), Ok(()));
+    assert!(rt; is_same(&listener, &known));
+    assert_eq!(rt; listener.hear(&fib_of(&fits)), Ok(()));
+    assert!(rt; is_same(&listener, &known));
+    let more = [
+        0x06, 0x03, 0x00, 0x20, 0x3C, 0x14, 0x02, 0x06, 0x00, 0xE1, 0xC5, 0x40, 0x08, 0x20, 0x04,
+        0x02, 0xC2, 0x40, 0x00, 0xFF,
+    ];
+    assert_eq!(rt; listener.hear(&fib_of(&more)), Err(ListenFault::Full));
+    assert!(rt; is_same(&listener, &known));
+    Ok(())
+}
+
+#[test]
+fn the_last_places_are_filled(rt: HostRuntime) -> Result<(), Fail> {
+    let mut listener = with_services(61).map_err(|_| "good FIBs")?;
+    // four new ones, of which one comes twice: there is room for three
+    let four = [
+        0x0D, 0x02, 0xC2, 0x50, 0x00, 0xC2, 0x51, 0x00, 0xC2, 0x52, 0x00, 0xC2, 0x53, 0x00, 0xFF,
+    ];
+    assert_eq!(rt; listener.hear(&fib_of(&four)), Err(ListenFault::Full));
+    let mut twice = four;
+    twice[12] = 0x50;
+    assert_eq!(rt; listener.hear(&fib_of(&twice)), Ok(()));
+    let config = listener.current().config().ok_or("a configuration")?;
+    assert_eq!(rt; config.services().len(), 64);
+    assert_eq!(rt; listener.hear(&fib_of(&four)), Err(ListenFault::Full));
+    Ok(())
+}
+
+#[test]
+fn entries_ascend_in_whatever_order_they_come(rt: HostRuntime) -> Result<(), Fail> {
+    let mut listener = listener_of(&TUNE).map_err(|_| "a good FIB")?;
+    // SIds 16 apart
+    for turn in 0u8..64 {
+        let place = turn.wrapping_mul(37) % 64;
+        let data = [0x04, 0x02, 0xC0 + place / 16, place % 16 * 16, 0x00, 0xFF];
+        assert_eq!(rt; listener.hear(&fib_of(&data)), Ok(()));
+    }
+    let mut expected = 0xC000u64;
+    for entry in listener.current().entries() {
+        assert_eq!(rt; entry.identifier(), expected);
+        expected = expected.saturating_add(16);
+    }
+    assert_eq!(rt; expected, 0xC000 + 64 * 16);
     Ok(())
 }
 

@@ -2,7 +2,7 @@
 
 use crate::{
     Code, ContactId, Contacts, CounterId, Counters, DayFrame, Delay, Frames, Instr, Label, Line,
-    Plan, Times,
+    Mode, Plan, Swap, Times,
 };
 use mux_config::Config;
 use std::alloc::{AllocError, Global};
@@ -10,6 +10,7 @@ use std::test::Fail;
 
 const PLAN: Plan = Plan {
     eid: 0xE1C5,
+    mode: Mode::I,
     period: 4,
     notice: 24,
     budget: 20,
@@ -33,7 +34,7 @@ const LABEL: Label = Label {
     pc: 0,
     cur: 0,
     next: 0,
-    pending: None,
+    pending: Swap::Idle,
     counters: Counters(0),
     cost: 1,
 };
@@ -106,7 +107,7 @@ fn limits_of_a_label(rt: HostRuntime) -> Result<(), Fail> {
             rt.alloc(),
             PLAN,
             Label {
-                pending: Some((1, 1)),
+                pending: Swap::Within(1, 1),
                 ..LABEL
             }
         )?
@@ -117,7 +118,7 @@ fn limits_of_a_label(rt: HostRuntime) -> Result<(), Fail> {
             rt.alloc(),
             PLAN,
             Label {
-                pending: Some((0, 1)),
+                pending: Swap::Within(0, 1),
                 ..LABEL
             }
         )?
@@ -128,12 +129,19 @@ fn limits_of_a_label(rt: HostRuntime) -> Result<(), Fail> {
             rt.alloc(),
             PLAN,
             Label {
-                pending: Some((2, 1)),
+                pending: Swap::Within(2, 1),
                 ..LABEL
             }
         )?
         .is_none()
     );
+    let perhaps = |high| Label {
+        pending: Swap::Perhaps(high),
+        ..LABEL
+    };
+    assert!(rt; one(rt.alloc(), PLAN, perhaps(1))?.is_some());
+    assert!(rt; one(rt.alloc(), PLAN, perhaps(65_535))?.is_some());
+    assert!(rt; one(rt.alloc(), PLAN, perhaps(0))?.is_none());
     Ok(())
 }
 

@@ -8,12 +8,13 @@ use std::test::Fail;
 /// A place, the byte that it is changed to, and the fault.
 type Row = (usize, u8, CodeFault);
 
-const SHORT_ROWS: [Row; 27] = [
+const SHORT_ROWS: [Row; 29] = [
     // the header: the letters, the version, the period, the notice, the budget and the three numbers
     (0, 0x45, CodeFault::Magic),
     (3, 0x51, CodeFault::Magic),
     (4, 0, CodeFault::Version),
     (4, 3, CodeFault::Version),
+    (4, 2, CodeFault::Field(5)),
     (7, 0, CodeFault::Field(7)),
     (7, 61, CodeFault::Field(7)),
     (8, 11, CodeFault::Field(8)),
@@ -33,7 +34,8 @@ const SHORT_ROWS: [Row; 27] = [
     // the label: its configurations, the flag and bounds of a swap, its cost
     (22, 1, CodeFault::Field(21)),
     (24, 1, CodeFault::Field(23)),
-    (25, 2, CodeFault::Field(25)),
+    (25, 3, CodeFault::Field(25)),
+    (25, 2, CodeFault::Field(28)),
     (25, 1, CodeFault::Field(26)),
     (27, 1, CodeFault::Field(26)),
     (29, 1, CodeFault::Field(28)),
@@ -63,7 +65,7 @@ const LONG_ROWS: [Row; 18] = [
     (54, 64, CodeFault::Field(54)),
     (61, 0, CodeFault::Field(60)),
     (60, 0xEB, CodeFault::Field(60)),
-    (64, 0x08, CodeFault::Field(64)),
+    (64, 0x09, CodeFault::Field(64)),
     (86, 0x24, CodeFault::Field(86)),
 ];
 
@@ -112,9 +114,9 @@ fn faults_of_labels_and_counters(rt: HostRuntime) {
 /// A place, the byte that it is changed to, where its field ends, and the fault.
 type Cut = (usize, u8, usize, CodeFault);
 
-const CUTS: [Cut; 21] = [
+const CUTS: [Cut; 22] = [
     (0, 0x45, 4, CodeFault::Magic),
-    (4, 2, 5, CodeFault::Version),
+    (4, 3, 5, CodeFault::Version),
     (7, 0, 8, CodeFault::Field(7)),
     (8, 11, 9, CodeFault::Field(8)),
     (9, 0, 10, CodeFault::Field(9)),
@@ -127,7 +129,8 @@ const CUTS: [Cut; 21] = [
     (16, 65, 17, CodeFault::Field(16)),
     (22, 1, 23, CodeFault::Field(21)),
     (24, 1, 25, CodeFault::Field(23)),
-    (25, 2, 26, CodeFault::Field(25)),
+    (25, 3, 26, CodeFault::Field(25)),
+    (25, 2, 30, CodeFault::Field(28)),
     // the least bound, before the greatest
     (25, 1, 28, CodeFault::Field(26)),
     (27, 1, 28, CodeFault::Field(26)),
@@ -137,7 +140,7 @@ const CUTS: [Cut; 21] = [
     (34, 0x24, 35, CodeFault::Field(34)),
 ];
 
-/// The fault of so many bytes at the front.
+/// The fault of this many bytes at the front.
 fn fault_of_front(alloc: Global, bytes: &[u8], length: usize) -> Option<CodeFault> {
     if length > bytes.len() {
         return None;

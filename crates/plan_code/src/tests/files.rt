@@ -2,7 +2,8 @@
 
 use super::{LONG_FILE, LOOP_FILE, SHORT_FILE};
 use crate::{
-    CodeFault, ContactId, CounterId, Counters, Delay, Frames, Instr, Times, decode, encode,
+    CodeFault, ContactId, CounterId, Counters, Delay, Frames, Instr, Mode, Swap, Times, decode,
+    encode,
 };
 use mux_config::{Edit, SubId};
 use std::test::Fail;
@@ -12,6 +13,7 @@ fn a_code_of_one_instruction(rt: HostRuntime) -> Result<(), Fail> {
     let code = decode(rt.alloc(), &SHORT_FILE)?;
     let plan = code.plan();
     assert_eq!(rt; plan.eid, 0xE1C5);
+    assert_eq!(rt; plan.mode, Mode::I);
     assert_eq!(rt; plan.period, 4);
     assert_eq!(rt; plan.notice, 24);
     assert_eq!(rt; plan.budget, 20);
@@ -26,7 +28,7 @@ fn a_code_of_one_instruction(rt: HostRuntime) -> Result<(), Fail> {
     assert_eq!(rt; code.line_at(1), None);
     let label = code.label_at(0).ok_or("a label at 0")?;
     assert_eq!(rt; label.cost, 1);
-    assert_eq!(rt; label.pending, None);
+    assert_eq!(rt; label.pending, Swap::Idle);
     assert_eq!(rt; code.label_at(1), None);
     let bytes = encode(rt.alloc(), &code)?;
     assert_eq!(rt; bytes.as_slice(), SHORT_FILE.as_slice());

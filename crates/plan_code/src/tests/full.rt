@@ -1,6 +1,6 @@
 //! A file with a member of each kind in its tables: what it says, and the first fault of each of its fields.
 
-use crate::{CodeFault, Counters, Instr, decode, encode};
+use crate::{CodeFault, Counters, Instr, Swap, decode, encode};
 use mux_config::{Component, ScId, ScTy, Sid, SubId};
 use std::test::Fail;
 
@@ -80,15 +80,16 @@ const CONFIGURATION_ROWS: [Row; 40] = [
     (66, 0x00, 19),
 ];
 
-const LABEL_ROWS: [Row; 16] = [
+const LABEL_ROWS: [Row; 17] = [
     // the configurations, of which there are two
     (76, 2, 75),
     (75, 1, 75),
     (78, 2, 77),
     (77, 1, 77),
     (89, 2, 88),
-    // whether a swap is pending
-    (79, 2, 79),
+    // whether a swap is pending, and the least bound of one that perhaps is
+    (79, 3, 79),
+    (79, 2, 80),
     (79, 0xFF, 79),
     // the bounds of a swap: the least from 1, the greatest from the least on; zeros where none is pending, and
     // the least is judged first
@@ -102,7 +103,7 @@ const LABEL_ROWS: [Row; 16] = [
     (85, 0, 85),
     (98, 0, 98),
     // the opcode
-    (101, 0x08, 101),
+    (101, 0x09, 101),
 ];
 
 #[test]
@@ -138,13 +139,13 @@ fn its_labels(rt: HostRuntime) -> Result<(), Fail> {
     let first = code.label_at(0).ok_or("a label at 0")?;
     assert_eq!(rt; first.cur, 0);
     assert_eq!(rt; first.next, 1);
-    assert_eq!(rt; first.pending, Some((24, 27)));
+    assert_eq!(rt; first.pending, Swap::Within(24, 27));
     assert_eq!(rt; first.counters, Counters(0b1000_0001));
     assert_eq!(rt; first.cost, 20);
     let last = code.label_at(65_535).ok_or("a label at the end")?;
     assert_eq!(rt; last.cur, 1);
     assert_eq!(rt; last.next, 0);
-    assert_eq!(rt; last.pending, None);
+    assert_eq!(rt; last.pending, Swap::Idle);
     assert_eq!(rt; last.counters, Counters(0));
     assert_eq!(rt; last.cost, 255);
     assert_eq!(rt; code.label_at(1), None);

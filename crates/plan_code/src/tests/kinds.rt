@@ -2,8 +2,8 @@
 
 use super::SHORT_FILE;
 use crate::{
-    Code, ContactId, CounterId, Counters, DayFrame, Delay, Frames, Instr, Label, Line, Plan, Times,
-    decode, encode,
+    Code, ContactId, CounterId, Counters, DayFrame, Delay, Frames, Instr, Label, Line, Mode, Plan,
+    Swap, Times, decode, encode,
 };
 use mux_config::{Carrier, Component, Config, Edit, NewSub, Packet, ScId, ScTy, Sid, Start, SubId};
 use mux_eep::{EepSet, Protection};
@@ -11,7 +11,7 @@ use std::alloc::{AllocError, Global};
 use std::test::Fail;
 
 /// A line of each kind with the number 0, and every operand at its least value.
-const LEAST_LINES: [&[u8]; 21] = [
+const LEAST_LINES: [&[u8]; 22] = [
     &[0x00, 0x00, 0x01, 0x00, 0x01],
     &[0x00, 0x00, 0x02, 0x00, 0x00, 0x00, 0x00],
     &[0x00, 0x00, 0x03, 0x00, 0x00],
@@ -19,6 +19,7 @@ const LEAST_LINES: [&[u8]; 21] = [
     &[0x00, 0x00, 0x05, 0x00, 0x00],
     &[0x00, 0x00, 0x06],
     &[0x00, 0x00, 0x07],
+    &[0x00, 0x00, 0x08],
     &[0x00, 0x00, 0x10, 0x00, 0x00, 0x00, 0x00, 0x01, 0x00, 0x00],
     &[0x00, 0x00, 0x11, 0x00],
     &[0x00, 0x00, 0x12, 0x00, 0x00, 0x00],
@@ -36,7 +37,7 @@ const LEAST_LINES: [&[u8]; 21] = [
 ];
 
 /// A line of each kind with the number 65,535, and every operand at its greatest value.
-const GREATEST_LINES: [&[u8]; 21] = [
+const GREATEST_LINES: [&[u8]; 22] = [
     &[0xFF, 0xFF, 0x01, 0xFF, 0xFF],
     &[0xFF, 0xFF, 0x02, 0x00, 0x36, 0xEE, 0x7F],
     &[0xFF, 0xFF, 0x03, 0x0F, 0x01],
@@ -44,6 +45,7 @@ const GREATEST_LINES: [&[u8]; 21] = [
     &[0xFF, 0xFF, 0x05, 0xFF, 0xFF],
     &[0xFF, 0xFF, 0x06],
     &[0xFF, 0xFF, 0x07],
+    &[0xFF, 0xFF, 0x08],
     &[0xFF, 0xFF, 0x10, 0x3F, 0x03, 0xFF, 0x01, 0x04, 0xFF, 0xFF],
     &[0xFF, 0xFF, 0x11, 0x3F],
     &[0xFF, 0xFF, 0x12, 0x3F, 0x03, 0xFF],
@@ -107,8 +109,8 @@ const GREATEST: Operands = Operands {
     scid: 4095,
 };
 
-/// The seven instructions of waiting and committing.
-fn timing(given: &Operands) -> Option<[Instr; 7]> {
+/// The eight instructions of waiting and committing.
+fn timing(given: &Operands) -> Option<[Instr; 8]> {
     Some([
         Instr::Wait(Frames::new(given.some)?),
         Instr::Until(DayFrame::new(given.day)?),
@@ -120,6 +122,7 @@ fn timing(given: &Operands) -> Option<[Instr; 7]> {
         Instr::CommitAt(given.word),
         Instr::Join,
         Instr::End,
+        Instr::Settle,
     ])
 }
 
@@ -201,6 +204,7 @@ fn append(lines: &mut Vec<Line>, number: u16, instrs: &[Instr]) -> Result<(), Al
 fn code_of(alloc: Global, lines: Vec<Line>) -> Result<Code, Fail> {
     let plan = Plan {
         eid: 0xE1C5,
+        mode: Mode::I,
         period: 4,
         notice: 24,
         budget: 20,
@@ -209,7 +213,7 @@ fn code_of(alloc: Global, lines: Vec<Line>) -> Result<Code, Fail> {
         pc: 0,
         cur: 0,
         next: 0,
-        pending: None,
+        pending: Swap::Idle,
         counters: Counters(0),
         cost: 1,
     };
@@ -220,10 +224,10 @@ fn code_of(alloc: Global, lines: Vec<Line>) -> Result<Code, Fail> {
     Ok(Code::new(plan, configs, labels, lines).ok_or("a code")?)
 }
 
-/// The file of a code of 21 lines with these bytes: the header says so, else it begins as the shortest does.
+/// The file of a code of 22 lines with these bytes: the header says so, else it begins as the shortest does.
 fn file_of(alloc: Global, lines: &[&[u8]]) -> Result<Vec<u8>, AllocError> {
     let mut bytes = SHORT_FILE[..32].to_vec(alloc)?;
-    bytes[15] = 21;
+    bytes[15] = 22;
     for line in lines {
         bytes.extend_from_slice(line)?;
     }

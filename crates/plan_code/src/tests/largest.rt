@@ -1,18 +1,19 @@
 //! The largest tables: 256 configurations, 1,024 labels, 4,096 instructions.
 
-use crate::{Code, Counters, Instr, Label, Line, Plan, decode, encode};
+use crate::{Code, Counters, Instr, Label, Line, Mode, Plan, Swap, decode, encode};
 use mux_config::Config;
 use std::alloc::{AllocError, Global};
 use std::test::Fail;
 
 const PLAN: Plan = Plan {
     eid: 0xE1C5,
+    mode: Mode::I,
     period: 4,
     notice: 24,
     budget: 20,
 };
 
-/// A code of so many empty configurations, labels and instructions, where these are within the limits.
+/// A code of this many empty configurations, labels and instructions, where these are within the limits.
 fn sized(
     alloc: Global,
     config_count: u16,
@@ -36,7 +37,7 @@ fn labels_of(alloc: Global, count: u16) -> Result<Vec<Label>, AllocError> {
             pc,
             cur: pc % 1024 / 4,
             next: 0,
-            pending: None,
+            pending: Swap::Idle,
             counters: Counters(0),
             cost: 1,
         })?;

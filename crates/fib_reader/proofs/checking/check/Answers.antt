@@ -1,10 +1,15 @@
 use Rattle.std.proofs.Common.{◌≡◌, ◌∙◌, refl, sym, ap, length, take, Ok, None, arith}
-use Rattle.fib_reader.specs.Faults.{figs_fault}
+use Rattle.fib_reader.specs.FirstFault.{figs_fault}
+use Rattle.fib_reader.proofs.FigFaults.{found_is_fault}
 use Rattle.fib_reader.proofs.FigLists.{sound_figs, same_figs, no_fault_twice}
 use Rattle.fib_reader.proofs.checking.check.Goals as goal
 
 pub returns-in-Some-clause-every : goal.returns-in-Some-clause-every
 returns-in-Some-clause-every c = λ figs h. absurd (no_fault_twice _ _ _ figs c.in-Some.fault h.1 (sym c.figs_fault_of.ensures ∙ c.in-Some.is))
+
+pub returns-in-Some-clause-fault : goal.returns-in-Some-clause-fault
+returns-in-Some-clause-fault c =
+    found_is_fault _ c.in-Some.fault (c.if-not-is_checked.ensures.0 refl) (sym c.figs_fault_of.ensures ∙ c.in-Some.is)
 
 pub of-requires : goal.of-requires
 of-requires c =

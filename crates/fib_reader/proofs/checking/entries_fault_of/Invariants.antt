@@ -1,6 +1,6 @@
 use Rattle.std.proofs.Common.{◌≡◌, ◌+◌, length}
 use Rattle.fib_reader.proofs.FaultSteps.{LeadsTo}
-use Rattle.fib_reader.specs.Faults.{entries_fault}
+use Rattle.fib_reader.specs.FirstFault.{entries_fault}
 use Rattle.fib_reader.proofs.checking.entries_fault_of.Given as goal
 
 abbrev pub invariant-loop-rest : goal.invariant-loop-rest

@@ -3,12 +3,12 @@ use Rattle.mux_config.specs.Sound.{overlap_with}
 use Rattle.mux_config.proofs.Overlaps.{with_found, with_more}
 use Rattle.mux_config.proofs.sound.overlap_with.Goals as goal
 
-pub returns-then-is_some : goal.returns-then-is_some
-returns-then-is_some g c =
+pub returns-then-overlaps : goal.returns-then-overlaps
+returns-then-overlaps g c =
     let k = g.S.Store.content c.args.store.now in
-    with_found c.args.sub.now k.subs c.loop-place.place c.sub_at.result c.overlap_of-fault.result (overlap_with c.args.sub.now (drop c.args.from k.subs)) c.loop-place.invariant c.sub_at.ensures.value c.overlap_of-fault.ensures (sym c.is_some.ensures ∙ c.if-is_some.true)
+    with_found c.args.sub.now k.subs c.loop-place.place c.sub_at-other.result (overlap_with c.args.sub.now (drop c.args.from k.subs)) c.loop-place.invariant c.sub_at-other.ensures.value (sym c.overlaps.ensures ∙ c.if-overlaps.true)
 
 pub loop-place-preserved : goal.loop-place-preserved
 loop-place-preserved g c =
     let k = g.S.Store.content c.args.store.now in
-    with_more c.args.sub.now k.subs c.loop-place.place c.sub_at.result c.overlap_of-fault.result (overlap_with c.args.sub.now (drop c.args.from k.subs)) c.loop-place.invariant c.sub_at.ensures.value c.overlap_of-fault.ensures (sym c.is_some.ensures ∙ c.if-is_some.false)
+    with_more c.args.sub.now k.subs c.loop-place.place c.sub_at-other.result (overlap_with c.args.sub.now (drop c.args.from k.subs)) c.loop-place.invariant c.sub_at-other.ensures.value (sym c.overlaps.ensures ∙ c.if-overlaps.false)

@@ -1,0 +1,59 @@
+//! `dabplan play`: a plan code played over events, its frames written to a file.
+
+use crate::command_line::PlayRequest;
+use crate::ending::{Failure, Status};
+use crate::files::Files;
+use plan_code::CodeFault;
+use plan_events::EventFault;
+use plan_playback::{RunFault, run};
+use plan_player::Writer;
+use std::alloc::Global;
+use std::io::Write;
+use std::str;
+
+/// Does what `play` is asked for: plays the code over the events, writes the FIBs of each frame to the file, and prints
+/// how many frames were written, or why none were or no more.
+///
+/// The code and the events are read first, and then the file is made, so that it stays as it was where one of them can't
+/// be read. A code or events that are refused leave it empty.
+pub fn show_play<'a, F: Files, W: Write>(
+    alloc: Global,
+    request: &PlayRequest<'a>,
+    files: &mut F,
+    out: &mut W,
+) -> Result<Status, Failure<'a>> {
+    let code = files
+        .read(alloc, request.code)
+        .map_err(|fault| Failure::of_file(fault, request.code))?;
+    let text = files
+        .read(alloc, request.events)
+        .map_err(|fault| Failure::of_file(fault, request.events))?;
+    let Ok(events) = str::from_utf8(text.as_slice()) else {
+        return Err(Failure::Read(request.events));
+    };
+    let file = files
+        .create(request.out)
+        .map_err(|fault| Failure::of_output(fault, request.out))?;
+    let mut sink = Writer::new(file);
+    let ended = run(
+        alloc,
+        code.as_slice(),
+        events,
+        request.count,
+        request.day,
+        request.contacts,
+        &mut sink,
+    );
+    match ended {
+        Ok(frames) => {
+            writeln!(out, "played {frames} frames")?;
+            Ok(Status::Done)
+        }
+        Err(RunFault::Code(CodeFault::Memory)) => Err(Failure::Memory),
+        Err(RunFault::Events(EventFault::Memory)) => Err(Failure::Memory),
+        Err(fault) => {
+            writeln!(out, "{fault}")?;
+            Ok(Status::Refused)
+        }
+    }
+}

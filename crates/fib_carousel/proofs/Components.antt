@@ -1,0 +1,52 @@
+-- The components of a service, one after another in its entry.
+use Rattle.std.proofs.Common.{◌≡◌, ℕ, ◌+◌, ◌*◌, ◌<◌, ◌≤◌, ◌==◌, true, false, List, [], ◌∷◌, ◌++◌, zero, suc, length, take, map, get_or, refl, sym, ◌∙◌, ap, arith, append_assoc, append-nil}
+use Rattle.std.proofs.lemmas.List.{take_more, length-append, length-take-le, map-append}
+use Rattle.std.proofs.lemmas.Bool.{ne_eqb}
+use Rattle.byteorder.specs.Endian.{big_bytes}
+use Rattle.mux_config.specs.declared.parts.Component.{Component}
+use Rattle.mux_config.specs.declared.entry.ComponentEntry.{ComponentEntry}
+use Rattle.mux_config.specs.Facts.{component_entry, component_entries}
+use Rattle.fib_codec.specs.Spelling.{component_word, components_bytes}
+use Rattle.fib_carousel.proofs.Sendable.{length-component_entries}
+use Rattle.fib_codec.proofs.Lengths.{components_len, flat_map-append}
+
+-- one more component behind those before it
+entries_more : (cs : List Component) (i : ℕ) (d : Component) → i < length cs
+    → component_entries (take (i + 1) cs) ≡ component_entries (take i cs) ++ component_entry (i == 0) (get_or cs i d) ∷ []
+entries_more [] i d h = absurd (omega (arith, h))
+entries_more (c ∷ cs) zero d h = refl
+entries_more (c ∷ cs) (suc i) d h =
+    let count : suc i + 1 ≡ suc (i + 1) = omega arith in
+    ap (λ n. component_entries (take n (c ∷ cs))) count
+    ∙ ap (λ xs. component_entry true c ∷ map (component_entry false) xs) (take_more cs i d (omega (arith, h)))
+    ∙ ap (λ ys. component_entry true c ∷ ys) (map-append (component_entry false) (take i cs) (get_or cs i d ∷ []))
+    ∙ ap (λ b. component_entries (take (suc i) (c ∷ cs)) ++ component_entry b (get_or cs i d) ∷ []) (sym (ne_eqb (suc i) 0 (λ q. omega (arith, q))))
+
+pub bytes_more : (old now after : List ℕ) (cs : List Component) (i : ℕ) (d : Component) (entry : ComponentEntry) → i < length cs → d ≡ get_or cs i d
+    → entry ≡ component_entry (i == 0) d → now ≡ old ++ components_bytes (component_entries (take i cs)) → after ≡ now ++ big_bytes 2 (component_word entry)
+    → after ≡ old ++ components_bytes (component_entries (take (i + 1) cs))
+bytes_more old now after cs i d entry lt there is before written =
+    let Word : ComponentEntry → List ℕ = λ e. big_bytes 2 (component_word e) in
+    let so_far : List ComponentEntry = component_entries (take i cs) in
+    let same : entry ≡ component_entry (i == 0) (get_or cs i d) = is ∙ ap (component_entry (i == 0)) there in
+    written
+    ∙ ap (λ xs. xs ++ Word entry) before
+    ∙ append_assoc old (components_bytes so_far) (Word entry)
+    ∙ ap (λ t. old ++ (components_bytes so_far ++ t)) (sym (append-nil (Word entry)))
+    ∙ ap (λ t. old ++ t) (sym (flat_map-append Word so_far (entry ∷ [])))
+    ∙ ap (λ (e : ComponentEntry). old ++ components_bytes (so_far ++ e ∷ [])) same
+    ∙ ap (λ es. old ++ components_bytes es) (sym (entries_more cs i d lt))
+
+-- room for one more
+pub room_for_more : (old now : List ℕ) (cs : List Component) (i : ℕ) → i < length cs → length old + 2 * length cs ≤ 30
+    → now ≡ old ++ components_bytes (component_entries (take i cs)) → length now + 2 ≤ 30
+room_for_more old now cs i lt room before =
+    let long : length now ≡ length old + length (components_bytes (component_entries (take i cs))) =
+    ap length before ∙ length-append old (components_bytes (component_entries (take i cs))) in
+    let words : length (components_bytes (component_entries (take i cs))) ≡ 2 * length (component_entries (take i cs)) = components_len (component_entries (take i cs)) in
+    let count : length (component_entries (take i cs)) ≡ i = length-component_entries (take i cs) ∙ length-take-le i cs (omega (arith, lt)) in
+    omega (arith, long, words, count, lt, room)
+
+-- the entry of a service takes its first bytes and two for each component
+pub service_room : (used sid : ℕ) (cs : List Component) → used + (sid + 1 + 2 * length (component_entries cs)) ≤ 30 → used + sid + 1 + 2 * length cs ≤ 30
+service_room used sid cs room = omega (arith, length-component_entries cs, room)

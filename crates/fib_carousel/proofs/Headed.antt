@@ -1,0 +1,98 @@
+-- A page that is kept, with FIG 0/0 before the FIGs of its first FIB.
+use Rattle.std.proofs.Common.{◌≡◌, ℕ, ◌+◌, ◌-◌, ◌<◌, ◌≤◌, List, [], ◌∷◌, ◌++◌, suc, length, take, drop, map, flat_map, replicate, Some, None, refl, sym, ◌∙◌, ap, inl, inr, arith, append_assoc, lt-ltb, le-ltb, false}
+use Rattle.std.proofs.lemmas.Bool.{cases_lt}
+use Rattle.std.proofs.lemmas.Grind.{flat_map-append}
+use Rattle.std.proofs.lemmas.List.{take_at, drop_at, take-append-le, take-replicate, length-append}
+use Rattle.std.proofs.Math.Seq.{take-append-add}
+use Rattle.mux_config.specs.Entries.{EnsembleInformation}
+use Rattle.mux_config.specs.Facts.{Marked, marked}
+use Rattle.mux_config.specs.declared.entry.Entry.TheVariants.{Ensemble as EnsembleOf}
+use Rattle.fib_codec.specs.Modes.{with_fib}
+use Rattle.fib_codec.specs.Heard.{fib_at}
+use Rattle.fib_codec.specs.Spelling.{Written, entry_size, fig_bytes, figs_bytes, fib_bytes, filled, checked}
+use Rattle.fib_codec.specs.declared.modes.Mode.{Mode}
+use Rattle.fib_codec.proofs.Finished.{length-filled}
+use Rattle.fib_carousel.specs.declared.kept_page.KeptPage.{KeptPage}
+use Rattle.fib_carousel.specs.Packing.{room}
+use Rattle.fib_carousel.specs.Pages.{fib_entries, first_fib, later_fibs}
+use Rattle.fib_carousel.specs.Bytes.{figs_of, ensemble_figs, page_bytes}
+use Rattle.fib_carousel.specs.Kept.{IsKept}
+use Rattle.fib_carousel.proofs.Least.{room_cases}
+use Rattle.fib_carousel.proofs.Sharing.{figs_cost}
+use Rattle.fib_carousel.proofs.Sent.{fib_fits}
+use Rattle.fib_carousel.proofs.Hearing.{ensemble_low, length-fib_bytes, page_fits}
+use Rattle.fib_carousel.proofs.Widths.{first_of_page}
+
+-- bytes before others: what fills the others up fills both up, but for its end
+filled_part : (xs : List ℕ) → length xs < 30 → filled xs ≡ xs ++ 255 ∷ replicate (29 - length xs) 0
+filled_part xs h = rw (lt-ltb (length xs) 30 h) refl
+
+filled_whole : (xs : List ℕ) → 30 ≤ length xs → filled xs ≡ xs
+filled_whole xs h = rw (le-ltb (length xs) 30 h) refl
+
+pub filled_behind : (xs ys : List ℕ) → 1 ≤ length xs → length xs + length ys ≤ 30 → xs ++ take (30 - length xs) (filled ys) ≡ filled (xs ++ ys)
+filled_behind xs ys some fits =
+    let count : length (xs ++ ys) ≡ length xs + length ys = length-append xs ys in
+    let part : filled ys ≡ ys ++ 255 ∷ replicate (29 - length ys) 0 = filled_part ys (omega (arith, some, fits)) in
+    elim (cases_lt (length xs + length ys) 30) [
+      | inl lt ↦
+          let more : 30 - length xs ≡ length ys + suc (29 - (length xs + length ys)) = omega (arith, lt) in
+          let fewer : 29 - (length xs + length ys) ≤ 29 - length ys = omega arith in
+          let zeros : take (29 - (length xs + length ys)) (replicate (29 - length ys) 0) ≡ replicate (29 - (length xs + length ys)) 0 =
+          take-replicate {X = ℕ} (29 - (length xs + length ys)) (29 - length ys) 0 fewer in
+          ap (λ t. xs ++ take (30 - length xs) t) part
+          ∙ ap (λ n. xs ++ take n (ys ++ 255 ∷ replicate (29 - length ys) 0)) more
+          ∙ ap (λ t. xs ++ t) (take-append-add ys (255 ∷ replicate (29 - length ys) 0) (suc (29 - (length xs + length ys))))
+          ∙ ap (λ t. xs ++ (ys ++ 255 ∷ t)) zeros
+          ∙ sym (append_assoc xs ys (255 ∷ replicate (29 - (length xs + length ys)) 0))
+          ∙ ap (λ n. (xs ++ ys) ++ 255 ∷ replicate (29 - n) 0) (sym count)
+          ∙ sym (filled_part (xs ++ ys) (omega (arith, lt, count)))
+      | inr ge ↦
+          ap (λ t. xs ++ take (30 - length xs) t) part
+          ∙ ap (λ t. xs ++ t) (take_at ys (255 ∷ replicate (29 - length ys) 0) (30 - length xs) (omega (arith, ge, fits)))
+          ∙ sym (filled_whole (xs ++ ys) (omega (arith, ge, count)))
+    ]
+
+-- FIG 0/0 at the front of the FIB that has it alone
+pub fig_length : (e : EnsembleInformation) (len : ℕ) → len ≡ entry_size (EnsembleOf e) → 2 + len ≡ length (figs_bytes (ensemble_figs (Some e)))
+fig_length e len h =
+    let all : length (figs_bytes (ensemble_figs (Some e))) ≡ 2 + entry_size (EnsembleOf e) + 0 = figs_cost (marked false (EnsembleOf e) ∷ []) in
+    omega (arith, h, all)
+
+pub fig_front : (figs : List ℕ) (len : ℕ) → len ≡ length figs → len ≤ 7 → take len (checked (filled figs)) ≡ figs
+fig_front figs len h few =
+    let part : filled figs ≡ figs ++ 255 ∷ replicate (29 - length figs) 0 = filled_part figs (omega (arith, h, few)) in
+    let front : take len (filled figs) ≡ figs = ap (λ t. take len t) part ∙ take_at figs (255 ∷ replicate (29 - length figs) 0) len (sym h) in
+    take-append-le len (filled figs) _ (omega (arith, length-filled figs (omega (arith, h, few)), few)) ∙ front
+
+-- the first FIB of a page that is kept, with FIG 0/0
+pub with_fig : (e : EnsembleInformation) (figs : List Written) (first : List ℕ) → first ≡ fib_bytes figs → length (figs_bytes figs) ≤ 23
+    → checked (figs_bytes (ensemble_figs (Some e)) ++ take (30 - length (figs_bytes (ensemble_figs (Some e)))) first) ≡ fib_bytes (ensemble_figs (Some e) ++ figs)
+with_fig e figs first is short =
+    let fig : List ℕ = figs_bytes (ensemble_figs (Some e)) in
+    let own : List ℕ = figs_bytes figs in
+    let few : length fig ≤ 7 = ensemble_low (Some e) in
+    let some : 1 ≤ length fig = omega (arith, fig_length e (entry_size (EnsembleOf e)) refl) in
+    let cut : take (30 - length fig) first ≡ take (30 - length fig) (filled own) =
+    ap (λ t. take (30 - length fig) t) is ∙ take-append-le (30 - length fig) (filled own) _ (omega (arith, length-filled own (omega (arith, short)))) in
+    ap (λ t. checked (fig ++ t)) cut
+    ∙ ap checked (filled_behind fig own some (omega (arith, few, short)))
+    ∙ ap (λ t. checked (filled t)) (sym (flat_map-append (λ (w : Written). fig_bytes w.head w.entries) (ensemble_figs (Some e)) figs))
+
+-- the whole page
+pub kept_with : (mode : Mode) (ms : List Marked) (k : ℕ) (p : KeptPage) (e : EnsembleInformation) (first fib after : List ℕ) → IsKept mode ms k p
+    → first ≡ fib_at p.plain 0 → fib ≡ checked (figs_bytes (ensemble_figs (Some e)) ++ take (30 - length (figs_bytes (ensemble_figs (Some e)))) first)
+    → after ≡ with_fib 0 fib p.plain → after ≡ page_bytes mode (Some e) k ms
+kept_with mode ms k p e first fib after kept at is written =
+    let figs : List Written = figs_of (fib_entries mode (first_fib mode k) ms) in
+    let rest : List ℕ = flat_map fib_bytes (map (λ n. figs_of (fib_entries mode n ms)) (later_fibs mode k)) in
+    let long : length (fib_bytes figs) ≡ 32 = length-fib_bytes figs (page_fits mode None k ms (record { entries = kept.sendable; ensemble_within = tt })).0 in
+    let plain : p.plain ≡ fib_bytes figs ++ rest = kept.plain in
+    let size : length (figs_bytes figs) ≤ room mode (first_fib mode k) = rw (figs_cost (fib_entries mode (first_fib mode k) ms)) (fib_fits mode ms (first_fib mode k) kept.sendable) in
+    let short : length (figs_bytes figs) ≤ 23 =
+    elim (room_cases mode (first_fib mode k)) [ inl c ↦ omega (arith, size, c.1) | inr c ↦ absurd (c.0 (first_of_page mode k)) ] in
+    let whole : first ≡ fib_bytes figs = at ∙ ap (λ t. take 32 t) plain ∙ take_at (fib_bytes figs) rest 32 long in
+    written
+    ∙ ap (λ t. fib ++ drop 32 t) plain
+    ∙ ap (λ t. fib ++ t) (drop_at (fib_bytes figs) rest 32 long)
+    ∙ ap (λ t. t ++ rest) (is ∙ with_fig e figs first whole short)

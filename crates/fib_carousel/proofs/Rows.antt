@@ -1,0 +1,35 @@
+-- The FIBs of a page written one after another.
+use Rattle.std.proofs.Common.{◌≡◌, ℕ, ◌+◌, ◌-◌, ◌*◌, ◌<◌, List, ◌++◌, suc, length, take, map, flat_map, sym, ◌∙◌, ap, arith, append_assoc}
+use Rattle.std.specs.List.{range_with_len}
+use Rattle.std.proofs.lemmas.List.{take_all, append-nil}
+use Rattle.fib_codec.specs.Spelling.{Written, fib_bytes}
+
+-- those that are still to come, from this slot on
+pub fibs_left : (count first slot : ℕ) (figs : ℕ → List Written) → slot < count
+    → flat_map fib_bytes (map figs (range_with_len (first + slot) (count - slot))) ≡ fib_bytes (figs (first + slot)) ++ flat_map fib_bytes (map figs (range_with_len (first + (slot + 1)) (count - (slot + 1))))
+fibs_left count first slot figs h =
+    let more : count - slot ≡ suc (count - (slot + 1)) = omega (arith, h) in
+    let on : first + slot + 1 ≡ first + (slot + 1) = omega arith in
+    ap (λ n. flat_map fib_bytes (map figs (range_with_len (first + slot) n))) more
+    ∙ ap (λ n. fib_bytes (figs (first + slot)) ++ flat_map fib_bytes (map figs (range_with_len n (count - (slot + 1))))) on
+
+pub fib_written : (count first slot : ℕ) (figs : ℕ → List Written) (before after fib whole : List ℕ) → slot < count → fib ≡ fib_bytes (figs (first + slot)) → after ≡ before ++ fib
+    → before ++ flat_map fib_bytes (map figs (range_with_len (first + slot) (count - slot))) ≡ whole
+    → after ++ flat_map fib_bytes (map figs (range_with_len (first + (slot + 1)) (count - (slot + 1)))) ≡ whole
+fib_written count first slot figs before after fib whole h is grown so_far =
+    let rest : List ℕ = flat_map fib_bytes (map figs (range_with_len (first + (slot + 1)) (count - (slot + 1)))) in
+    ap (λ xs. xs ++ rest) grown
+    ∙ append_assoc before fib rest
+    ∙ ap (λ xs. before ++ (xs ++ rest)) is
+    ∙ ap (λ xs. before ++ xs) (sym (fibs_left count first slot figs h))
+    ∙ so_far
+
+pub fibs_done : (count first : ℕ) (figs : ℕ → List Written) (bytes whole : List ℕ) → length bytes ≡ 32 * count
+    → take (32 * count) bytes ++ flat_map fib_bytes (map figs (range_with_len (first + count) (count - count))) ≡ whole → bytes ≡ whole
+fibs_done count first figs bytes whole long h =
+    let none : count - count ≡ 0 = omega arith in
+    let all : take (32 * count) bytes ≡ bytes = take_all (32 * count) bytes (omega (arith, long)) in
+    sym all
+    ∙ sym (append-nil (take (32 * count) bytes))
+    ∙ ap (λ n. take (32 * count) bytes ++ flat_map fib_bytes (map figs (range_with_len (first + count) n))) (sym none)
+    ∙ h

@@ -1,0 +1,7 @@
+use Rattle.std.proofs.Common.{◌≡◌, ◌++◌, take}
+use Rattle.fib_codec.specs.Spelling.{components_bytes}
+use Rattle.mux_config.specs.Facts.{component_entries}
+use Rattle.fib_carousel.proofs.to_entries.put_components.Given as goal
+
+abbrev pub invariant-loop-place : goal.invariant-loop-place
+invariant-loop-place l = l.fib ≡ l.fn.fib ++ components_bytes (component_entries (take l.place l.components))

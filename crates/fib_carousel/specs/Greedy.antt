@@ -1,0 +1,43 @@
+-- The rule that computes the packing. No public contract needs it to be believed: the laws below say that its
+-- result is the packing, and that a list has no other.
+use Rattle.std.specs.Prelude.{ℕ, ◌+◌, ◌≤◌, List, [], ◌∷◌, Some, None, if◌then◌else◌, nat_le}
+use Rattle.mux_config.specs.Facts.{Marked}
+use Rattle.fib_codec.specs.Spelling.{head_of}
+use Rattle.fib_codec.specs.declared.modes.Mode.{Mode}
+use Rattle.fib_carousel.specs.declared.pack_state.PackState.{PackState}
+use Rattle.fib_carousel.specs.Packing.{room, size_of, cost, IsDivision, IsPacking, AreSmall, last_number, rounds_of}
+
+-- before the first entry
+abbrev pub start : PackState
+start = record { fib = 0; used = 0; head = None }
+
+-- an entry in the FIB of the one before it, and as the first of FIB n
+abbrev pub extended : Marked → PackState → PackState
+extended e p = record { fib = p.fib; used = p.used + cost p.head e; head = Some (head_of e) }
+
+abbrev pub opened : Marked → ℕ → PackState
+opened e n = record { fib = n; used = 2 + size_of e; head = Some (head_of e) }
+
+-- an entry goes into the FIB of the entry before it where it fits, else into the next FIB in which it fits: of
+-- two successive FIBs one is no page's first
+abbrev pub placed : Mode → Marked → PackState → PackState
+placed mode e p =
+    if nat_le (p.used + cost p.head e) (room mode p.fib) then extended e p
+    else (if nat_le (2 + size_of e) (room mode (p.fib + 1)) then opened e (p.fib + 1) else opened e (p.fib + 2))
+
+abbrev pub numbers_from : Mode → PackState → List Marked → List ℕ
+numbers_from mode p [] = []
+numbers_from mode p (e ∷ es) = (placed mode e p).fib ∷ numbers_from mode (placed mode e p) es
+
+abbrev pub packing : Mode → List Marked → List ℕ
+packing mode es = numbers_from mode start es
+
+-- the rule gives the packing of every list that has a division
+abbrev pub GreedyIsPacking : Type 0
+GreedyIsPacking = (mode : Mode) (es : List Marked) → AreSmall es → IsPacking mode es (packing mode es)
+
+-- no division takes fewer FIBs or fewer pages
+abbrev pub NoFewer : Type 0
+NoFewer =
+    (mode : Mode) (es : List Marked) (ms : List ℕ) → IsDivision mode es ms
+    → (last_number 0 (packing mode es) ≤ last_number 0 ms) × (rounds_of mode (packing mode es) ≤ rounds_of mode ms)

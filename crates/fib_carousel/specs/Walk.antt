@@ -1,0 +1,60 @@
+-- How far the list of entries was walked, and where a cursor stands. No public contract needs the record Position
+-- to be believed: a cursor stands at page 0 when it is new, and each page moves it to the page after it.
+use Rattle.std.specs.Prelude.{◌≡◌, ℕ, ◌-◌, ◌*◌, ◌<◌, ◌≤◌, ◌⊎◌, List, flat_map, take, drop, length, slice_get, Some}
+use Rattle.mux_config.specs.Facts.{Marked}
+use Rattle.fib_codec.specs.Spelling.{head_of, entry_bytes}
+use Rattle.fib_codec.specs.declared.modes.Mode.{Mode}
+use Rattle.fib_carousel.specs.declared.pack_state.EntryShape.{EntryShape}
+use Rattle.fib_carousel.specs.declared.pack_state.Position.{Position}
+use Rattle.fib_carousel.specs.declared.pack_state.EntryRange.{EntryRange}
+use Rattle.fib_carousel.specs.declared.page_cursor.Cursor.{Cursor}
+use Rattle.fib_carousel.specs.Packing.{size_of, entries_in_fib, last_number}
+use Rattle.fib_carousel.specs.Greedy.{numbers_from, packing}
+use Rattle.fib_carousel.specs.Pages.{fib_entries, first_fib, rounds}
+
+-- the entry at an index has this head and this size
+pub record IsShapeAt (ms : List Marked) (index : ℕ) (shape : EntryShape) : Type 0 where
+  pub entry : Marked
+  pub here : slice_get ms index ≡ Some entry
+  pub head : shape.head ≡ head_of entry
+  pub size : shape.size ≡ size_of entry
+
+-- the entries of a range of the list
+abbrev pub entries_of_range : EntryRange → List Marked → List Marked
+entries_of_range r ms = take (r.to - r.from) (drop r.from ms)
+
+-- their bytes one after another, as they stand in a FIG
+abbrev pub bytes_of_range : EntryRange → List Marked → List ℕ
+bytes_of_range r ms = flat_map (λ (m : Marked). entry_bytes m.entry) (entries_of_range r ms)
+
+-- from the position on, the rule gives FIB n and the later ones what the packing gives them
+pub record StandsBefore (mode : Mode) (ms : List Marked) (n : ℕ) (p : Position) : Type 0 where
+  pub index : p.index ≤ length ms
+  pub used : p.state.used ≤ 30
+  pub fib : p.state.fib ≤ 2 * p.index
+  pub below : p.state.fib ≤ n
+  pub rest : (m : ℕ) → n ≤ m → entries_in_fib m (drop p.index ms) (numbers_from mode p.state (drop p.index ms)) ≡ fib_entries mode m ms
+  pub last : last_number p.state.fib (numbers_from mode p.state (drop p.index ms)) ≡ last_number 0 (packing mode ms)
+
+-- behind FIB n no entry is left, or the entries that are left go past it
+pub record HasPassed (mode : Mode) (ms : List Marked) (n : ℕ) (p : Position) : Type 0 where
+  pub fib : p.state.fib ≤ n
+  pub left : (p.index ≡ length ms) ⊎ (n < last_number 0 (packing mode ms))
+
+-- the page at which a cursor stands
+abbrev pub cursor_page : Cursor → ℕ
+cursor_page c = c.page
+
+-- that is a page of these entries, and the cursor's place in the list is where it starts
+pub record Stands (mode : Mode) (ms : List Marked) (c : Cursor) : Type 0 where
+  pub within : cursor_page c < rounds mode ms
+  pub before : StandsBefore mode ms (first_fib mode (cursor_page c)) c.position
+
+-- the cursor stands at page k of these entries
+abbrev pub StandsAt : Mode → List Marked → ℕ → Cursor → Type 0
+StandsAt mode ms k c = Stands mode ms c × (cursor_page c ≡ k)
+
+-- it stands at page 0, whatever the entries are
+pub record IsStart (c : Cursor) : Type 0 where
+  pub page : cursor_page c ≡ 0
+  pub stands : (mode : Mode) (ms : List Marked) → Stands mode ms c

@@ -1,0 +1,90 @@
+//! The entries that wait to be packed, and the division of them by the packing's rule.
+
+ghost use Rattle.std.specs.Prelude.{◌≡◌, ℕ, ◌+◌, ◌-◌, ◌<◌, ◌≤◌, ◌^◌, List, length, slice_get, Some};
+ghost use Rattle.mux_config.specs.Facts.{Marked};
+ghost use Rattle.fib_carousel.specs.Pages.{rounds, fib_entries};
+ghost use Rattle.fib_carousel.specs.Walk.{StandsBefore, HasPassed, entries_of_range};
+
+use crate::pack_state::{EntryRange, EntryShape, PackState, Position};
+use fib_codec::{Fib, Mode};
+
+/// A list of entries in the order in which they are packed.
+pub(crate) trait EntryList {
+    ghost use Rattle.std.specs.Prelude.{List, ◌++◌};
+    ghost use Rattle.mux_config.specs.Facts.{Marked};
+    ghost use Rattle.fib_codec.specs.Spelling.{entry_bytes};
+    ghost use Rattle.fib_carousel.specs.Packing.{size_of};
+    ghost use Rattle.fib_carousel.specs.Carried.{AreSendable};
+    ghost use Rattle.fib_carousel.specs.Walk.{IsShapeAt};
+
+    ghost entries: { Self → List Marked };
+
+    /// How many entries there are.
+    fn len(&self) -> u16
+        ensures count { result ≡ length (entries self.now) }
+        ensures sendable { AreSendable (entries self.now) };
+
+    /// The head and the size of the entry at an index.
+    fn shape(&self, index: u16) -> EntryShape
+        requires { index < length (entries self.now) }
+        ensures value { IsShapeAt (entries self.now) index result }
+        ensures small { result.size ≤ 28 };
+
+    /// Appends the entry at an index to a FIB that has room for it.
+    fn put(&self, index: u16, fib: &mut Fib)
+        requires here { index < length (entries self.now) }
+        requires room { (m : Marked) → slice_get (entries self.now) index ≡ Some m
+            → length fib.old + size_of m ≤ 30 }
+        ensures { (m : Marked)
+            × (slice_get (entries self.now) index ≡ Some m) × (fib.new ≡ fib.old ++ entry_bytes m.entry) };
+}
+
+/// How many pages the entries of a list take, at least 1.
+pub(crate) fn pages<L: EntryList>(list: &L, mode: Mode) -> usize
+    ensures { result ≡ rounds mode (L.entries list.now) }
+{
+    let mut state = PackState::start();
+    for index in 0..list.len() {
+        state = state.then(mode, list.shape(index));
+    }
+    state.fib / mode.fibs() + 1
+}
+
+/// The entries of FIB `fib` of the row of pages, from the position on, which then stands behind them. The list
+/// has `len` entries.
+pub(crate) fn fib_range<L: EntryList>(
+    list: &L,
+    len: u16,
+    mode: Mode,
+    position: &mut Position,
+    fib: usize,
+) -> EntryRange
+    requires count { len ≡ length (L.entries list.now) }
+    requires stands { StandsBefore mode (L.entries list.now) fib position.old }
+    ensures entries { let ms = L.entries list.now in
+        entries_of_range result ms ≡ fib_entries mode fib ms }
+    ensures order { result.from ≤ result.to }
+    ensures end { result.to ≤ length (L.entries list.now) }
+    ensures next { StandsBefore mode (L.entries list.now) (fib + 1) position.new }
+    ensures passed { HasPassed mode (L.entries list.now) fib position.new }
+{
+    let mut from = position.index;
+    'entries: while position.index < len {
+        let state = position.state.then(mode, list.shape(position.index));
+        if state.fib > fib {
+            return EntryRange {
+                from,
+                to: position.index,
+            };
+        }
+        position.index += 1;
+        position.state = state;
+        if state.fib < fib {
+            from = position.index;
+        }
+    }
+    EntryRange {
+        from,
+        to: position.index,
+    }
+}

@@ -1,0 +1,140 @@
+//! How far the packing has come.
+
+ghost use Rattle.std.specs.Prelude.{◌≡◌, ◌+◌, ◌<◌, ◌≤◌, ◌^◌};
+ghost use Rattle.mux_config.specs.Facts.{Marked};
+ghost use Rattle.fib_codec.specs.Spelling.{head_of};
+ghost use Rattle.fib_carousel.specs.Packing.{cost, room, same_head, size_of};
+ghost use Rattle.fib_carousel.specs.Greedy.{start, placed};
+
+use fib_codec::{Head, Mode};
+
+/// What the packing needs to know of an entry: the head of the FIG that it goes into, and its bytes.
+#[derive(Clone, Copy, Debug, PartialEq, Eq)]
+pub(crate) struct EntryShape {
+    /// The head that its FIG has.
+    pub head: Head,
+    /// How many bytes it takes.
+    pub size: u8,
+}
+
+/// Where the entry before stands: the number of its FIB in the row of pages, the bytes of that FIB that are
+/// taken so far, and the head of its FIG. No head stands at the start, before the first entry.
+#[derive(Clone, Copy, Debug, PartialEq, Eq)]
+pub(crate) struct PackState {
+    /// The number of the FIB, from 0.
+    pub fib: usize,
+    /// The bytes taken by the FIGs of this FIB so far, FIG 0/0 apart: at most 30.
+    pub used: u8,
+    /// The head of the last FIG; None where no entry was placed.
+    pub head: Option<Head>,
+}
+
+/// How far the list was walked: the index of the next entry, and where the one before it stands.
+#[derive(Clone, Copy, Debug, PartialEq, Eq)]
+pub(crate) struct Position {
+    /// The index of the next entry, from 0.
+    pub index: u16,
+    /// Where the entry before it stands.
+    pub state: PackState,
+}
+
+/// Some successive entries of the list.
+#[derive(Clone, Copy, Debug, PartialEq, Eq)]
+pub(crate) struct EntryRange {
+    /// The index of the first one.
+    pub from: u16,
+    /// The index after that of the last one.
+    pub to: u16,
+}
+
+/// The bytes that the FIGs of entries may take in a FIB of the row. The first FIB of a page leaves 7 bytes
+/// to FIG 0/0, also where none is sent.
+pub(crate) fn room(mode: Mode, fib: usize) -> u8
+    ensures value { result ≡ room mode fib }
+    ensures bound { result ≤ 30 }
+{
+    if fib % mode.fibs() == 0 { 23 } else { 30 }
+}
+
+/// Whether two entries can share a FIG.
+pub(crate) fn same_head(one: Head, other: Head) -> bool
+    ensures { result ≡ same_head one other }
+{
+    one.next == other.next && one.oe == other.oe && one.long == other.long && one.ext == other.ext
+}
+
+impl PackState {
+    /// The state before the first entry.
+    pub(crate) fn start() -> PackState
+        ensures { result ≡ start }
+    {
+        PackState {
+            fib: 0,
+            used: 0,
+            head: None,
+        }
+    }
+
+    /// What an entry takes behind this one in the same FIB.
+    pub(crate) fn cost(self, shape: EntryShape) -> u8
+        requires { shape.size ≤ 28 }
+        ensures value { (m : Marked)
+            → shape.head ≡ head_of m → shape.size ≡ size_of m → result ≡ cost self.head m }
+        ensures bound { result ≤ 30 }
+    {
+        match self.head {
+            Some(head) => {
+                if same_head(head, shape.head) {
+                    shape.size
+                } else {
+                    2 + shape.size
+                }
+            }
+            None => 2 + shape.size,
+        }
+    }
+
+    /// The state with the next entry placed: in the same FIB where it fits, else in the next FIB in which it fits.
+    pub(crate) fn then(self, mode: Mode, shape: EntryShape) -> PackState
+        requires small { shape.size ≤ 28 }
+        requires used { self.used ≤ 30 }
+        requires fib { self.fib < 2 ^ 32 }
+        ensures value { (m : Marked)
+            → shape.head ≡ head_of m → shape.size ≡ size_of m → result ≡ placed mode m self }
+        ensures used { result.used ≤ 30 }
+        ensures from { self.fib ≤ result.fib }
+        ensures to { result.fib ≤ self.fib + 2 }
+    {
+        let used = self.used + self.cost(shape);
+        if used <= room(mode, self.fib) {
+            return PackState {
+                fib: self.fib,
+                used,
+                head: Some(shape.head),
+            };
+        }
+        let fib = if 2 + shape.size <= room(mode, self.fib + 1) {
+            self.fib + 1
+        } else {
+            self.fib + 2
+        };
+        PackState {
+            fib,
+            used: 2 + shape.size,
+            head: Some(shape.head),
+        }
+    }
+}
+
+impl Position {
+    /// Before the first entry.
+    pub(crate) fn start() -> Position
+        ensures index { result.index ≡ 0 }
+        ensures state { result.state ≡ start }
+    {
+        Position {
+            index: 0,
+            state: PackState::start(),
+        }
+    }
+}

@@ -1,0 +1,103 @@
+//! The entries that say what a configuration consists of: one of FIG 0/1 for each sub-channel, one of FIG 0/2
+//! for each service, and one of FIG 0/3 for each packet component (EN 300 401 clauses 6.2.1, 6.3.1 and 6.3.2).
+
+ghost use Rattle.std.specs.Prelude.{◌≡◌, ◌+◌, ◌*◌, ◌<◌, ◌≤◌, ◌^◌, ◌++◌, length};
+ghost use Rattle.fib_codec.specs.Spelling.{components_bytes, entry_bytes, entry_size};
+ghost use Rattle.mux_config.specs.Configuration.{IsPlaced, IsService, IsAddressed};
+ghost use Rattle.mux_config.specs.Facts.{sub_entry, service_entry, packet_entry, component_entry, component_entries};
+
+use fib_codec::Fib;
+use mux_config::{
+    Bits, Component, ComponentEntry, Entry, Packet, PacketEntry, Service, Sub, SubEntry,
+};
+use mux_eep::{EepSet, size_of};
+
+/// The field of this value, which is within its bits.
+fn field<const WIDTH: u32>(value: u16) -> Bits<WIDTH>
+    requires { value < 2 ^ WIDTH }
+    ensures { result ≡ value }
+{
+    Bits::new(value).unwrap_or_default()
+}
+
+/// The entry of a sub-channel, in the long form.
+pub(crate) fn sub_entry(sub: Sub) -> Entry
+    requires { IsPlaced sub }
+    ensures { result ≡ sub_entry sub }
+{
+    let option = match sub.protection.set() {
+        EepSet::A => 0,
+        EepSet::B => 1,
+    };
+    let size = match size_of(sub.protection, sub.kbits) {
+        Ok(size) => size,
+        Err(_) => 0,
+    };
+    Entry::Sub(SubEntry {
+        id: sub.id,
+        start: field(sub.start),
+        option: field(option),
+        level: field(u16::from(sub.protection.level() - 1)),
+        size: field(size),
+    })
+}
+
+/// What FIG 0/2 says of a component, with its P/S flag.
+fn component_entry(primary: bool, component: Component) -> ComponentEntry
+    ensures { result ≡ component_entry primary component }
+{
+    let ca = false;
+    match component {
+        Component::Sound { ty, sub } => ComponentEntry::Sound {
+            ty,
+            sub,
+            primary,
+            ca,
+        },
+        Component::Stream { ty, sub } => ComponentEntry::Stream {
+            ty,
+            sub,
+            primary,
+            ca,
+        },
+        Component::Packet { scid } => ComponentEntry::Packet { scid, primary, ca },
+    }
+}
+
+/// Appends the components of a service, of which the first is the primary one, to its entry.
+fn put_components(fib: &mut Fib, components: &[Component])
+    requires { length fib.old + 2 * length components.now ≤ 30 }
+    ensures { fib.new ≡ fib.old ++ components_bytes (component_entries components.now) }
+{
+    for (place, component) in components.iter().enumerate() {
+        fib.put_component(component_entry(place == 0, *component));
+    }
+}
+
+/// Appends the entry of a service to a FIB that has room for it.
+pub(crate) fn put_service(fib: &mut Fib, service: &Service)
+    requires service { IsService service.now }
+    requires room { length fib.old + entry_size (service_entry service.now) ≤ 30 }
+    ensures { fib.new ≡ fib.old ++ entry_bytes (service_entry service.now) }
+{
+    let count = service.components.len();
+    fib.begin_service(service.sid, false, Bits::default(), count);
+    put_components(fib, service.components.as_slice());
+}
+
+/// The entry of a packet component.
+pub(crate) fn packet_entry(packet: Packet) -> Entry
+    requires { IsAddressed packet }
+    ensures { result ≡ packet_entry packet }
+{
+    Entry::Packet(PacketEntry {
+        scid: packet.scid,
+        rfa: Bits::default(),
+        dg: packet.dg,
+        rfu: false,
+        ty: packet.ty,
+        sub: packet.sub,
+        address: field(packet.address),
+        ca_org: None,
+    })
+}

@@ -1,0 +1,65 @@
+-- Frames of FIBs: the law of steps, and that a FIB written into a frame leaves the others as they were.
+use Rattle.std.proofs.Common.{◌≡◌, ℕ, ◌+◌, ◌*◌, ◌≤◌, List, ◌++◌, length, take, drop, arith, refl, sym, ap, ◌∙◌, length-append, take-append-drop, length-take-le}
+use Rattle.std.proofs.Math.Seq.{take-append_seam, drop-append_seam}
+use Rattle.std.proofs.lemmas.List.{take-append-le, drop-append-le, length-drop, append_assoc}
+use Rattle.fib_codec.specs.Modes.{StepsDivide, IsInFrame, with_fib}
+use Rattle.fib_codec.specs.declared.modes.Mode.TheVariants.{I, II, III, IV}
+
+pub steps_divide : StepsDivide
+steps_divide I = (refl, omega arith, omega arith)
+steps_divide II = (refl, omega arith, omega arith)
+steps_divide III = (refl, omega arith, omega arith)
+steps_divide IV = (refl, omega arith, omega arith)
+
+-- bytes with others written over the 32 from an offset on
+abbrev pub over : List ℕ → ℕ → List ℕ → List ℕ
+over xs at fib = take at xs ++ (fib ++ drop (at + 32) xs)
+
+over_front : (front rest fib : List ℕ) (at : ℕ) → at + 32 ≤ length front
+    → over (front ++ rest) at fib ≡ over front at fib ++ rest
+over_front front rest fib at fits =
+    ap (λ t. t ++ (fib ++ drop (at + 32) (front ++ rest))) (take-append-le at front rest (omega (arith, fits)))
+    ∙ ap (λ t. take at front ++ (fib ++ t)) (drop-append-le (at + 32) front rest fits)
+    ∙ ap (λ t. take at front ++ t) (sym (append_assoc fib (drop (at + 32) front) rest))
+    ∙ sym (append_assoc (take at front) (fib ++ drop (at + 32) front) rest)
+
+over_length : (xs fib : List ℕ) (at : ℕ) → at + 32 ≤ length xs → length fib ≡ 32
+    → length (over xs at fib) ≡ length xs
+over_length xs fib at fits whole =
+    omega (arith, fits, whole, length-append (take at xs) (fib ++ drop (at + 32) xs), length-append fib (drop (at + 32) xs), length-take-le at xs (omega (arith, fits)), length-drop (at + 32) xs)
+
+-- the bytes of a frame and what stands behind it, after a FIB was written into it
+pub record IsOver (size at : ℕ) (bytes fib : List ℕ) : Type 0 where
+  pub frame : take size (over bytes at fib) ≡ over (take size bytes) at fib
+  pub kept : IsInFrame size (over bytes at fib)
+  pub whole : length (over (take size bytes) at fib) ≡ length (take size bytes)
+
+pub written_over : (size at : ℕ) (bytes fib : List ℕ) → IsInFrame size bytes → at + 32 ≤ length (take size bytes)
+    → length fib ≡ 32 → IsOver size at bytes fib
+written_over size at bytes fib is fits whole =
+    let front = take size bytes in
+    let rest = drop size bytes in
+    let same : over bytes at fib ≡ over front at fib ++ rest =
+    ap (λ xs. over xs at fib) (sym (take-append-drop size bytes)) ∙ over_front front rest fib at fits in
+    let len : length front ≡ size = length-take-le size bytes (omega (arith, is.within, is.whole)) in
+    let kept : length (over front at fib) ≡ length front = over_length front fib at fits whole in
+    let long : length (over bytes at fib) ≡ length bytes =
+    over_length bytes fib at (omega (arith, fits, len, is.within, is.whole)) whole in
+    let end : length (over front at fib) ≡ size = kept ∙ len in
+    record {
+      frame = ap (take size) same ∙ ap (λ n. take n (over front at fib ++ rest)) (sym end) ∙ take-append_seam (over front at fib) rest;
+      kept = record {
+        mode = is.mode;
+        within = is.within;
+        whole = long ∙ is.whole;
+        rest = ap (drop size) same ∙ ap (λ n. drop n (over front at fib ++ rest)) (sym end) ∙ drop-append_seam (over front at fib) rest ∙ is.rest;
+      };
+      whole = kept;
+    }
+
+-- as the index of a FIB and a definition say it
+pub written_fib : (size index : ℕ) (bytes fib new : List ℕ) → IsOver size (32 * index) bytes fib
+    → new ≡ over bytes (32 * index) fib → take size new ≡ with_fib index fib (take size bytes)
+written_fib size index bytes fib new is same =
+    ap (take size) same ∙ is.frame
+    ∙ sym (append_assoc (take (32 * index) (take size bytes)) fib (drop (32 * index + 32) (take size bytes)))

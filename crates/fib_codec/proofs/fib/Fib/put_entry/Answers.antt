@@ -1,0 +1,12 @@
+use Rattle.std.proofs.Common.{◌≡◌, ◌+◌, length, ap, ◌∙◌, arith, length-append}
+use Rattle.fib_codec.specs.Spelling.{entry_bytes, entry_size}
+use Rattle.fib_codec.proofs.Lengths.{entry_length}
+use Rattle.fib_codec.proofs.fib.Fib.put_entry.Goals as goal
+
+pub invariant_of-self : goal.invariant_of-self
+invariant_of-self c =
+    let size : length (entry_bytes c.args.entry.now) ≡ entry_size c.args.entry.now = entry_length c.args.entry.now in
+    let grown : length c.put_entry.new.out.items ≡ length c.self.inside.bytes.items + length (entry_bytes c.args.entry.now) =
+    ap length c.put_entry.ensures.written ∙ length-append c.self.inside.bytes.items (entry_bytes c.args.entry.now) in
+    let before : length c.self.inside.bytes.items ≡ length c.args.self.now = ap length c.self.view_is in
+    omega (arith, size, grown, before, c.requires)

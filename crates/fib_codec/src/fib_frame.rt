@@ -1,0 +1,91 @@
+//! The FIBs of one frame.
+
+ghost use Rattle.std.specs.Prelude.{◌≡◌, ◌+◌, ◌*◌, ◌≤◌, ◌<◌, ◌++◌, ◌↔◌, length, take, drop, replicate, IsSome, IfSome};
+ghost use Rattle.fib_codec.specs.Modes.{fib_count, with_fib};
+ghost use Rattle.fib_codec.specs.Heard.{fib_at};
+
+use crate::modes::Mode;
+use std::marker::Model;
+
+/// The most FIBs that a frame has, those of mode III.
+const MOST_FIBS: usize = 4;
+
+/// The FIBs of one CIF one after another, 96 bytes and in mode III 128 (EN 300 401 clause 5.1). Contracts
+/// see the list of these bytes.
+#[derive(Clone, Copy, Debug, PartialEq, Eq)]
+pub struct FibFrame {
+    bytes: [u8; 32 * MOST_FIBS],
+    len: usize,
+}
+
+impl Model for FibFrame {
+    ghost use Rattle.std.specs.Prelude.{List, ℕ, length, ◌-◌, ◌++◌, take, replicate};
+    ghost use Rattle.std.proofs.Common.{arith, ap, sym, ◌∙◌, take-append-drop, length-take-le};
+    ghost use Rattle.fib_codec.specs.Modes.{IsInFrame};
+
+    ghost Value = { List ℕ };
+
+    ghost view = { λ f. take f.len f.bytes };
+
+    ghost invariant = { λ f. IsInFrame f.len f.bytes };
+
+    ghost inverse = { λ l. record { bytes = l ++ replicate (128 - length l) 0; len = length l } };
+
+    ghost inverse_ok = { λ f h i.
+        let len = length-take-le f.len f.bytes (omega (arith, h.within, h.whole)) in
+        record {
+          bytes = (ap (λ n. take f.len f.bytes ++ replicate (128 - n) 0) len
+              ∙ ap (λ t. take f.len f.bytes ++ t) (sym h.rest) ∙ take-append-drop f.len f.bytes) i;
+          len = len i;
+        } };
+}
+
+/// Writes a FIB over the 32 bytes from an offset on.
+fn write_at(bytes: &mut [u8], offset: usize, fib: &[u8; 32])
+    requires { offset + 32 ≤ length bytes.old }
+    ensures { bytes.new ≡ take offset bytes.old ++ (fib.now ++ drop (offset + 32) bytes.old) }
+{
+    bytes[offset..offset + 32].copy_from_slice(fib);
+}
+
+impl FibFrame {
+    /// A frame of this mode whose bytes are all 0, for FIBs to be written into.
+    pub fn new(mode: Mode) -> FibFrame
+        ensures { result ≡ replicate (32 * fib_count mode) 0 }
+    {
+        FibFrame {
+            bytes: [0; 32 * MOST_FIBS],
+            len: 32 * mode.fibs(),
+        }
+    }
+
+    /// Writes a FIB over the one at this index, from 0.
+    pub fn write_fib(&mut self, index: usize, fib: &[u8; 32])
+        requires { 32 * index + 32 ≤ length self.old }
+        ensures written { self.new ≡ with_fib index fib.now self.old }
+        ensures front { take (32 * index + 32) self.new ≡ take (32 * index) self.old ++ fib.now }
+        ensures size { length self.new ≡ length self.old }
+    {
+        write_at(&mut self.bytes, 32 * index, fib);
+    }
+
+    /// The bytes of all its FIBs, in order.
+    pub fn bytes(&self) -> &[u8]
+        ensures value { result.now ≡ self.now }
+        ensures size { length self.now ≤ 128 }
+    {
+        &self.bytes[..self.len]
+    }
+
+    /// The FIB at this index, from 0; None where the frame has no such one.
+    pub fn fib(&self, index: usize) -> Option<&[u8; 32]>
+        ensures found { IsSome result ↔ (32 * index + 32 ≤ length self.now) }
+        ensures value { IfSome result (λ fib. fib.now ≡ fib_at self.now index) }
+    {
+        if index >= self.len / 32 {
+            return None;
+        }
+        let (_, rest) = self.bytes().split_at(32 * index);
+        rest.first_chunk::<32>()
+    }
+}

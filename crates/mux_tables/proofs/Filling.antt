@@ -1,0 +1,79 @@
+-- Sub-channels are taken in one after another, and out again.
+use Rattle.std.proofs.Common.{◌≡◌, ℕ, zero, suc, ◌+◌, ◌%◌, ◌<◌, ◌==◌, true, false, ltb, List, [], ◌∷◌, take, drop, length, Option, Some, None, IfSome, slice_get, get_or, refl, sym, ap, ◌∙◌, subst, add-one, arith}
+use Rattle.std.proofs.lemmas.Bool.{le-ltb, ne_eqb, eq-eqb}
+use Rattle.mux_config.specs.declared.parts.Sub.{Sub}
+use Rattle.mux_config.specs.Configuration.{Configuration, Each, IsAscending, IsPlaced, sub_key, size_of_sub}
+use Rattle.mux_eep.specs.Sizes.{rate_step}
+use Rattle.mux_config.specs.Tables.{entry_at, with_entry, without_entry}
+use Rattle.mux_config.specs.Edits.{placing_fault, add_sub_fault, sub_added, sub_dropped}
+use Rattle.mux_config.proofs.Keeping.{entry_holds, absent_found}
+use Rattle.mux_config.proofs.Walking.{cut}
+use Rattle.mux_tables.proofs.Members.{without_below}
+
+pub placed_if : (id : ℕ) (xs : List Sub) (o : Option Sub) → Each IsPlaced xs → o ≡ entry_at sub_key id xs → IfSome o (λ s. IsPlaced s)
+placed_if id xs None h e = tt
+placed_if id xs (Some s) h e = entry_holds IsPlaced sub_key id xs s h (sym e)
+
+-- ---- a member of a list in ascending order
+
+member : {T : Type 0} (P : T → Type 0) (xs : List T) (i : ℕ) (y : T) → Each P xs → slice_get xs i ≡ Some y → P y
+member P [] i y h e = absurd (cc)
+member P (x ∷ xs) zero y h e = let is : x ≡ y = cc in subst P is h.0
+member P (x ∷ xs) (suc i) y h e = member P xs i y h.1 e
+
+absent_before : (xs : List Sub) (i : ℕ) (y : Sub) → IsAscending sub_key xs → slice_get xs i ≡ Some y → entry_at sub_key y.id (take i xs) ≡ None
+absent_before [] i y h e = absurd (cc)
+absent_before (x ∷ xs) zero y h e = refl
+absent_before (x ∷ xs) (suc i) y h e =
+    let less = member (λ (z : Sub). x.id < z.id) xs i y h.0 e in
+    let other : (x.id == y.id) ≡ false = ne_eqb x.id y.id (λ f. omega (arith, less, f)) in
+    rw (other) (absent_before xs i y h.1 e)
+
+with_next : (xs : List Sub) (i : ℕ) (y : Sub) → IsAscending sub_key xs → slice_get xs i ≡ Some y → with_entry sub_key y (take i xs) ≡ take (suc i) xs
+with_next [] i y h e = absurd (cc)
+with_next (x ∷ xs) zero y h e = let is : x ≡ y = cc in ap (λ (z : Sub). z ∷ []) (sym is)
+with_next (x ∷ xs) (suc i) y h e =
+    let less = member (λ (z : Sub). x.id < z.id) xs i y h.0 e in
+    let after : ltb y.id x.id ≡ false = le-ltb y.id x.id (omega (arith, less)) in
+    rw (after) (ap (λ (zs : List Sub). x ∷ zs) (with_next xs i y h.1 e))
+
+placing_none : (y : Sub) → IsPlaced y → placing_fault y ≡ None
+placing_none y h =
+    let size = h.sized in
+    let positive = size.positive in
+    let multiple = size.multiple in
+    let some : (y.kbits == 0) ≡ false = ne_eqb y.kbits 0 (λ e. omega (arith, positive, e)) in
+    let whole : ltb 0 (y.kbits % rate_step y.protection.set) ≡ false = le-ltb 0 (y.kbits % rate_step y.protection.set) (omega (arith, multiple)) in
+    let within : ltb 864 (size_of_sub y) ≡ false = le-ltb 864 (size_of_sub y) size.within in
+    let ends : ltb 864 (y.start + size_of_sub y) ≡ false = le-ltb 864 (y.start + size_of_sub y) h.ends in
+    rw (some, whole, within, ends) refl
+
+pub fits_next : (c d : Configuration) (xs : List Sub) (i : ℕ) (y : Sub) → IsAscending sub_key xs → Each IsPlaced xs → slice_get xs i ≡ Some y → d ≡ record c { subs = take i xs } → add_sub_fault y d ≡ None
+fits_next c d xs i y order placed e is =
+    let absent = absent_found sub_key y.id (take i xs) (absent_before xs i y order e) in
+    rw (is, absent) (placing_none y (member IsPlaced xs i y placed e))
+
+pub added_next : (c d : Configuration) (xs : List Sub) (i : ℕ) (y : Sub) → IsAscending sub_key xs → slice_get xs i ≡ Some y → d ≡ record c { subs = take i xs } → sub_added y d ≡ record c { subs = take (i + 1) xs }
+added_next c d xs i y order e is =
+    ap (sub_added y) is ∙ ap (λ (zs : List Sub). record c { subs = zs }) (rw add-one (with_next xs i y order e))
+
+-- ---- the first of those that are left goes
+
+ascends_on : (xs : List Sub) (i : ℕ) → IsAscending sub_key xs → IsAscending sub_key (drop i xs)
+ascends_on [] zero h = tt
+ascends_on [] (suc i) h = tt
+ascends_on (x ∷ xs) zero h = h
+ascends_on (x ∷ xs) (suc i) h = ascends_on xs i h.1
+
+pub dropped_next : (c d : Configuration) (xs : List Sub) (i : ℕ) (y : Sub) → IsAscending sub_key xs → slice_get xs i ≡ Some y → d ≡ record c { subs = drop i xs } → sub_dropped y.id d ≡ record c { subs = drop (i + 1) xs }
+dropped_next c d xs i y order e is =
+    let rest = cut xs i y e in
+    let up : IsAscending sub_key (y ∷ drop (i + 1) xs) = subst (λ (zs : List Sub). IsAscending sub_key zs) rest (ascends_on xs i order) in
+    let same : (y.id == y.id) ≡ true = eq-eqb y.id y.id refl in
+    let gone : without_entry sub_key y.id (y ∷ drop (i + 1) xs) ≡ drop (i + 1) xs = rw (same) (without_below sub_key y.id (drop (i + 1) xs) up.0) in
+    ap (sub_dropped y.id) is ∙ ap (λ (zs : List Sub). record c { subs = zs }) (ap (without_entry sub_key y.id) rest ∙ gone)
+
+pub got : {T : Type 0} (xs : List T) (i : ℕ) (d : T) → i < length xs → slice_get xs i ≡ Some (get_or xs i d)
+got [] i d lt = absurd (omega arith)
+got (x ∷ xs) zero d lt = refl
+got (x ∷ xs) (suc i) d lt = got xs i d (omega arith)

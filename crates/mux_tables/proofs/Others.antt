@@ -1,0 +1,76 @@
+-- Edits of services and packet components are those of a configuration without sub-channels.
+use Rattle.std.proofs.Common.{◌≡◌, List, [], Option, Some, None, Result, Ok, Err, refl, sym, ap, ◌∙◌, subst}
+use Rattle.mux_config.specs.declared.parts.Sub.{Sub}
+use Rattle.mux_config.specs.declared.edit.Edit.{Edit}
+use Rattle.mux_config.specs.declared.edit.Edit.TheVariants.{AddSub, DropSub, MoveSub, RateSub, AddService, DropService, AddComponent, DropComponent, AddPacket, DropPacket}
+use Rattle.mux_config.specs.declared.fault.EditFault.{EditFault}
+use Rattle.mux_config.specs.Configuration.{Configuration, IsConfiguration}
+use Rattle.mux_config.specs.Edits.{outcome, edit_fault, changed, edited, Edits, IsInRange}
+use Rattle.mux_config.proofs.Keeping.{edits_keep}
+use Rattle.mux_tables.specs.Units.{joined}
+
+abbrev pub IsOfOthers : Edit → Type 0
+IsOfOthers (AddSub s) = ⊥
+IsOfOthers (DropSub id) = ⊥
+IsOfOthers (MoveSub id start) = ⊥
+IsOfOthers (RateSub id kbits) = ⊥
+IsOfOthers e = Unit {0}
+
+pub same_fault : (e : Edit) → IsOfOthers e → (xs : List Sub) (d : Configuration) → edit_fault e (joined xs d) ≡ edit_fault e d
+same_fault (AddSub s) of xs d = absurd of
+same_fault (DropSub id) of xs d = absurd of
+same_fault (MoveSub id start) of xs d = absurd of
+same_fault (RateSub id kbits) of xs d = absurd of
+same_fault (AddService sid) of xs d = refl
+same_fault (DropService sid) of xs d = refl
+same_fault (AddComponent sid m) of xs d = refl
+same_fault (DropComponent sid carrier) of xs d = refl
+same_fault (AddPacket p) of xs d = refl
+same_fault (DropPacket scid) of xs d = refl
+
+pub same_change : (e : Edit) → IsOfOthers e → (xs : List Sub) (d : Configuration) → changed e (joined xs d) ≡ joined xs (changed e d)
+same_change (AddSub s) of xs d = absurd of
+same_change (DropSub id) of xs d = absurd of
+same_change (MoveSub id start) of xs d = absurd of
+same_change (RateSub id kbits) of xs d = absurd of
+same_change (AddService sid) of xs d = refl
+same_change (DropService sid) of xs d = refl
+same_change (AddComponent sid m) of xs d = refl
+same_change (DropComponent sid carrier) of xs d = refl
+same_change (AddPacket p) of xs d = refl
+same_change (DropPacket scid) of xs d = refl
+
+same_subs : (e : Edit) → IsOfOthers e → (d : Configuration) → (changed e d).subs ≡ d.subs
+same_subs (AddSub s) of d = absurd of
+same_subs (DropSub id) of d = absurd of
+same_subs (MoveSub id start) of d = absurd of
+same_subs (RateSub id kbits) of d = absurd of
+same_subs (AddService sid) of d = refl
+same_subs (DropService sid) of d = refl
+same_subs (AddComponent sid m) of d = refl
+same_subs (DropComponent sid carrier) of d = refl
+same_subs (AddPacket p) of d = refl
+same_subs (DropPacket scid) of d = refl
+
+-- where no fault holds
+pub known : (e : Edit) → IsOfOthers e → (xs : List Sub) (old new : Configuration) → new ≡ changed e old → joined xs new ≡ changed e (joined xs old)
+known e of xs old new is = ap (joined xs) is ∙ sym (same_change e of xs old)
+
+pub known_keeps : (e : Edit) → IsOfOthers e → IsInRange e → (xs : List Sub) (old new : Configuration) → old.subs ≡ [] → IsConfiguration (joined xs old) → edit_fault e old ≡ None → new ≡ changed e old
+    → (new.subs ≡ []) × IsConfiguration (joined xs new)
+known_keeps e of within xs old new none c fault is = (
+  ap (λ (d : Configuration). d.subs) is ∙ same_subs e of old ∙ none,
+  subst IsConfiguration (sym (known e of xs old new is)) (edits_keep e (joined xs old) within c (same_fault e of xs old ∙ fault)),
+)
+
+-- and with its answer
+no_fault : (f : Option EditFault) (d new : Configuration) → outcome f d ≡ Ok new → (f ≡ None) × (new ≡ d)
+no_fault None d new e = (refl, cc)
+no_fault (Some fault) d new e = absurd (cc)
+
+pub edits_keeps : (e : Edit) → IsOfOthers e → IsInRange e → (xs : List Sub) (old new : Configuration) (result : Result (Unit {0}) EditFault) → old.subs ≡ [] → IsConfiguration (joined xs old) → Edits old new (edited e old) result
+    → (new.subs ≡ []) × IsConfiguration (joined xs new)
+edits_keeps e of within xs old new (Ok done) none c is =
+    let both = no_fault (edit_fault e old) (changed e old) new is in
+    known_keeps e of within xs old new none c both.0 both.1
+edits_keeps e of within xs old new (Err fault) none c is = (ap (λ (d : Configuration). d.subs) is.1 ∙ none, subst (λ (d : Configuration). IsConfiguration (joined xs d)) (sym is.1) c)

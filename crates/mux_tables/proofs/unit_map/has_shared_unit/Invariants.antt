@@ -1,0 +1,6 @@
+use Rattle.std.proofs.Common.{ℕ, ◌<◌, ◌≤◌, get_or}
+use Rattle.mux_tables.specs.Units.{units_at}
+use Rattle.mux_tables.proofs.unit_map.has_shared_unit.Given as goal
+
+abbrev pub invariant-loop-block : goal.invariant-loop-block
+invariant-loop-block l = (b j : ℕ) → b < l.block-index → j < 32 → get_or (units_at l.blocks b) j 0 ≤ 1

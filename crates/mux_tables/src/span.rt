@@ -1,0 +1,32 @@
+//! Capacity units that belong together.
+
+ghost use Rattle.std.specs.Prelude.{◌≡◌, ◌+◌, ◌≤◌};
+ghost use Rattle.mux_config.specs.Configuration.{IsPlaced};
+ghost use Rattle.mux_tables.specs.Units.{span_of};
+
+use mux_config::Sub;
+use mux_eep::size_of;
+
+/// Neighbouring capacity units.
+#[derive(Clone, Copy, Debug, PartialEq, Eq)]
+pub(crate) struct Span {
+    /// The first unit, numbered from 0.
+    pub(crate) start: u16,
+    /// How many there are, in CU.
+    pub(crate) size: u16,
+}
+
+/// The capacity units of a sub-channel.
+pub(crate) fn span_of(sub: &Sub) -> Span
+    requires { IsPlaced sub.now }
+    ensures value { result ≡ span_of sub.now }
+    ensures ends { result.start + result.size ≤ 864 }
+{
+    match size_of(sub.protection, sub.kbits) {
+        Ok(size) => Span {
+            start: sub.start,
+            size,
+        },
+        Err(_) => Span { start: 0, size: 0 },
+    }
+}

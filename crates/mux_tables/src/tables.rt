@@ -1,0 +1,121 @@
+//! A configuration whose capacity units are counted.
+
+ghost use Rattle.std.specs.Prelude.{◌≡◌, ◌↔◌, None, Some, IfSome, IsTrue, []};
+ghost use Rattle.mux_config.specs.Configuration.{Configuration, IsConfiguration, IsPlaced, sub_key, nothing};
+ghost use Rattle.mux_config.specs.Tables.{entry_at, with_entry, without_entry, with_entry_changed};
+ghost use Rattle.mux_config.specs.Sound.{IsCrowded};
+ghost use Rattle.mux_config.specs.Edits.{sub_at, add_sub_fault, sub_added, sub_dropped};
+
+use crate::span::span_of;
+use crate::sub_table::SubTable;
+use crate::unit_map::{Block, count_in, count_out, empty_map, has_shared_unit};
+use mux_config::{Config, Store, Sub, SubId};
+use std::marker::Model;
+
+/// A configuration of the multiplex (EN 300 401 clauses 6.1 to 6.3) that counts, for each capacity unit, the
+/// sub-channels whose span has it. Contracts see it as the configuration that it stands for.
+///
+/// It takes no memory of its own. Its edits cost as much as those of [`Config`], and a few steps more for the
+/// blocks of 32 capacity units that the span of a sub-channel touches.
+#[derive(Drop)]
+pub struct Tables {
+    pub(crate) subs: SubTable,
+    pub(crate) units: [Block; 27],
+    pub(crate) others: Config,
+}
+
+impl Model for Tables {
+    ghost use Rattle.mux_config.specs.Configuration.{Configuration};
+    ghost use Rattle.mux_tables.specs.Units.{joined, IsCounted};
+
+    ghost Value = { Configuration };
+
+    ghost view = { λ t. joined t.subs t.others };
+
+    ghost invariant = { λ t. IsCounted t.subs t.units t.others };
+}
+
+impl Tables {
+    /// The configuration of nothing.
+    pub fn new() -> Tables
+        ensures { result ≡ nothing }
+    {
+        Tables {
+            subs: SubTable::new(),
+            units: empty_map(),
+            others: Config::new(),
+        }
+    }
+
+    /// The services and packet components of a configuration, without its sub-channels.
+    pub(crate) fn without_subs(config: &Config) -> Tables
+        ensures { result ≡ record config.now { subs = [] } }
+    {
+        Tables {
+            subs: SubTable::new(),
+            units: empty_map(),
+            others: without_subs(config),
+        }
+    }
+
+    /// Whether two sub-channels share a capacity unit.
+    pub fn is_crowded(&self) -> bool
+        ensures value { IsTrue result ↔ IsCrowded self.now }
+        ensures configuration { IsConfiguration self.now }
+    {
+        has_shared_unit(&self.units)
+    }
+
+    /// The sub-channel of an identifier; None where it is not there.
+    pub(crate) fn get(&self, id: SubId) -> Option<Sub>
+        ensures value { result ≡ sub_at id self.now }
+        ensures placed { IfSome result (λ s. IsPlaced s) }
+        ensures configuration { IsConfiguration self.now }
+    {
+        self.subs.get(id)
+    }
+
+    /// Takes in a sub-channel, which has no fault.
+    pub(crate) fn insert(&mut self, sub: Sub)
+        requires { add_sub_fault sub self.old ≡ None }
+        ensures { self.new ≡ sub_added sub self.old }
+    {
+        count_in(&mut self.units, span_of(&sub));
+        self.subs.insert(sub);
+    }
+
+    /// Puts a sub-channel in place of the one that has its identifier.
+    pub(crate) fn replace(&mut self, old: Sub, new: Sub)
+        requires there { entry_at sub_key new.id self.old.subs ≡ Some old }
+        requires placed { IsPlaced new }
+        ensures { self.new
+            ≡ record self.old { subs = with_entry_changed sub_key new self.old.subs } }
+    {
+        count_out(&mut self.units, span_of(&old));
+        count_in(&mut self.units, span_of(&new));
+        self.subs.replace(new);
+    }
+
+    /// Drops a sub-channel, if it is there.
+    pub(crate) fn remove(&mut self, id: SubId)
+        ensures { self.new ≡ sub_dropped id self.old }
+    {
+        if let Some(sub) = self.subs.get(id) {
+            count_out(&mut self.units, span_of(&sub));
+            self.subs.remove(id);
+        }
+    }
+}
+
+/// A copy of a configuration without its sub-channels.
+fn without_subs(config: &Config) -> Config
+    ensures value { result ≡ record config.now { subs = [] } }
+    ensures configuration { IsConfiguration result }
+{
+    let mut rest = Config::new();
+    rest.copy_from(config);
+    for sub in config.subs() {
+        rest.drop_sub_known(sub.id);
+    }
+    rest
+}

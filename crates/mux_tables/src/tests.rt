@@ -1,0 +1,4 @@
+mod crowding;
+mod edits;
+mod parts;
+mod stores;

@@ -1,0 +1,204 @@
+-- Reading a code file is steady: any fault but that it is truncated is the same whatever follows the bytes.
+use Rattle.std.proofs.Common.{◌≡◌, ◌≢◌, ℕ, zero, suc, ◌+◌, ◌<◌, Bool, true, false, cond, eqb, ltb, not, List, [], ◌∷◌, ◌++◌, length, take, drop, Result, Ok, Err, refl, sym, ap, ◌∙◌, subst, arith}
+use Rattle.std.specs.Int.{w16, w32}
+use Rattle.std.proofs.lemmas.Bool.{ne_eqb}
+use Rattle.std.proofs.lemmas.List.{length-append, take-append-drop, length-take-le}
+use Rattle.mux_config.specs.declared.record.RecordFault.TheVariants.{Short, Field as FieldOfRecord, Order}
+use Rattle.mux_config.specs.Reading.{Reads}
+use Rattle.mux_config.proofs.Steady.{Goes, place_same, goes_byte, goes_number, goes_byte_within, goes_config, goes_members}
+use Rattle.plan_code.specs.declared.fault.CodeFault.{CodeFault}
+use Rattle.plan_code.specs.declared.fault.CodeFault.TheVariants.{Magic, Version, Truncated, Field, Limit, Trailing, Memory}
+use Rattle.plan_code.specs.Program.{Program, IsProgram, label_key}
+use Rattle.plan_code.specs.Spelling.{magic, code_bytes}
+use Rattle.plan_code.specs.Parts.{label_at}
+use Rattle.plan_code.specs.Reading.{Parses, ◌>>=◌, refuse, read_from, in_file, magic_at, mode_in, mode_at, plan_at, count_at, config_in, line_in, items_at, Header, header_at, program_at, code_of}
+use Rattle.plan_code.specs.FileFaults.{CutsAreTruncated, FileFaultsStay}
+use Rattle.plan_code.proofs.SteadyParts.{goes_label, goes_line}
+use Rattle.plan_code.proofs.FileLaws.{code_again}
+
+-- ---- readings with more bytes behind
+
+-- the second reading has these bytes more: where the first reads something so does it, and where the first meets a
+-- fault other than that bytes are missing so does it
+abbrev Runs : {T : Type 0} → List ℕ → Parses T → Parses T → Type 0
+Runs more (Ok x) r = r ≡ Ok (x.0, x.1 ++ more)
+Runs more (Err Truncated) r = Unit {0}
+Runs more (Err Magic) r = r ≡ Err Magic
+Runs more (Err Version) r = r ≡ Err Version
+Runs more (Err (Field at)) r = r ≡ Err (Field at)
+Runs more (Err Limit) r = r ≡ Err Limit
+Runs more (Err Trailing) r = r ≡ Err Trailing
+Runs more (Err Memory) r = r ≡ Err Memory
+
+runs_bind : {A B : Type 0} (more : List ℕ) (r s : Parses A) (k l : A × List ℕ → Parses B) → Runs more r s → ((x : A) (rest : List ℕ) → Runs more (k (x, rest)) (l (x, rest ++ more))) → Runs more (r >>= k) (s >>= l)
+runs_bind more (Ok x) s k l h f = subst (λ t. Runs more (k x) (t >>= l)) (sym h) (f x.0 x.1)
+runs_bind more (Err Truncated) s k l h f = tt
+runs_bind more (Err Magic) s k l h f = ap (λ t. t >>= l) h
+runs_bind more (Err Version) s k l h f = ap (λ t. t >>= l) h
+runs_bind more (Err (Field at)) s k l h f = ap (λ t. t >>= l) h
+runs_bind more (Err Limit) s k l h f = ap (λ t. t >>= l) h
+runs_bind more (Err Trailing) s k l h f = ap (λ t. t >>= l) h
+runs_bind more (Err Memory) s k l h f = ap (λ t. t >>= l) h
+
+runs_fault : (T : Type 0) (more : List ℕ) (f g : CodeFault) → f ≡ g → Runs {T = T} more (Err f) (Err g)
+runs_fault T more Truncated g e = tt
+runs_fault T more Magic g e = ap Err (sym e)
+runs_fault T more Version g e = ap Err (sym e)
+runs_fault T more (Field at) g e = ap Err (sym e)
+runs_fault T more Limit g e = ap Err (sym e)
+runs_fault T more Trailing g e = ap Err (sym e)
+runs_fault T more Memory g e = ap Err (sym e)
+
+runs_refuse : {T : Type 0} (more : List ℕ) (test : Bool) (f g : CodeFault) (k l : Parses T) → f ≡ g → Runs more k l → Runs more (refuse test f >>= λ _. k) (refuse test g >>= λ _. l)
+runs_refuse more true f g k l e h = runs_fault _ more f g e
+runs_refuse more false f g k l e h = h
+
+runs_choice : {T : Type 0} (more : List ℕ) (test : Bool) (r s q t : Parses T) → Runs more r s → Runs more q t → Runs more (cond test r q) (cond test s t)
+runs_choice more true r s q t h k = h
+runs_choice more false r s q t h k = k
+
+-- a part that begins at the same place
+runs_part : {T : Type 0} (more : List ℕ) (at by : ℕ) (r s : Reads T) → at ≡ by → Goes more r s → Runs more (read_from at r) (read_from by s)
+runs_part more at by (Ok x) s e h = ap (read_from by) h
+runs_part more at by (Err Short) s e h = tt
+runs_part more at by (Err (FieldOfRecord p)) s e h = ap (read_from by) h ∙ ap (λ n. Err (Field (n + p))) (sym e)
+runs_part more at by (Err Order) s e h = ap (read_from by) h ∙ ap (λ n. Err (Field n)) (sym e)
+
+runs_field : {T : Type 0} (more : List ℕ) (r s : Reads T) → Goes more r s → Runs more (in_file r) (in_file s)
+runs_field more r s h = runs_part more 0 0 r s refl h
+
+-- ---- the header
+
+runs_magic : (bytes more : List ℕ) → Runs more (magic_at bytes) (magic_at (bytes ++ more))
+runs_magic bytes more =
+    runs_bind more _ _ _ _ (runs_field more _ _ (goes_number w32 bytes more)) (λ letters rest.
+    runs_refuse more (not (eqb letters magic)) Magic Magic _ _ refl refl)
+
+runs_mode_in : (total version : ℕ) (bytes more : List ℕ) → Runs more (mode_in total version bytes) (mode_in (total + length more) version (bytes ++ more))
+runs_mode_in total version bytes more =
+    runs_choice more (eqb version 1) _ _ _ _ refl (
+    runs_choice more (eqb version 2) _ _ _ _ (runs_bind more _ _ _ _ (runs_field more _ _ (goes_byte_within total 2 4 bytes more)) (λ number rest. refl)) (
+    runs_fault _ more Version Version refl))
+
+runs_mode : (total : ℕ) (bytes more : List ℕ) → Runs more (mode_at total bytes) (mode_at (total + length more) (bytes ++ more))
+unfolding mode_at
+runs_mode total bytes more = runs_bind more _ _ _ _ (runs_field more _ _ (goes_byte bytes more)) (λ version rest. runs_mode_in total version rest more)
+
+runs_plan : (total : ℕ) (bytes more : List ℕ) → Runs more (plan_at total bytes) (plan_at (total + length more) (bytes ++ more))
+unfolding plan_at
+runs_plan total bytes more =
+    runs_bind more _ _ _ _ (runs_mode total bytes more) (λ mode after_mode.
+    runs_bind more _ _ _ _ (runs_field more _ _ (goes_number w16 after_mode more)) (λ eid after_eid.
+    runs_bind more _ _ _ _ (runs_field more _ _ (goes_byte_within total 1 60 after_eid more)) (λ period after_period.
+    runs_bind more _ _ _ _ (runs_field more _ _ (goes_byte_within total 12 248 after_period more)) (λ notice after_notice.
+    runs_bind more _ _ _ _ (runs_field more _ _ (goes_byte_within total 1 255 after_notice more)) (λ budget rest. refl)))))
+
+runs_count : (total limit : ℕ) (bytes more : List ℕ) → Runs more (count_at total limit bytes) (count_at (total + length more) limit (bytes ++ more))
+runs_count total limit bytes more =
+    runs_bind more _ _ _ _ (runs_field more _ _ (goes_number w16 bytes more)) (λ number rest.
+    runs_refuse more (eqb number 0) _ _ _ _ (ap Field (place_same total bytes more)) (
+    runs_refuse more (ltb limit number) Limit Limit _ _ refl refl))
+
+runs_header : (total : ℕ) (bytes more : List ℕ) → Runs more (header_at total bytes) (header_at (total + length more) (bytes ++ more))
+unfolding header_at
+runs_header total bytes more =
+    runs_bind more _ _ _ _ (runs_magic bytes more) (λ letters after_letters.
+    runs_bind more _ _ _ _ (runs_plan total after_letters more) (λ plan after_plan.
+    runs_bind more _ _ _ _ (runs_count total 256 after_plan more) (λ configurations after_configurations.
+    runs_bind more _ _ _ _ (runs_count total 1024 after_configurations more) (λ labels after_labels.
+    runs_bind more _ _ _ _ (runs_count total 4096 after_labels more) (λ lines rest. refl)))))
+
+-- ---- the tables
+
+runs_items : {T : Type 0} (item other : List ℕ → Parses T) (more : List ℕ) → ((bytes : List ℕ) → Runs more (item bytes) (other (bytes ++ more))) → (before : List T) (count : ℕ) (bytes : List ℕ) → Runs more (items_at item before count bytes) (items_at other before count (bytes ++ more))
+unfolding items_at
+runs_items item other more h before zero bytes = refl
+runs_items item other more h before (suc count) bytes =
+    runs_bind more _ _ _ _ (h bytes) (λ x rest. runs_items item other more h (before ++ x ∷ []) count rest)
+
+runs_program : (total : ℕ) (header : Header) (bytes more : List ℕ) → Runs more (program_at total header bytes) (program_at (total + length more) header (bytes ++ more))
+unfolding program_at
+runs_program total header bytes more =
+    runs_bind more _ _ _ _ (runs_items (config_in total) (config_in (total + length more)) more (λ b. runs_part more _ _ _ _ (place_same total b more) (goes_config b more)) [] header.configurations bytes) (λ configurations after_configurations.
+    runs_bind more _ _ _ _ (runs_field more _ _ (goes_members label_key (label_at total header.configurations) (label_at (total + length more) header.configurations) more (λ low b. goes_label total header.configurations low b more) 0 [] header.labels after_configurations)) (λ labels after_labels.
+    runs_bind more _ _ _ _ (runs_items (line_in total) (line_in (total + length more)) more (λ b. runs_field more _ _ (goes_line total b more)) [] header.lines after_labels) (λ lines rest. refl)))
+
+-- ---- the file
+
+-- the second reading is of more bytes: where the first is a code, some bytes are too many for it, and any fault but
+-- that bytes are missing is its fault too
+abbrev Ends : List ℕ → Result Program CodeFault → Result Program CodeFault → Type 0
+Ends more (Ok p) s = more ≢ [] → s ≡ Err Trailing
+Ends more (Err Truncated) s = Unit {0}
+Ends more (Err Magic) s = s ≡ Err Magic
+Ends more (Err Version) s = s ≡ Err Version
+Ends more (Err (Field at)) s = s ≡ Err (Field at)
+Ends more (Err Limit) s = s ≡ Err Limit
+Ends more (Err Trailing) s = s ≡ Err Trailing
+Ends more (Err Memory) s = s ≡ Err Memory
+
+ends_bind : {A : Type 0} (more : List ℕ) (r s : Parses A) (k l : A × List ℕ → Result Program CodeFault) → Runs more r s → ((x : A) (rest : List ℕ) → Ends more (k (x, rest)) (l (x, rest ++ more))) → Ends more (r >>= k) (s >>= l)
+ends_bind more (Ok x) s k l h f = subst (λ t. Ends more (k x) (t >>= l)) (sym h) (f x.0 x.1)
+ends_bind more (Err Truncated) s k l h f = tt
+ends_bind more (Err Magic) s k l h f = ap (λ t. t >>= l) h
+ends_bind more (Err Version) s k l h f = ap (λ t. t >>= l) h
+ends_bind more (Err (Field at)) s k l h f = ap (λ t. t >>= l) h
+ends_bind more (Err Limit) s k l h f = ap (λ t. t >>= l) h
+ends_bind more (Err Trailing) s k l h f = ap (λ t. t >>= l) h
+ends_bind more (Err Memory) s k l h f = ap (λ t. t >>= l) h
+
+-- bytes that are left over are too many
+refused : (p : Program) (n : ℕ) → 0 < n → (refuse (not (eqb n 0)) Trailing >>= λ _. Ok p) ≡ Err Trailing
+refused p n some = ap (λ (t : Bool). refuse (not t) Trailing >>= λ _. Ok p) (ne_eqb n 0 (λ e. omega (arith, e, some)))
+
+ended : (p : Program) (more rest : List ℕ) → Ends more (refuse (not (eqb (length rest) 0)) Trailing >>= λ _. Ok p) (refuse (not (eqb (length (rest ++ more)) 0)) Trailing >>= λ _. Ok p)
+ended p [] [] = λ some. absurd (some refl)
+ended p (m ∷ more) [] = λ some. refused p (length (m ∷ more)) (omega arith)
+ended p more (b ∷ rest) =
+    subst (λ r. Ends more r (refuse (not (eqb (length (b ∷ rest ++ more)) 0)) Trailing >>= λ _. Ok p))
+    (sym (refused p (length (b ∷ rest)) (omega arith))) (refused p (length (b ∷ rest ++ more)) (omega arith))
+
+ends_code : (bytes more : List ℕ) → Ends more (code_of bytes) (code_of (bytes ++ more))
+unfolding code_of
+ends_code bytes more =
+    let whole : length bytes + length more ≡ length (bytes ++ more) = sym (length-append bytes more) in
+    ends_bind more _ _ _ _ (subst (λ (n : ℕ). Runs more (header_at (length bytes) bytes) (header_at n (bytes ++ more))) whole (runs_header (length bytes) bytes more)) (λ header after_header.
+    ends_bind more _ _ _ _ (subst (λ (n : ℕ). Runs more (program_at (length bytes) header after_header) (program_at n header (after_header ++ more))) whole (runs_program (length bytes) header after_header more)) (λ program rest.
+    ended program more rest))
+
+stays_by : (more : List ℕ) (r s : Result Program CodeFault) (fault : CodeFault) → Ends more r s → r ≡ Err fault → fault ≢ Truncated → s ≡ Err fault
+stays_by more (Ok p) s fault h e other = absurd (cc)
+stays_by more (Err Truncated) s fault h e other = absurd (let same : Truncated ≡ fault = cc in other (sym same))
+stays_by more (Err Magic) s fault h e other = h ∙ e
+stays_by more (Err Version) s fault h e other = h ∙ e
+stays_by more (Err (Field at)) s fault h e other = h ∙ e
+stays_by more (Err Limit) s fault h e other = h ∙ e
+stays_by more (Err Trailing) s fault h e other = h ∙ e
+stays_by more (Err Memory) s fault h e other = h ∙ e
+
+no_file : (bytes : List ℕ) (fault : CodeFault) → code_of bytes ≡ Err fault → (p : Program) → IsProgram p → bytes ≡ code_bytes p → ⊥
+no_file bytes fault e p is spelled = let again = code_again p is in let read : code_of bytes ≡ code_of (code_bytes p) = ap code_of spelled in absurd (cc)
+
+pub file_faults_stay : FileFaultsStay
+file_faults_stay bytes more fault h other =
+    let stays = stays_by more (code_of bytes) (code_of (bytes ++ more)) fault (ends_code bytes more) h other in
+    (stays, no_file (bytes ++ more) fault stays)
+
+cut_by : (more : List ℕ) (p : Program) (r s : Result Program CodeFault) → Ends more r s → s ≡ Ok p → more ≢ [] → r ≡ Err Truncated
+cut_by more p (Ok q) s h e some = let trailing = h some in absurd (cc)
+cut_by more p (Err Truncated) s h e some = refl
+cut_by more p (Err Magic) s h e some = absurd (cc)
+cut_by more p (Err Version) s h e some = absurd (cc)
+cut_by more p (Err (Field at)) s h e some = absurd (cc)
+cut_by more p (Err Limit) s h e some = absurd (cc)
+cut_by more p (Err Trailing) s h e some = absurd (cc)
+cut_by more p (Err Memory) s h e some = absurd (cc)
+
+pub cuts_are_truncated : CutsAreTruncated
+cuts_are_truncated p n is less =
+    let whole = code_bytes p in
+    let all : code_of (take n whole ++ drop n whole) ≡ Ok p = ap code_of (take-append-drop n whole) ∙ code_again p is in
+    cut_by (drop n whole) p (code_of (take n whole)) (code_of (take n whole ++ drop n whole)) (ends_code (take n whole) (drop n whole)) all
+    (λ none. let left : length (drop n whole) ≡ 0 = ap length none in
+    let both : length (take n whole ++ drop n whole) ≡ length whole = ap length (take-append-drop n whole) in
+    omega (arith, less, left, both, length-append (take n whole) (drop n whole), length-take-le n whole (omega (arith, less))))

@@ -1,0 +1,30 @@
+-- The fault of bytes that are no code file.
+use Rattle.std.specs.Prelude.{◌≡◌, ◌↔◌, ℕ, ◌<◌, List, slice_index, Err}
+use Rattle.plan_code.specs.declared.fault.CodeFault.{CodeFault}
+use Rattle.plan_code.specs.declared.fault.CodeFault.TheVariants.{Memory}
+use Rattle.plan_code.specs.Program.{Program, IsProgram}
+use Rattle.plan_code.specs.Spelling.{code_bytes}
+use Rattle.plan_code.specs.Reading.{code_of}
+
+abbrev pub AreBytes : List ℕ → Type 0
+AreBytes bytes = (i : ℕ) → slice_index bytes i < 256
+
+-- the bytes are the file of no code
+abbrev pub IsNoFile : List ℕ → Type 0
+IsNoFile bytes = (p : Program) → IsProgram p → bytes ≡ code_bytes p → ⊥
+
+-- the first fault that is met from the front
+abbrev pub HasFault : List ℕ → CodeFault → Type 0
+HasFault bytes fault = code_of bytes ≡ Err fault
+
+-- there is one fault at most
+abbrev pub HasOneFault : Type 0
+HasOneFault = (bytes : List ℕ) (f g : CodeFault) → HasFault bytes f → HasFault bytes g → f ≡ g
+
+-- there is one exactly where there is no code
+abbrev pub HasFaultWithoutCode : Type 0
+HasFaultWithoutCode = (bytes : List ℕ) → AreBytes bytes → ((f : CodeFault) × HasFault bytes f) ↔ IsNoFile bytes
+
+-- want of memory is none of the bytes' faults
+abbrev pub BytesLackNoMemory : Type 0
+BytesLackNoMemory = (bytes : List ℕ) → HasFault bytes Memory → ⊥

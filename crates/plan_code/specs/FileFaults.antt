@@ -1,0 +1,18 @@
+-- What the fault of bytes that are no code file says, in the words of the bytes.
+use Rattle.std.specs.Prelude.{◌≢◌, ℕ, ◌<◌, List, ◌++◌, length, take}
+use Rattle.plan_code.specs.declared.fault.CodeFault.{CodeFault}
+use Rattle.plan_code.specs.declared.fault.CodeFault.TheVariants.{Truncated}
+use Rattle.plan_code.specs.Program.{Program, IsProgram}
+use Rattle.plan_code.specs.Spelling.{code_bytes}
+use Rattle.plan_code.specs.Faults.{HasFault, IsNoFile}
+
+-- a code file that is cut off, wherever that is, is truncated
+abbrev pub CutsAreTruncated : Type 0
+CutsAreTruncated = (p : Program) (n : ℕ) → IsProgram p → n < length (code_bytes p) → HasFault (take n (code_bytes p)) Truncated
+
+-- any other fault lies in the bytes that were read: it stays whatever follows them, and nothing that begins with them
+-- is a code file
+abbrev pub FileFaultsStay : Type 0
+FileFaultsStay =
+    (bytes more : List ℕ) (fault : CodeFault) → HasFault bytes fault → fault ≢ Truncated
+    → HasFault (bytes ++ more) fault × IsNoFile (bytes ++ more)

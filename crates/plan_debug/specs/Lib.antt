@@ -1,0 +1,2 @@
+pub mod Announcements
+pub mod Commands

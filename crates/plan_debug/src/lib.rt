@@ -1,0 +1,21 @@
+//! The debugger: a player that is led by commands.
+//!
+//! A [`Debugger`] plays a player's frames up to a line or up to the next change of place, and keeps the last
+//! announcements that went out: the FIG 0/0 with change flags. `specs/Commands.antt` says how many frames a command
+//! plays, `specs/Announcements.antt` which announcements they make.
+#![tactic(auto)]
+
+pub mod announcement;
+pub mod command;
+pub mod debugger;
+mod heard;
+mod log;
+pub mod report;
+
+pub use announcement::Announcement;
+pub use command::Command;
+pub use debugger::Debugger;
+pub use report::Report;
+
+#[cfg(test)]
+mod tests;

@@ -1,0 +1,58 @@
+//! The last announcements.
+
+ghost use Rattle.std.specs.Prelude.{◌≡◌, ◌≤◌, IfOk, [], ◌∷◌, ◌++◌, length, slice_get};
+ghost use Rattle.circular_buffer.specs.Buffer.{keep_last};
+ghost use Rattle.plan_debug.specs.Announcements.{listed};
+
+use crate::announcement::Announcement;
+use circular_buffer::HeapCircularBuffer;
+use std::alloc::{AllocError, Global};
+use std::marker::Model;
+
+/// How many announcements are kept.
+const KEPT: usize = 64;
+
+/// The last 64 announcements, oldest first.
+#[derive(Drop)]
+pub struct Log {
+    ring: HeapCircularBuffer<Announcement>,
+}
+
+impl Model for Log {
+    ghost use Rattle.std.specs.Prelude.{List, ◌≡◌, ◌≤◌, length};
+    ghost use Rattle.plan_debug.specs.declared.announcement.Announcement.{Announcement};
+
+    ghost Value = { List Announcement };
+
+    ghost view = { λ l. l.ring.items };
+
+    ghost invariant = { λ l. (l.ring.capacity ≡ 64) × (length l.ring.items ≤ 64) };
+}
+
+impl Log {
+    /// A log without an announcement, with room for all that it keeps.
+    pub fn new(alloc: Global) -> Result<Log, AllocError>
+        ensures { IfOk result (λ l. l ≡ []) }
+    {
+        Ok(Log {
+            ring: HeapCircularBuffer::with_capacity(alloc, KEPT)?,
+        })
+    }
+
+    /// Adds an announcement, where there is one; where 64 are there, the oldest goes.
+    pub fn note(&mut self, announcement: Option<Announcement>)
+        ensures { self.new ≡ keep_last 64 (self.old ++ listed announcement) }
+    {
+        if let Some(announcement) = announcement {
+            let _oldest = self.ring.push_back(announcement);
+        }
+    }
+
+    /// The announcement at this place, from 0, oldest first.
+    pub fn get(&self, place: usize) -> Option<Announcement>
+        ensures value { result ≡ slice_get self.now place }
+        ensures few { length self.now ≤ 64 }
+    {
+        self.ring.get(place).copied()
+    }
+}

@@ -1,0 +1,6 @@
+//! Tests of the debugger.
+
+mod codes;
+mod leading;
+mod noting;
+mod parts;

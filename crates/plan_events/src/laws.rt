@@ -1,0 +1,8 @@
+//! What holds of every event file.
+
+ghost use Rattle.plan_events.specs.Events.{HoldsOneList};
+
+/// The law of event files: a text holds one list of steps at most. The function does nothing; its contract is the law.
+pub fn one_list()
+    ensures { HoldsOneList }
+{}

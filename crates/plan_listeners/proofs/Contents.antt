@@ -1,0 +1,143 @@
+-- What the FIBs of a frame say.
+use Rattle.std.specs.Prelude.{Contains, flat_map, map, drop, ◌*◌}
+use Rattle.std.proofs.Common.{◌≡◌, ℕ, suc, ◌+◌, ◌==◌, Bool, true, false, cond, List, [], ◌∷◌, ◌++◌, length, Option, Some, None, inl, inr, ◌⊎◌, refl, ap, sym, ◌∙◌, subst, arith}
+use Rattle.std.proofs.lemmas.List.{drop-drop}
+use Rattle.mux_config.specs.Configuration.{Configuration, Each}
+use Rattle.mux_config.specs.Entries.{EnsembleInformation}
+use Rattle.mux_config.specs.Facts.{Marked, facts_of}
+use Rattle.fib_codec.specs.declared.modes.Mode.{Mode}
+use Rattle.fib_codec.specs.declared.modes.Mode.TheVariants.{I, II, III, IV}
+use Rattle.fib_codec.specs.Modes.{fib_count}
+use Rattle.fib_codec.specs.Heard.{fib_at, IsHeardInRow}
+use Rattle.fib_codec.specs.Grammar.{fig_of}
+use Rattle.fib_carousel.specs.Packing.{entries_where}
+use Rattle.fib_carousel.specs.Greedy.{packing}
+use Rattle.fib_carousel.specs.Pages.{page_set, page_entries, fib_entries, first_fib, later_fibs, PageIsFibs}
+use Rattle.fib_carousel.specs.Bytes.{AreFibs, figs_of, ensemble_figs}
+use Rattle.fib_reader.specs.Raw.{raw_entry}
+use Rattle.fib_reader.specs.Laws.{EnsembleIsHeard}
+use Rattle.plan_code.specs.declared.plan.Plan.{Plan}
+use Rattle.plan_code.specs.Machine.{State}
+use Rattle.plan_runs.specs.Frames.{is_noticed, sent_entries, ensemble_sent, shown_bytes}
+use Rattle.plan_runs.specs.Listening.{fibs_from}
+use Rattle.plan_runs.proofs.Tracked.{Airs}
+use Rattle.plan_runs.proofs.Right.{PageLaws, pageable, sent_within}
+use Rattle.plan_listeners.proofs.Parts.{In}
+use Rattle.plan_listeners.proofs.Pictures.{entries_of, contains_in, fact_in, in_append}
+use Rattle.plan_listeners.proofs.Hearing.{first_heard, figs_heard}
+use Rattle.plan_listeners.proofs.Tuned.{IsSentOf, AreSentOf, SaidIn, SaidInSome, Says, AllSay}
+
+-- the laws of pages, of reading and of writing that are used
+pub record Laws : Type 0 where
+  pub pages : PageLaws
+  pub fibs : PageIsFibs
+  pub ensemble : EnsembleIsHeard
+
+-- ---- what is sent
+
+each_from : {T : Type 0} (P : T → Type 0) (xs : List T) → ((x : T) → In x xs → P x) → Each P xs
+each_from P [] f = tt
+each_from P (x ∷ xs) f = (f x (inl refl), each_from P xs (λ y h. f y (inr h)))
+
+chosen : (P : Marked → Type 0) (e : Marked) (xs : List Marked) → P e → Each P xs → (b : Bool) → Each P (cond b (e ∷ xs) xs)
+chosen P e xs h hs true = (h, hs)
+chosen P e xs h hs false = hs
+
+each_where : (P : Marked → Type 0) (test : ℕ → Bool) (es : List Marked) (ns : List ℕ) → Each P es → Each P (entries_where test es ns)
+each_where P test [] ns h = tt
+each_where P test (e ∷ es) [] h = tt
+each_where P test (e ∷ es) (n ∷ ns) h = chosen P e (entries_where test es ns) h.0 (each_where P test es ns h.1) (test n)
+
+sent_by : (c n : Configuration) (b : Bool) (m : Marked) → In m (page_set c (cond b (Some n) None)) → IsSentOf b c n m
+sent_by c n false m h = let fact = fact_in false (entries_of c) m h in inl (sym fact.0, fact.1)
+sent_by c n true m h =
+    elim (in_append m (facts_of c false) (facts_of n true) h) [
+      | inl here ↦ (let fact = fact_in false (entries_of c) m here in inl (sym fact.0, fact.1))
+      | inr there ↦ (let fact = fact_in true (entries_of n) m there in inr (refl, sym fact.0, fact.1))
+    ]
+
+set_sent : (plan : Plan) (u : State) → Each (IsSentOf (is_noticed plan.notice u.left) u.current u.next) (sent_entries plan u)
+set_sent plan u = each_from (IsSentOf (is_noticed plan.notice u.left) u.current u.next) (sent_entries plan u) (sent_by u.current u.next (is_noticed plan.notice u.left))
+
+fib_sent : (plan : Plan) (u : State) (n : ℕ) → Each (IsSentOf (is_noticed plan.notice u.left) u.current u.next) (fib_entries plan.mode n (sent_entries plan u))
+fib_sent plan u n = each_where (IsSentOf (is_noticed plan.notice u.left) u.current u.next) (λ m. m == n) (sent_entries plan u) (packing plan.mode (sent_entries plan u)) (set_sent plan u)
+
+fibs_sent : (plan : Plan) (u : State) (ns : List ℕ) → AreSentOf (is_noticed plan.notice u.left) u.current u.next (map (λ n. fib_entries plan.mode n (sent_entries plan u)) ns)
+fibs_sent plan u [] = tt
+fibs_sent plan u (n ∷ ns) = (fib_sent plan u n, fibs_sent plan u ns)
+
+-- ---- what the FIBs say
+
+later_say : (mode : Mode) (es : List Marked) (ns : List ℕ) (place : ℕ) (frame : List ℕ)
+    → AreFibs (map (λ n. figs_of (fib_entries mode n es)) ns) (drop (32 * place) frame) → AllSay (fibs_from (length ns) place frame) (map (λ n. fib_entries mode n es) ns)
+later_say mode es [] place frame h = tt
+later_say mode es (n ∷ ns) place frame h =
+    let next : drop 32 (drop (32 * place) frame) ≡ drop (32 * (place + 1)) frame = drop-drop 32 (32 * place) frame ∙ ap (λ k. drop k frame) (omega arith) in
+    let rest : AreFibs (map (λ n. figs_of (fib_entries mode n es)) ns) (drop (32 * (place + 1)) frame) = subst (λ (b : List ℕ). AreFibs (map (λ n. figs_of (fib_entries mode n es)) ns) b) next h.1 in (
+      record { figs = map fig_of (figs_of (fib_entries mode n es)); is_fib = h.0.fib; hears = figs_heard (fib_entries mode n es) },
+      later_say mode es ns (place + 1) frame rest,
+    )
+
+pub record FrameSays (plan : Plan) (u : State) : Type 0 where
+  pub first_fib_is : List ℕ
+  pub later_are : List (List ℕ)
+  pub fibs : fibs_from (fib_count plan.mode) 0 (shown_bytes plan u) ≡ first_fib_is ∷ later_are
+  pub entries : List Marked
+  pub more : List (List Marked)
+  pub first : Says first_fib_is (ensemble_sent plan u) entries
+  pub later : AllSay later_are more
+  pub entries_sent : Each (IsSentOf (is_noticed plan.notice u.left) u.current u.next) entries
+  pub more_sent : AreSentOf (is_noticed plan.notice u.left) u.current u.next more
+  pub heard : (m : Marked) → IsHeardInRow (shown_bytes plan u) m → SaidIn m.next entries (raw_entry m.entry) ⊎ SaidInSome m.next more (raw_entry m.entry)
+
+said_in : (ms : List Marked) (m : Marked) → In m ms → SaidIn m.next ms (raw_entry m.entry)
+said_in [] m h = absurd h
+said_in (x ∷ xs) m (inl same) = inl (ap (λ (y : Marked). y.next) same, ap (λ (y : Marked). raw_entry y.entry) same)
+said_in (x ∷ xs) m (inr more) = inr (said_in xs m more)
+
+said_in_some : (f : ℕ → List Marked) (ns : List ℕ) (m : Marked) → In m (flat_map f ns) → SaidInSome m.next (map f ns) (raw_entry m.entry)
+said_in_some f [] m h = absurd h
+said_in_some f (n ∷ ns) m h =
+    elim (in_append m (f n) (flat_map f ns) h) [
+      | inl here ↦ inl (said_in (f n) m here)
+      | inr there ↦ inr (said_in_some f ns m there)
+    ]
+
+count_of : (mode : Mode) (k : ℕ) → fib_count mode ≡ suc (length (later_fibs mode k))
+count_of I k = refl
+count_of II k = refl
+count_of III k = refl
+count_of IV k = refl
+
+pub frame_says : Laws → (plan : Plan) (u : State) → Airs plan u → FrameSays plan u
+frame_says laws plan u a =
+    let mode : Mode = plan.mode in
+    let es : List Marked = sent_entries plan u in
+    let o : Option EnsembleInformation = ensemble_sent plan u in
+    let k : ℕ = u.turn in
+    let frame : List ℕ = shown_bytes plan u in
+    let ns : List ℕ = later_fibs mode k in
+    let are = (laws.pages.valid mode o k es (pageable laws.pages plan u a)).0 in
+    record {
+      first_fib_is = fib_at frame 0;
+      later_are = fibs_from (length ns) 1 frame;
+      fibs = ap (λ (n : ℕ). fibs_from n 0 frame) (count_of mode k);
+      entries = fib_entries mode (first_fib mode k) es;
+      more = map (λ n. fib_entries mode n es) ns;
+      first = record {
+        figs = map fig_of (ensemble_figs o ++ figs_of (fib_entries mode (first_fib mode k) es));
+        is_fib = are.0.fib;
+        hears = first_heard laws.ensemble o (sent_within plan u a) (fib_entries mode (first_fib mode k) es);
+      };
+      later = later_say mode es ns 1 frame are.1;
+      entries_sent = fib_sent plan u (first_fib mode k);
+      more_sent = fibs_sent plan u ns;
+      heard = λ m h.
+          let inside : Contains (page_entries mode k es) m = (laws.pages.heard mode o k es (pageable laws.pages plan u a) m).0 h in
+          let among : In m (page_entries mode k es) = contains_in (page_entries mode k es) m inside in
+          let parts : In m (fib_entries mode (first_fib mode k) es ++ flat_map (λ n. fib_entries mode n es) ns) = subst (λ (xs : List Marked). In m xs) (laws.fibs mode es k) among in
+          elim (in_append m (fib_entries mode (first_fib mode k) es) (flat_map (λ n. fib_entries mode n es) ns) parts) [
+            | inl here ↦ inl (said_in (fib_entries mode (first_fib mode k) es) m here)
+            | inr there ↦ inr (said_in_some (λ n. fib_entries mode n es) ns m there)
+          ];
+    }

@@ -1,0 +1,15 @@
+//! What holds of every listener. The law is a function that does nothing; its contract is the law.
+
+ghost use Rattle.plan_runs.specs.Listening.{ListenersAreRight};
+
+/// The law of listeners: a listener that is new before any frame of a run of a typed code never lacks room. After P
+/// frames of one phase that it heard tuned it knows the current configuration; and where it heard a whole notice, it
+/// knows the new configuration from the first FIB of the frame of the swap on.
+pub fn listener()
+    ensures { ListenersAreRight }
+{
+    fib_codec::laws::one_list();
+    fib_reader::laws::ensemble();
+    fib_carousel::laws::pages();
+    fib_carousel::laws::carried();
+}

@@ -1,0 +1,91 @@
+//! What a frame says of its notice, and its FIG 0/0.
+
+ghost use Rattle.std.specs.Prelude.{◌≡◌, ◌≤◌, IfSome, if◌then◌else◌, Some, None};
+ghost use Rattle.std.specs.Option.{option_copied};
+ghost use Rattle.fib_codec.specs.Ranges.{IsEnsembleInformation};
+ghost use Rattle.plan_runs.specs.Frames.{is_noticed, is_first_noticed, low_of_swap, announced_next, sent_rounds, ensemble_sent};
+ghost use Rattle.plan_machine.specs.Positions.{state_of, with_notice_begun};
+
+use crate::machine::Machine;
+use fib_carousel::pages;
+use mux_config::{Ensemble, Store, change};
+use plan_code::Plan;
+
+/// Whether a frame is one of the notice: from so many frames before the swap to the last one before it.
+pub fn is_noticed(notice: u8, left: Option<u16>) -> bool
+    ensures { result ≡ is_noticed notice left }
+{
+    match left {
+        None => false,
+        Some(left) => 1 <= left && left <= u16::from(notice),
+    }
+}
+
+/// Whether a frame is the first of the notice.
+pub fn is_first_noticed(notice: u8, left: Option<u16>) -> bool
+    ensures { result ≡ is_first_noticed notice left }
+{
+    match left {
+        None => false,
+        Some(left) => left == u16::from(notice),
+    }
+}
+
+/// Begins a notice: in its first frame page 0 is in turn. Whether the frame is the first of a notice is the result.
+/// This comes after the frame's instructions.
+pub fn begin_notice<S: Store>(plan: &Plan, machine: &mut Machine<S>) -> bool
+    ensures state { state_of S.content machine.new ≡
+        with_notice_begun plan.now (state_of S.content machine.old) }
+    ensures first { result ≡ is_first_noticed plan.now.notice machine.old.left }
+{
+    let first = is_first_noticed(plan.notice, machine.left);
+    if first {
+        machine.turn = 0;
+    }
+    first
+}
+
+/// The next configuration, where it is sent too.
+fn next_if<'a, S: Store>(next: &'a S, wanted: bool) -> Option<&'a S>
+    ensures { option_copied result ≡ (if wanted then Some next.now else None) }
+{
+    if wanted { Some(next) } else { None }
+}
+
+/// How many pages the frame's page set takes: that of the current configuration, and in a notice of both.
+pub fn rounds<S: Store>(plan: &Plan, machine: &Machine<S>) -> usize
+    ensures value { result ≡ sent_rounds plan.now (state_of S.content machine.now) }
+    ensures one { 1 ≤ result }
+{
+    let next = next_if(&machine.next, is_noticed(plan.notice, machine.left));
+    pages(plan.mode, &machine.current, next)
+}
+
+/// The low part of the CIF count of a swap that comes after so many frames: the count modulo 250.
+fn low_of_swap(count: u16, left: Option<u16>) -> u8
+    ensures { result ≡ low_of_swap count left }
+{
+    match left {
+        None => 0,
+        Some(left) => ((u32::from(count) + u32::from(left)) % 5000 % 250) as u8,
+    }
+}
+
+/// The FIG 0/0 of the frame (EN 300 401 clause 6.4): the change flags and the low part of the count of the swap in a
+/// notice, neither elsewhere. None where the CIF count is no multiple of the mode's step. Its fields must be within
+/// their bits.
+pub fn ensemble<S: Store>(plan: &Plan, machine: &Machine<S>) -> Option<Ensemble>
+    requires { IfSome (ensemble_sent plan.now (state_of S.content machine.now))
+        IsEnsembleInformation }
+    ensures { result ≡ ensemble_sent plan.now (state_of S.content machine.now) }
+{
+    if machine.count % plan.mode.step() != 0 {
+        return None;
+    }
+    if is_noticed(plan.notice, machine.left) {
+        let flags = change(&machine.current, &machine.next).bits();
+        let low = low_of_swap(machine.count, machine.left);
+        return Ensemble::new(machine.eid, flags, false, machine.count, Some(low));
+    }
+    Ensemble::new(machine.eid, 0, false, machine.count, None)
+}

@@ -1,0 +1,111 @@
+//! A code's file and the text of an event file, played.
+
+ghost use Rattle.std.specs.Prelude.{◌≡◌, ℕ, List, true, false, Some, IfOk, IfErr, OnOk};
+ghost use Rattle.std.specs.Io.KnownBytes.{Appends};
+ghost use Rattle.plan_code.specs.declared.fault.CodeFault.TheVariants.{Memory as NoMemoryForCode};
+ghost use Rattle.plan_playback.specs.declared.fault.RunFault.TheVariants.{Code as OfCode};
+ghost use Rattle.plan_code.specs.Program.{Program, IsProgram, line_at};
+ghost use Rattle.plan_player.specs.Playing.{Playing};
+ghost use Rattle.plan_events.specs.declared.step.Step.{Step};
+ghost use Rattle.plan_events.specs.Events.{events_of};
+ghost use Rattle.plan_playback.specs.Parts.{IsCodeFault};
+ghost use Rattle.plan_playback.specs.Playback.{asked, IsPlayback, IsTypedFileOf, Delivers, IsFault, is_write, IsSilent, or_zero};
+
+use crate::fault::RunFault;
+use crate::playing::play_steps;
+use mux_tables::Tables;
+use plan_code::{Code, Contacts, decode};
+use plan_events::{laws, read_events};
+use plan_player::{Player, Sink, Start};
+use plan_verifier::{Verified, verify};
+use std::alloc::Global;
+
+/// The line that the instruction at a place of the code comes from; 0 where none stands there.
+fn line_of(code: &Code, pc: u16) -> u16
+    ensures { result ≡ or_zero (line_at code.now pc) }
+{
+    match code.line_at(pc) {
+        Some(line) => line,
+        None => 0,
+    }
+}
+
+/// The typed code that these bytes are the file of.
+fn typed_code(alloc: Global, bytes: &[u8]) -> Result<Verified, RunFault>
+    ensures found { IfOk result (λ v. IsTypedFileOf v bytes.now) }
+    ensures only { (code : Program) → IsTypedFileOf code bytes.now → IfOk result (λ v. v ≡ code) }
+    ensures fault { IfErr result (λ e. IsCodeFault bytes.now e) }
+    ensures memory { (code : Program) → IsTypedFileOf code bytes.now
+        → IfErr result (λ e. e ≡ OfCode NoMemoryForCode) }
+{
+    let code = match decode(alloc, bytes) {
+        Ok(code) => code,
+        Err(fault) => return Err(RunFault::Code(fault)),
+    };
+    match verify::<Tables>(code) {
+        Ok(verified) => Ok(verified),
+        Err(refused) => Err(RunFault::Refused {
+            pc: refused.pc,
+            line: line_of(&refused.code, refused.pc),
+            cause: refused.cause,
+        }),
+    }
+}
+
+/// Plays the code in a file over the events of a text: the player starts at this CIF count and frame of the day, with
+/// these contacts closed, and each frame is put into the sink, which must not have failed. How many frames were made is
+/// the result. Events are not kept one by one: a step of many frames takes no more memory than one of a single frame.
+///
+/// # Errors
+///
+/// The first of these: `Code` where the bytes are no code file, or memory for it is refused; `Refused` where the code
+/// is not typed; `Start` where the count is 5000 or more, or the frame of the day 3,600,000 or more; `Events` where the
+/// text holds no events, or memory for them is refused; `Write` where the sink fails, with what went out. At every other
+/// fault nothing was written.
+pub fn run<K: Sink>(
+    alloc: Global,
+    code: &[u8],
+    events: &str,
+    count: u16,
+    day: u32,
+    contacts: Contacts,
+    out: &mut K,
+) -> Result<u128, RunFault>
+    requires working { K.has_failed out.old ≡ false }
+    // A typed code, a start in range and a text of steps are played, unless memory or the sink fails.
+    ensures played { (p : Playing) (steps : List Step)
+        → IsPlayback (asked code.now events.now count day contacts) p steps
+        → Delivers p (events_of steps) (K.taken out.old) (K.taken out.new) result }
+    // Nothing else is.
+    ensures only { OnOk result ((p : Playing) × (steps : List Step)
+        × IsPlayback (asked code.now events.now count day contacts) p steps) }
+    ensures first_fault { IfErr result (λ e.
+        IsFault (asked code.now events.now count day contacts) e) }
+    // The sink has failed exactly where the fault is `Write`, and has taken nothing at another fault.
+    ensures failed { K.has_failed out.new ≡ is_write result }
+    ensures silent { IfErr result (λ e. IsSilent (K.taken out.old) (K.taken out.new) e) }
+{
+    laws::one_list();
+    let verified = typed_code(alloc, code)?;
+    let start = Start {
+        eid: verified.code().plan().eid,
+        count,
+        day,
+        contacts,
+    };
+    let mut player: Player<Tables> = match Player::new(&verified, start) {
+        Ok(player) => player,
+        Err(fault) => return Err(RunFault::Start(fault)),
+    };
+    let steps = match read_events(alloc, events) {
+        Ok(steps) => steps,
+        Err(fault) => return Err(RunFault::Events(fault)),
+    };
+    match play_steps(&mut player, steps.as_slice(), out) {
+        Ok(frames) => Ok(frames),
+        Err(cut) => Err(RunFault::Write {
+            frames: cut.frames,
+            bytes: cut.bytes,
+        }),
+    }
+}

@@ -1,0 +1,125 @@
+-- What the player's calls need of a state that a typed code comes to.
+use Rattle.std.specs.Prelude.{◌||◌}
+use Rattle.std.proofs.Common.{◌≡◌, ℕ, ◌<◌, Bool, true, false, cond, List, [], ◌∷◌, Option, None, refl, sym, ap, subst, ◌∙◌, arith}
+use Rattle.mux_config.specs.Facts.{Marked}
+use Rattle.fib_codec.specs.declared.modes.Mode.{Mode}
+use Rattle.fib_carousel.specs.Pages.{page_set}
+use Rattle.plan_code.specs.Program.{Program, IsProgram}
+use Rattle.plan_code.specs.Machine.{State}
+use Rattle.plan_verifier.specs.Typing.{IsTyped}
+use Rattle.plan_runs.specs.declared.event.Event.TheVariants.{Contact, Frame}
+use Rattle.plan_runs.specs.declared.event.Start.{Start}
+use Rattle.plan_runs.specs.Frames.{is_due, with_swap, is_first_noticed, shown, after_burst, sent_entries, after_frame, frame_steps, begins_phase}
+use Rattle.plan_runs.specs.Phases.{SentBy}
+use Rattle.plan_runs.specs.Runs.{IsInRange, IsStart, happens}
+use Rattle.plan_runs.specs.TypedRuns.{IsPlayed}
+use Rattle.plan_runs.proofs.TypedRuns.{typed_code_runs}
+use Rattle.plan_runs.proofs.Reached.{starts_are_reached, reached_is_kept}
+use Rattle.plan_runs.proofs.Facts.{airs, code_of, played_holds}
+use Rattle.plan_runs.proofs.Carries.{frame_carries}
+use Rattle.plan_runs.proofs.Periods.{sends, after_goes}
+use Rattle.plan_machine.proofs.GoesOn.{typed_code_goes_on, frame_plays}
+use Rattle.plan_player.specs.declared.phase_pages.PhasePages.{PhasePages}
+use Rattle.plan_player.specs.Phase.{Keeps, IsFrameReady, IsGoing}
+
+-- ---- the page in turn as a phase begins
+
+due_turn : (s : State) (b : Bool) → b ≡ true → (cond b (with_swap s) s).turn ≡ 0
+due_turn s true e = refl
+due_turn s false e = absurd cc
+
+first_turn : (u : State) (b : Bool) → b ≡ true → (cond b (let r : State = record u { turn = 0 } in r) u).turn ≡ 0
+first_turn u true e = refl
+first_turn u false e = absurd cc
+
+kept_turn : (u : State) (b : Bool) → u.turn ≡ 0 → (cond b (let r : State = record u { turn = 0 } in r) u).turn ≡ 0
+kept_turn u true e = refl
+kept_turn u false e = e
+
+left_kept : (u : State) (b : Bool) → (cond b (let r : State = record u { turn = 0 } in r) u).left ≡ u.left
+left_kept u true = refl
+left_kept u false = refl
+
+begun : (u : State) (due first : Bool) (b : Bool) → (due || first) ≡ true → (due ≡ true → u.turn ≡ 0) → (first ≡ b) → (cond b (let r : State = record u { turn = 0 } in r) u).turn ≡ 0
+begun u true first b e zero same = kept_turn u b (zero refl)
+begun u false first b e zero same = first_turn u b (sym same ∙ e)
+
+first_page : (p : Program) (s : State) → IsPlayed p s → begins_phase p s ≡ true → (shown p s).turn ≡ 0
+first_page p s h begins =
+    let u : State = after_burst p s in
+    let frame = (typed_code_runs p s (Frame ∷ []) h).allowed.0 in
+    let carried = frame_carries p h.program s frame.steps frame.executes in
+    let same = ap (is_first_noticed p.plan.notice) (left_kept u (is_first_noticed p.plan.notice u.left)) in
+    begun u (is_due s.left) (is_first_noticed p.plan.notice (shown p s).left) (is_first_noticed p.plan.notice u.left) begins
+    (λ due. carried.turn ∙ due_turn s (is_due s.left) due) same
+
+-- ---- a frame
+
+same_pages : (mode : Mode) (pages : PhasePages) (ms ns : List Marked) (turn page : ℕ) → ns ≡ ms → page ≡ turn → Keeps mode ms turn pages → Keeps mode ns page pages
+same_pages mode pages ms ns turn page e f k =
+    subst (λ (es : List Marked). Keeps mode es page pages) (sym e) (subst (λ (n : ℕ). Keeps mode ms n pages) (sym f) k)
+
+pub frame_ready : (p : Program) (s : State) (steps : ℕ) (pages : PhasePages) → IsGoing p s steps pages → IsFrameReady p s pages
+frame_ready p s steps pages h =
+    let goes = typed_code_goes_on p s h.played in
+    let ms : List Marked = h.phase.entries in
+    record {
+      runs = goes.runs;
+      sent = goes.sent;
+      few = goes.few;
+      first = first_page p s h.played;
+      kept = λ no_phase.
+          let sent = sends p h.played.typed.0 (code_of p s h.played) s (played_holds p s h.played) no_phase ms s.turn (record { sent = h.phase.sent; turn_is = refl }) in
+          same_pages p.plan.mode pages ms (sent_entries p.plan (shown p s)) s.turn (shown p s).turn sent.entries sent.turn_is h.phase.keeps;
+    }
+
+pub frame_goes : (p : Program) (s : State) (steps : ℕ) (pages after : PhasePages) → IsGoing p s steps pages
+    → Keeps p.plan.mode (sent_entries p.plan (shown p s)) (after_frame p s).turn after → IsGoing p (after_frame p s) (frame_steps p s) after
+frame_goes p s steps pages after h keeps =
+    let u : State = shown p s in
+    let frame = (typed_code_runs p s (Frame ∷ []) h.played).allowed.0 in
+    let next = after_goes p.plan u (airs p h.played.typed.0 (code_of p s h.played) s (played_holds p s h.played)) (sent_entries p.plan u) refl in
+    record {
+      played = frame_plays p s h.played;
+      phase = record { entries = sent_entries p.plan u; sent = next.sent; keeps = keeps };
+      within = omega (arith, frame.counted, frame.within);
+    }
+
+-- the same of a code that is lent
+pub lent_ready : (p q : Program) (s : State) (steps : ℕ) (pages : PhasePages) → q ≡ p → IsGoing p s steps pages → IsFrameReady q s pages
+lent_ready p q s steps pages e h = subst (λ (x : Program). IsFrameReady x s pages) (sym e) (frame_ready p s steps pages h)
+
+pub lent_goes : (p q : Program) (s t : State) (steps made : ℕ) (pages after : PhasePages) → q ≡ p → IsGoing p s steps pages → t ≡ after_frame q s → made ≡ frame_steps q s
+    → Keeps q.plan.mode (sent_entries q.plan (shown q s)) (after_frame q s).turn after → IsGoing p t made after
+lent_goes p q s t steps made pages after e h state count keeps =
+    let here : Keeps p.plan.mode (sent_entries p.plan (shown p s)) (after_frame p s).turn after =
+    subst (λ (x : Program). Keeps x.plan.mode (sent_entries x.plan (shown x s)) (after_frame x s).turn after) e keeps in
+    let on = frame_goes p s steps pages after h here in
+    let state_is : t ≡ after_frame p s = state ∙ ap (λ (x : Program). after_frame x s) e in
+    let count_is : made ≡ frame_steps p s = count ∙ ap (λ (x : Program). frame_steps x s) e in
+    subst (λ (u : State). IsGoing p u made after) (sym state_is) (subst (λ (n : ℕ). IsGoing p (after_frame p s) n after) (sym count_is) on)
+
+-- ---- a contact
+
+pub contact_goes : (p : Program) (s : State) (steps : ℕ) (pages : PhasePages) (c : ℕ) (closed : Bool) → IsGoing p s steps pages → c < 16 → IsGoing p (happens p s (Contact c closed)) steps pages
+contact_goes p s steps pages c closed h below = record {
+  played = record { program = h.played.program; typed = h.played.typed; reached = reached_is_kept p s (Contact c closed ∷ []) h.played.reached (below, tt) };
+  phase = record { entries = h.phase.entries; sent = h.phase.sent; keeps = h.phase.keeps };
+  within = h.within;
+}
+
+-- ---- the start
+
+pub start_goes : (p : Program) (start : Start) (s : State) (pages : PhasePages) → IsProgram p → IsTyped p → IsInRange start → IsStart p start s → ((mode : Mode) (ms : List Marked) → Keeps mode ms 0 pages) → IsGoing p s 0 pages
+start_goes p start s pages formed typed range starts none =
+    let ms : List Marked = page_set s.current None in
+    let sent : SentBy p.plan None s.current s.next ms = refl in
+    record {
+      played = record { program = formed; typed = typed; reached = starts_are_reached p start s range starts };
+      phase = record {
+        entries = ms;
+        sent = subst (λ (o : Option ℕ). SentBy p.plan o s.current s.next ms) (sym starts.left) sent;
+        keeps = subst (λ (n : ℕ). Keeps p.plan.mode ms n pages) (sym starts.turn) (none p.plan.mode ms);
+      };
+      within = omega arith;
+    }

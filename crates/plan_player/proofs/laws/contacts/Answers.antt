@@ -1,5 +1,0 @@
-use Rattle.plan_player.proofs.LastLevels.{last_levels_count}
-use Rattle.plan_player.proofs.laws.contacts.Goals as goal
-
-pub returns : goal.returns
-returns c = last_levels_count

@@ -1,0 +1,19 @@
+use Rattle.std.proofs.Common.{ℕ, subst}
+use Rattle.std.specs.Option.{option_copied}
+use Rattle.fib_carousel.specs.Pages.{page_set_of, page_after, rounds}
+use Rattle.fib_carousel.specs.Kept.{IsKept}
+use Rattle.fib_carousel.specs.Walk.{StandsAt}
+use Rattle.plan_player.proofs.Keeping.{one_more}
+use Rattle.plan_player.proofs.phase_pages.make.Goals as goal
+
+pub returns-clause-keeps : goal.returns-clause-keeps
+returns-clause-keeps g c =
+    let mode = c.args.mode in
+    let ms = page_set_of g.S.Store.content c.args.current.now (option_copied c.args.next) in
+    let at = (c.requires.keeps.cursor c.requires.within).1 in
+    let page = c.kept_page-page.result in
+    let cursor = c.kept_page-page.new.self in
+    one_more mode ms c.args.pages.now c.from-place.result page c.count_of-count.result cursor c.requires.keeps c.from-place.ensures c.requires.few
+    (subst (λ (k : ℕ). IsKept mode ms k page) at c.kept_page-page.ensures.kept)
+    c.count_of-count.ensures
+    (subst (λ (k : ℕ). StandsAt mode ms (page_after (rounds mode ms) k) cursor) at c.kept_page-page.ensures.next)

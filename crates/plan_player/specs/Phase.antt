@@ -1,0 +1,54 @@
+-- The pages of a phase that a player keeps. No public contract needs them to be believed: a frame's bytes are those of
+-- its page, made anew.
+use Rattle.std.specs.Prelude.{◌≡◌, ℕ, ◌<◌, ◌≤◌, true, false, List, length, Option, Some, slice_get}
+use Rattle.mux_config.specs.Facts.{Marked}
+use Rattle.fib_codec.specs.declared.modes.Mode.{Mode}
+use Rattle.fib_carousel.specs.declared.kept_page.KeptPage.{KeptPage}
+use Rattle.fib_carousel.specs.Pages.{rounds}
+use Rattle.fib_carousel.specs.Kept.{IsKept}
+use Rattle.fib_carousel.specs.Walk.{StandsAt}
+use Rattle.plan_code.specs.declared.plan.Plan.{Plan}
+use Rattle.plan_code.specs.Program.{Program}
+use Rattle.plan_code.specs.Machine.{State}
+use Rattle.plan_runs.specs.Frames.{ready, shown, sent_entries, sent_rounds, begins_phase}
+use Rattle.plan_runs.specs.Phases.{SentBy}
+use Rattle.plan_runs.specs.TypedRuns.{IsPlayed, CanBeSent}
+use Rattle.plan_machine.specs.Positions.{CanRun}
+use Rattle.plan_player.specs.declared.phase_pages.PhasePages.{PhasePages}
+
+-- a place of the table holds page n
+pub record HasPage (mode : Mode) (ms : List Marked) (n : ℕ) (pages : List (Option KeptPage)) : Type 0 where
+  pub page : KeptPage
+  pub held : slice_get pages n ≡ Some (Some page)
+  pub kept : IsKept mode ms n page
+
+-- the pages that were made so far are those of these entries, from page 0 on; the page in turn is one of them or the
+-- next to be made, at which the cursor stands
+pub record Keeps (mode : Mode) (ms : List Marked) (turn : ℕ) (p : PhasePages) : Type 0 where
+  pub whole : length p.pages ≡ 60
+  pub room : p.made ≤ 60
+  pub turn_in : turn ≤ p.made
+  pub each : (n : ℕ) → n < p.made → HasPage mode ms n p.pages
+  pub counted : 1 ≤ p.made → p.count ≡ rounds mode ms
+  pub cursor : p.made < rounds mode ms → StandsAt mode ms p.made p.cursor
+
+-- the pages kept are those that the next frame sends, unless it begins a phase
+pub record IsInPhase (plan : Plan) (s : State) (p : PhasePages) : Type 0 where
+  pub entries : List Marked
+  pub sent : SentBy plan s.left s.current s.next entries
+  pub keeps : Keeps plan.mode entries s.turn p
+
+-- what the next frame rests on: its instructions can be run, and then what it sends can be sent; where it begins a
+-- phase, page 0 is in turn, and else the pages kept are those that it sends
+pub record IsFrameReady (p : Program) (s : State) (pages : PhasePages) : Type 0 where
+  pub runs : CanRun p (ready s)
+  pub sent : CanBeSent p.plan (shown p s)
+  pub few : sent_rounds p.plan (shown p s) ≤ 60
+  pub first : begins_phase p s ≡ true → (shown p s).turn ≡ 0
+  pub kept : begins_phase p s ≡ false → Keeps p.plan.mode (sent_entries p.plan (shown p s)) (shown p s).turn pages
+
+-- what holds of a player between frames
+pub record IsGoing (p : Program) (s : State) (steps : ℕ) (pages : PhasePages) : Type 0 where
+  pub played : IsPlayed p s
+  pub phase : IsInPhase p.plan s pages
+  pub within : steps ≤ p.plan.budget

@@ -1,0 +1,104 @@
+//! Events played into a sink.
+
+ghost use Rattle.std.specs.Prelude.{◌≡◌, ◌<◌, ◌≤◌, [], ◌∷◌, length, take, false, true, IfOk, OnOk, IfErr, OnErr};
+ghost use Rattle.std.specs.Io.KnownBytes.{Appends};
+ghost use Rattle.plan_runs.specs.declared.event.Event.TheVariants.{Frame};
+ghost use Rattle.plan_runs.specs.Headline.{KeepsItsWord};
+ghost use Rattle.plan_player.specs.Playing.{played};
+ghost use Rattle.plan_player.specs.Delivery.{frames_of, bytes_of, next_frame, StoppedBy};
+
+use crate::fault::PlayFault;
+use crate::player::Player;
+use crate::sink::{Sink, put_all};
+use mux_config::Store;
+use plan_runs::{Event, laws};
+
+/// Makes the next frame, and puts it into the sink.
+fn play_frame<'a, S: Store, K: Sink>(player: &mut Player<'a, S>, sink: &mut K) -> Result<(), usize>
+    requires working { K.has_failed sink.old ≡ false }
+    ensures state { player.new ≡ played player.old (Frame ∷ []) }
+    ensures bytes { OnOk result
+        (Appends (K.taken sink.old) (K.taken sink.new) (next_frame player.old)) }
+    ensures works { OnOk result (K.has_failed sink.new ≡ false) }
+    ensures bound { IfErr result (λ n. n < length (next_frame player.old)) }
+    ensures part { IfErr result (λ n.
+        Appends (K.taken sink.old) (K.taken sink.new) (take n (next_frame player.old))) }
+    ensures fails { OnErr result (K.has_failed sink.new ≡ true) }
+{
+    let frame = player.frame();
+    put_all(sink, frame.bytes())?;
+    Ok(())
+}
+
+/// Plays one event. How many frames it made is the result. `Err`: the event is a frame, of which the sink took so many
+/// bytes, fewer than all.
+fn play_event<'a, S: Store, K: Sink>(
+    player: &mut Player<'a, S>,
+    event: Event,
+    sink: &mut K,
+) -> Result<u64, usize>
+    requires working { K.has_failed sink.old ≡ false }
+    ensures state { player.new ≡ played player.old (event ∷ []) }
+    ensures bytes { OnOk result
+        (Appends (K.taken sink.old) (K.taken sink.new) (bytes_of player.old (event ∷ []))) }
+    ensures frames { IfOk result (λ n. n ≡ length (frames_of player.old (event ∷ []))) }
+    ensures one { IfOk result (λ n. n ≤ 1) }
+    ensures works { OnOk result (K.has_failed sink.new ≡ false) }
+    ensures frame { OnErr result (event ≡ Frame) }
+    ensures bound { IfErr result (λ n. n < length (next_frame player.old)) }
+    ensures part { IfErr result (λ n.
+        Appends (K.taken sink.old) (K.taken sink.new) (take n (next_frame player.old))) }
+    ensures fails { OnErr result (K.has_failed sink.new ≡ true) }
+{
+    match event {
+        Event::Contact(contact, closed) => {
+            player.contact(contact, closed);
+            Ok(0)
+        }
+        Event::Frame => {
+            play_frame(player, sink)?;
+            Ok(1)
+        }
+    }
+}
+
+/// The headline, of these events.
+fn promise<'a, S: Store>(player: &Player<'a, S>, events: &[Event])
+    ensures { KeepsItsWord player.now.code player.now.state events.now }
+{
+    let _current = player.current();
+    let _count = events.len();
+    laws::headline();
+}
+
+/// Plays these events, and puts each frame into the sink, which must not have failed. How many frames it made is the
+/// result. No trap is met in them, every frame is right, and each swap comes at the announced count, after its change
+/// flags went out and the whole next configuration could be read three times.
+///
+/// `Write`: the sink failed. The event whose frame it didn't take whole has been done, and later ones have not.
+pub fn play<'a, S: Store, K: Sink>(
+    player: &mut Player<'a, S>,
+    events: &[Event],
+    sink: &mut K,
+) -> Result<u64, PlayFault>
+    requires working { K.has_failed sink.old ≡ false }
+    ensures bytes { OnOk result
+        (Appends (K.taken sink.old) (K.taken sink.new) (bytes_of player.old events.now)) }
+    ensures state { OnOk result (player.new ≡ played player.old events.now) }
+    ensures frames { IfOk result (λ n. n ≡ length (frames_of player.old events.now)) }
+    ensures works { OnOk result (K.has_failed sink.new ≡ false) }
+    ensures stopped { IfErr result (λ fault.
+        StoppedBy player.old player.new events.now (K.taken sink.old) (K.taken sink.new) fault) }
+    ensures fails { OnErr result (K.has_failed sink.new ≡ true) }
+    ensures headline { KeepsItsWord player.old.code player.old.state events.now }
+{
+    promise(player, events);
+    let mut frames = 0u64;
+    for event in events {
+        match play_event(player, *event, sink) {
+            Ok(made) => frames += made,
+            Err(bytes) => return Err(PlayFault::Write { frames, bytes }),
+        }
+    }
+    Ok(frames)
+}

@@ -1,0 +1,143 @@
+//! The pages of a phase, each packed once.
+
+ghost use Rattle.std.specs.Prelude.{◌≡◌, ℕ, ◌+◌, ◌<◌, ◌≤◌, List, slice_get, Some};
+ghost use Rattle.std.specs.Option.{option_copied};
+ghost use Rattle.mux_config.specs.Facts.{Marked};
+ghost use Rattle.fib_codec.specs.declared.modes.Mode.{Mode};
+ghost use Rattle.fib_carousel.specs.Pages.{page_set_of, rounds};
+ghost use Rattle.fib_carousel.specs.Kept.{IsKept};
+ghost use Rattle.plan_player.specs.Phase.{HasPage, Keeps};
+
+use fib_carousel::{Cursor, KeptPage};
+use fib_codec::Mode;
+use mux_config::Store;
+
+/// The most pages that a phase of a typed code has: the longest period of a plan.
+const MOST_PAGES: usize = 60;
+
+/// The pages of a phase that were made so far. Each is packed when it is first in turn, and then kept until the phase
+/// ends.
+#[derive(Drop)]
+pub(crate) struct PhasePages {
+    /// The pages made, from page 0 on; what stands after them is of an earlier phase.
+    pub(crate) pages: [Option<KeptPage>; MOST_PAGES],
+    /// How many were made in this phase.
+    pub(crate) made: u8,
+    /// How many pages the phase has, once its first page is made.
+    pub(crate) count: usize,
+    /// Where the next one to be made starts.
+    pub(crate) cursor: Cursor,
+}
+
+/// A page that is held.
+fn held(pages: &[Option<KeptPage>; MOST_PAGES], number: u8) -> KeptPage
+    requires { (mode : Mode) × (ms : List Marked) × HasPage mode ms number pages.now }
+    ensures { slice_get pages.now number ≡ Some (Some result) }
+{
+    pages[usize::from(number)].unwrap()
+}
+
+/// How many pages the phase has.
+fn count_of<'a, 'b, S: Store>(
+    pages: &PhasePages,
+    mode: Mode,
+    current: &'a S,
+    next: Option<&'b S>,
+) -> usize
+    requires { let ms = page_set_of S.content current.now (option_copied next) in
+        1 ≤ pages.now.made → pages.now.count ≡ rounds mode ms }
+    ensures { let ms = page_set_of S.content current.now (option_copied next.entry) in
+        result ≡ rounds mode ms }
+{
+    if pages.made == 0 {
+        return fib_carousel::pages(mode, current, next);
+    }
+    pages.count
+}
+
+/// Makes the next page.
+fn make<'a, 'b, S: Store>(pages: &mut PhasePages, mode: Mode, current: &'a S, next: Option<&'b S>)
+    requires keeps { let ms = page_set_of S.content current.now (option_copied next) in
+        Keeps mode ms pages.old.made pages.old }
+    requires within { let ms = page_set_of S.content current.now (option_copied next) in
+        pages.old.made < rounds mode ms }
+    requires few { pages.old.made < 60 }
+    ensures keeps { let ms = page_set_of S.content current.now (option_copied next.entry) in
+        Keeps mode ms pages.old.made pages.new }
+    ensures made { pages.new.made ≡ pages.old.made + 1 }
+{
+    let count = count_of(pages, mode, current, next);
+    let page = pages.cursor.kept_page(mode, current, next);
+    let place = usize::from(pages.made);
+    pages.pages[place] = Some(page);
+    pages.count = count;
+    pages.made += 1;
+}
+
+/// Makes the page in turn where it wasn't yet in this phase.
+fn make_if_new<'a, 'b, S: Store>(
+    pages: &mut PhasePages,
+    mode: Mode,
+    turn: u8,
+    current: &'a S,
+    next: Option<&'b S>,
+)
+    requires keeps { let ms = page_set_of S.content current.now (option_copied next) in
+        Keeps mode ms turn pages.old }
+    requires within { turn < rounds mode (page_set_of S.content current.now (option_copied next)) }
+    requires few { turn < 60 }
+    ensures keeps { let ms = page_set_of S.content current.now (option_copied next.entry) in
+        Keeps mode ms turn pages.new }
+    ensures made { turn < pages.new.made }
+{
+    if turn < pages.made {
+        return;
+    }
+    make(pages, mode, current, next);
+}
+
+impl PhasePages {
+    /// No pages.
+    pub(crate) fn new() -> PhasePages
+        ensures { (mode : Mode) (ms : List Marked) → Keeps mode ms 0 result }
+    {
+        PhasePages {
+            pages: [None; MOST_PAGES],
+            made: 0,
+            count: 1,
+            cursor: Cursor::new(),
+        }
+    }
+
+    /// Lets the pages go, as a phase begins.
+    pub(crate) fn restart(&mut self)
+        ensures { (mode : Mode) (ms : List Marked) → Keeps mode ms 0 self.new }
+    {
+        self.made = 0;
+        self.cursor.restart();
+    }
+}
+
+/// The page in turn of these configurations. It is made where it wasn't yet in this phase.
+pub(crate) fn page_in_turn<'a, 'b, S: Store>(
+    pages: &mut PhasePages,
+    mode: Mode,
+    turn: u8,
+    current: &'a S,
+    next: Option<&'b S>,
+) -> KeptPage
+    requires keeps { let ms = page_set_of S.content current.now (option_copied next) in
+        Keeps mode ms turn pages.old }
+    requires within { turn < rounds mode (page_set_of S.content current.now (option_copied next)) }
+    requires few { turn < 60 }
+    ensures page { let ms = page_set_of S.content current.now (option_copied next.entry) in
+        IsKept mode ms turn result }
+    ensures keeps { let ms = page_set_of S.content current.now (option_copied next.entry) in
+        Keeps mode ms turn pages.new }
+    ensures made { turn < pages.new.made }
+    ensures count { let ms = page_set_of S.content current.now (option_copied next.entry) in
+        pages.new.count ≡ rounds mode ms }
+{
+    make_if_new(pages, mode, turn, current, next);
+    held(&pages.pages, turn)
+}

@@ -1,0 +1,193 @@
+//! The player.
+
+ghost use Rattle.std.specs.Prelude.{◌≡◌, ◌≤◌, Some, None, IfOk};
+ghost use Rattle.std.specs.Result.{result_err};
+ghost use Rattle.mux_config.specs.Sound.{IsSound};
+ghost use Rattle.plan_code.specs.Program.{line_at};
+ghost use Rattle.plan_runs.specs.declared.event.Event.TheVariants.{Contact};
+ghost use Rattle.plan_runs.specs.Frames.{frame_bytes, frame_steps, after_frame};
+ghost use Rattle.plan_runs.specs.Runs.{IsInRange, happens};
+ghost use Rattle.plan_runs.specs.TypedRuns.{IsPlayed};
+ghost use Rattle.plan_runs.specs.Announced.{FrameRuns, heard_of};
+ghost use Rattle.plan_runs.specs.RightBytes.{FrameIsRight};
+ghost use Rattle.plan_machine.specs.Positions.{state_of};
+ghost use Rattle.plan_player.specs.Playing.{start_fault, BeginsWith};
+
+use crate::fault::StartFault;
+use crate::frame_step::make_frame;
+use crate::phase_pages::PhasePages;
+use fib_codec::FibFrame;
+use mux_config::Store;
+use plan_code::limits::{COUNTS, FRAMES_A_DAY};
+use plan_code::{Code, ContactId};
+use plan_machine::Machine;
+use plan_runs::{Start, laws};
+use plan_verifier::Verified;
+use std::marker::Model;
+
+/// Plays a typed code, frame by frame, with the current and the next configuration in two stores of this type. It
+/// takes no memory, and tests for no trap: a typed code meets none.
+#[derive(Drop)]
+pub struct Player<'a, S: Store> {
+    code: &'a Verified,
+    machine: Machine<S>,
+    pages: PhasePages,
+    steps: u8,
+}
+
+impl<'a, S: Store> Model for Player<'a, S> {
+    ghost use Rattle.plan_machine.specs.Positions.{state_of};
+    ghost use Rattle.plan_player.specs.Playing.{Playing};
+    ghost use Rattle.plan_player.specs.Phase.{IsGoing};
+
+    ghost Value = { Playing };
+
+    ghost view = { λ p. record {
+      code = p.code.now;
+      state = state_of S.content p.machine;
+      steps = p.steps;
+    } };
+
+    ghost invariant = { λ p. IsGoing p.code.now (state_of S.content p.machine) p.steps p.pages };
+}
+
+/// The first fault of a start.
+fn fault_of(start: Start) -> Option<StartFault>
+    ensures first { result ≡ start_fault start }
+    ensures none { result ≡ None → IsInRange start }
+{
+    let _eid = start.eid;
+    let _contacts = start.contacts.0;
+    if start.count >= COUNTS {
+        return Some(StartFault::Count);
+    }
+    if start.day >= FRAMES_A_DAY {
+        return Some(StartFault::Day);
+    }
+    None
+}
+
+/// The headline, of the frame that is next: it meets no trap, a swap in it was announced, and its bytes are right.
+fn promise<S: Store>(code: &Code, machine: &Machine<S>)
+    requires { IsPlayed code.now (state_of S.content machine.now) }
+    ensures announced { let s = state_of S.content machine.now in
+        FrameRuns code.now s (heard_of code.now.plan s) }
+    ensures right { FrameIsRight code.now (state_of S.content machine.now) }
+{
+    laws::headline();
+}
+
+impl<'a, S: Store> Player<'a, S> {
+    /// A player of this code that begins with this start. No frame is made yet.
+    ///
+    /// `Count`: the CIF count is 5000 or more; `Day`: the frame of the day is 3,600,000 or more. `Count` comes first.
+    pub fn new(code: &'a Verified, start: Start) -> Result<Player<'a, S>, StartFault>
+        ensures begins { IfOk result (λ p. BeginsWith code.now start p) }
+        ensures fault { result_err result ≡ start_fault start }
+    {
+        if let Some(fault) = fault_of(start) {
+            return Err(fault);
+        }
+        let _typed = code.code();
+        Ok(Player {
+            code,
+            machine: Machine::start(code, start),
+            pages: PhasePages::new(),
+            steps: 0,
+        })
+    }
+
+    /// Closes a contact, or opens it, between two frames; the others stay.
+    pub fn contact(&mut self, contact: ContactId, closed: bool)
+        ensures state { self.new ≡ record self.old {
+          state =
+              happens self.old.code self.old.state (Contact contact closed);
+        } }
+        ensures played { IsPlayed self.new.code self.new.state }
+    {
+        let _number = contact.get();
+        self.machine.set_contact(contact, closed);
+    }
+
+    /// Makes the next frame: a swap that is due, the instructions, the FIBs, and then the counts. It always answers.
+    ///
+    /// Its bytes and the state after it are those of the definitions. It meets no trap, carries out no more
+    /// instructions than the budget, and its FIBs are right; a swap in it was announced by the frames before it.
+    pub fn frame(&mut self) -> FibFrame
+        ensures bytes { result ≡ frame_bytes self.old.code self.old.state }
+        ensures state { self.new ≡ record self.old {
+          state = after_frame self.old.code self.old.state;
+          steps = frame_steps self.old.code self.old.state;
+        } }
+        ensures within { self.new.steps ≤ self.old.code.plan.budget }
+        ensures announced { let plan = self.old.code.plan in
+            FrameRuns self.old.code self.old.state (heard_of plan self.old.state) }
+        ensures right { FrameIsRight self.old.code self.old.state }
+        ensures played { IsPlayed self.new.code self.new.state }
+    {
+        let code = self.code.code();
+        promise(code, &self.machine);
+        let (frame, steps) = make_frame(code, &mut self.machine, &mut self.pages);
+        self.steps = steps;
+        frame
+    }
+
+    /// The current configuration, in every state a sound one.
+    pub fn current(&self) -> &S
+        ensures value { S.content result.now ≡ self.now.state.current }
+        ensures sound { IsSound self.now.state.current }
+        ensures played { IsPlayed self.now.code self.now.state }
+    {
+        &self.machine.current
+    }
+
+    /// The next configuration: the one that a pending swap makes the current one, or that edits prepare.
+    pub fn next(&self) -> &S
+        ensures value { S.content result.now ≡ self.now.state.next }
+    {
+        &self.machine.next
+    }
+
+    /// How many frames are left until the swap; None where none is pending. It is 0 where the next frame makes it.
+    pub fn remaining(&self) -> Option<u16>
+        ensures value { result ≡ self.now.state.left }
+    {
+        self.machine.left
+    }
+
+    /// The CIF count of the next frame, 0 to 4999.
+    pub fn count(&self) -> u16
+        ensures value { result ≡ self.now.state.count }
+    {
+        self.machine.count
+    }
+
+    /// The frame of the day that comes next, 0 to 3,599,999.
+    pub fn day(&self) -> u32
+        ensures value { result ≡ self.now.state.day }
+    {
+        self.machine.day
+    }
+
+    /// The place of the instruction that comes next, counted from 0.
+    pub fn pc(&self) -> u16
+        ensures value { result ≡ self.now.state.pc }
+    {
+        self.machine.pc
+    }
+
+    /// The number of the line that the instruction at this place comes from.
+    pub fn line(&self) -> u16
+        ensures value { line_at self.now.code self.now.state.pc ≡ Some result }
+    {
+        self.code.code().line_at(self.machine.pc).unwrap()
+    }
+
+    /// How many instructions the last frame carried out, at most the budget; 0 before the first frame.
+    pub fn steps(&self) -> u8
+        ensures value { result ≡ self.now.steps }
+        ensures within { self.now.steps ≤ self.now.code.plan.budget }
+    {
+        self.steps
+    }
+}

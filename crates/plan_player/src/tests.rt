@@ -1,0 +1,14 @@
+//! Tests of the player, over configurations in tables and over counted capacity units.
+
+mod codes;
+mod contacts;
+mod listening;
+mod modes;
+mod pages;
+mod parts;
+mod settling;
+mod sinks;
+mod starts;
+mod steps;
+mod swaps;
+mod writers;

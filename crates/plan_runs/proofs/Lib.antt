@@ -1,0 +1,23 @@
+pub mod Bursts
+pub mod Unmoved
+mod LastLevels
+pub mod Joined
+pub mod Reached
+mod Vectors
+mod Meanings
+pub mod Lookups
+pub mod Knowledge
+pub mod Passing
+pub mod Steps
+pub mod Instructions
+pub mod Between
+pub mod TypedRuns
+pub mod Carries
+pub mod Tracked
+pub mod Facts
+pub mod Right
+pub mod Notice
+pub mod Announcing
+pub mod Counted
+pub mod Periods
+pub mod Headline

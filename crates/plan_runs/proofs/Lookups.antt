@@ -1,0 +1,43 @@
+-- Look-ups in lists: what is found is inside.
+use Rattle.std.specs.Prelude.{Contains, find, slice_get}
+use Rattle.std.proofs.Common.{◌≡◌, ℕ, zero, suc, ◌<◌, Bool, true, false, cond, List, [], ◌∷◌, length, Some, refl, subst, arith}
+use Rattle.std.proofs.lemmas.Option.{slice_get_within}
+
+-- an element that is found is one of the list, and passes the test
+pub record IsFound {X : Type 0} (test : X → Bool) (xs : List X) (x : X) : Type 0 where
+  pub inside : Contains xs x
+  pub passes : test x ≡ true
+
+contains_first : {X : Type 0} (x : X) (xs : List X) → Contains (x ∷ xs) x
+contains_first x xs = (0, omega arith, refl)
+
+contains_later : {X : Type 0} (x y : X) (xs : List X) → Contains xs y → Contains (x ∷ xs) y
+contains_later x y xs (k, lt, is) = (suc k, omega arith, is)
+
+found_by : {X : Type 0} (test : X → Bool) (y : X) (ys : List X) (x : X) → (find test ys ≡ Some x → IsFound test ys x) → (b : Bool) → test y ≡ b
+    → cond b (Some y) (find test ys) ≡ Some x → IsFound test (y ∷ ys) x
+found_by test y ys x rest true e h =
+    let same : y ≡ x = cc h in
+    subst (λ z. IsFound test (y ∷ ys) z) same (record { inside = contains_first y ys; passes = e })
+found_by test y ys x rest false e h =
+    let later = rest h in
+    record { inside = contains_later y x ys later.inside; passes = later.passes }
+
+pub found : {X : Type 0} (test : X → Bool) (xs : List X) (x : X) → find test xs ≡ Some x → IsFound test xs x
+found test [] x h = absurd cc
+found test (y ∷ ys) x h = found_by test y ys x (found test ys x) (test y) refl h
+
+pub get_some : {X : Type 0} (xs : List X) (i : ℕ) → i < length xs → (x : X) × (slice_get xs i ≡ Some x)
+get_some [] i below = absurd (omega arith)
+get_some (x ∷ xs) zero below = (x, refl)
+get_some (x ∷ xs) (suc i) below = get_some xs i (omega arith)
+
+pub get_below : {X : Type 0} (xs : List X) (i : ℕ) (x : X) → slice_get xs i ≡ Some x → i < length xs
+get_below xs i x h = slice_get_within xs i x h
+
+pub get_contains : {X : Type 0} (xs : List X) (i : ℕ) (x : X) → slice_get xs i ≡ Some x → Contains xs x
+get_contains [] i x h = absurd cc
+get_contains (y ∷ ys) zero x h =
+    let same : y ≡ x = cc in
+    (0, omega arith, same)
+get_contains (y ∷ ys) (suc i) x h = contains_later y x ys (get_contains ys i x h)

@@ -1,0 +1,369 @@
+-- The bytes of every frame are right.
+use Rattle.std.specs.Prelude.{Contains, slice_get, map, take, drop, IfSome, ◌==◌, ◌&&◌, not}
+use Rattle.std.proofs.Common.{◌≡◌, ◌≢◌, ℕ, zero, suc, ◌+◌, ◌*◌, ◌/◌, ◌%◌, ◌<◌, ◌≤◌, Bool, true, false, cond, List, [], ◌∷◌, ◌++◌, length, Option, Some, None, refl, sym, ap, subst, ◌∙◌, arith, inl, inr, ◌⊎◌}
+use Rattle.std.proofs.lemmas.List.{drop-drop}
+use Rattle.std.proofs.lemmas.List.Elements.{Contains-append_cases}
+use Rattle.std.proofs.lemmas.Bool.{eqb-true, eq-eqb}
+use Rattle.mux_config.specs.Configuration.{Configuration, IsConfiguration, Each}
+use Rattle.mux_config.specs.Entries.{EnsembleInformation}
+use Rattle.mux_config.specs.Facts.{Marked, marked, facts_of}
+use Rattle.mux_config.specs.Change.{change_of, bits_of, is_same_sub, is_same_service, is_same_packet, is_same_list, has_same_subs, has_same_services}
+use Rattle.mux_config.specs.declared.entry.Entry.TheVariants.{Ensemble as EnsembleOf, Sub as SubOf, Short as ShortOf, Service as ServiceOf, Packet as PacketOf}
+use Rattle.mux_config.specs.declared.entry.Entry.{Entry}
+use Rattle.mux_config.proofs.Same.{list_same, sub_same, service_same, packet_same}
+use Rattle.fib_codec.specs.declared.modes.Mode.{Mode}
+use Rattle.fib_codec.specs.declared.modes.Mode.TheVariants.{I, II, III, IV}
+use Rattle.fib_codec.specs.Modes.{fib_count, count_step}
+use Rattle.fib_codec.specs.Ranges.{IsEnsembleInformation}
+use Rattle.fib_codec.specs.Spelling.{Written, head_of, head_byte, ext_of, bit_of, fig_bytes, entry_bytes}
+use Rattle.fib_codec.specs.Grammar.{Open, Other, IsValid, fig_of}
+use Rattle.fib_codec.specs.Heard.{fib_at, IsHeardInRow, IsInFig}
+use Rattle.fib_codec.specs.declared.head.Head.{Head}
+use Rattle.fib_carousel.specs.Packing.{same_head, entries_in_fib, entries_where}
+use Rattle.fib_carousel.specs.Pages.{page_set, page_entries, EachInAPage, first_fib, later_fibs}
+use Rattle.fib_carousel.specs.Greedy.{packing}
+use Rattle.fib_carousel.specs.Bytes.{page_figs, AreFibs, ensemble_figs, figs_of, joined}
+use Rattle.fib_carousel.specs.Carried.{IsPageable, IsSendable, AreSendable, PageSetsArePageable, PagesAreValid, PagesAreHeard, EnsembleIsHeard}
+use Rattle.plan_code.specs.declared.plan.Plan.{Plan}
+use Rattle.plan_code.specs.Machine.{State}
+use Rattle.plan_runs.specs.Frames.{is_noticed, announced_next, sent_entries, ensemble_of, ensemble_sent, low_of_swap, shown_bytes}
+use Rattle.plan_runs.specs.RightBytes.{IsNoHeader, IsFlaggedBy, IsEnsembleOf, IsHeadedBy, IsUnheaded, IsRight}
+use Rattle.plan_runs.proofs.Knowledge.{CommittedBy}
+use Rattle.plan_runs.proofs.Tracked.{Airs}
+
+-- ---- what is used of pages
+
+pub record PageLaws : Type 0 where
+  pub each : EachInAPage
+  pub pageable : PageSetsArePageable
+  pub valid : PagesAreValid
+  pub heard : PagesAreHeard
+  pub ensemble : EnsembleIsHeard
+
+-- ---- a change has a flag
+
+not_both : (a b : Bool) → (cond (not a) 1 0) + (cond (not b) 2 0) ≡ 0 → (a ≡ true) × (b ≡ true)
+not_both true true e = (refl, refl)
+not_both true false e = absurd (omega (arith, e))
+not_both false true e = absurd (omega (arith, e))
+not_both false false e = absurd (omega (arith, e))
+
+both_of : (a b : Bool) → (a && b) ≡ true → (a ≡ true) × (b ≡ true)
+both_of true b e = (refl, e)
+both_of false b e = absurd cc
+
+unchanged : (c n : Configuration) → bits_of (change_of c n) ≡ 0 → n ≡ c
+unchanged c n e =
+    let both = not_both (has_same_subs c n) (has_same_services c n) e in
+    let parts = both_of (is_same_list is_same_service c.services n.services) (is_same_list is_same_packet c.packets n.packets) both.1 in
+    let subs : c.subs ≡ n.subs = list_same is_same_sub sub_same c.subs n.subs both.0 in
+    let services : c.services ≡ n.services = list_same is_same_service service_same c.services n.services parts.0 in
+    let packets : c.packets ≡ n.packets = list_same is_same_packet packet_same c.packets n.packets parts.1 in
+    let same : c ≡ n = λ i. record { subs = subs i; services = services i; packets = packets i } in
+    sym same
+
+bits_below : (a b : Bool) → (cond a 1 0) + (cond b 2 0) < 4
+bits_below true true = omega arith
+bits_below true false = omega arith
+bits_below false true = omega arith
+bits_below false false = omega arith
+
+change_below : (c n : Configuration) → bits_of (change_of c n) < 4
+change_below c n = bits_below (change_of c n).subs (change_of c n).services
+
+change_some : (c n : Configuration) → n ≢ c → 0 < bits_of (change_of c n)
+change_some c n apart = by (bits_of (change_of c n)) refl
+  where
+    by : (k : ℕ) → bits_of (change_of c n) ≡ k → 0 < bits_of (change_of c n)
+    by zero e = absurd (apart (unchanged c n e))
+    by (suc k) e = omega (arith, e)
+
+-- ---- FIG 0/0 of a state
+
+plain_within : (eid count : ℕ) → eid < 65536 → count < 5000 → IsEnsembleInformation (record { eid = eid; change = 0; al = false; count = count; occurrence = None })
+plain_within eid count e c = record { eid = e; change = omega arith; count = c; flagged = (λ none. absurd cc, λ some. absurd (omega (arith, some))); occurrence = tt }
+
+flagged_within : (eid count change low : ℕ) → eid < 65536 → count < 5000 → change < 4 → 0 < change → low < 256
+    → IsEnsembleInformation (record { eid = eid; change = change; al = false; count = count; occurrence = Some low })
+flagged_within eid count change low e c b some l = record { eid = e; change = b; count = c; flagged = (λ there. some, λ more. refl); occurrence = l }
+
+committed_changes : (plan : Plan) (left : Option ℕ) (c n : Configuration) → is_noticed plan.notice left ≡ true → CommittedBy plan left c n → n ≢ c
+committed_changes plan None c n e h = absurd cc
+committed_changes plan (Some l) c n e h = h.changes
+
+low_below : (count : ℕ) (left : Option ℕ) → low_of_swap count left < 256
+low_below count None = omega arith
+low_below count (Some l) = omega arith
+
+ensemble_by : (plan : Plan) (s : State) → Airs plan s → (b : Bool) → is_noticed plan.notice s.left ≡ b
+    → IsEnsembleInformation
+    (cond b (let r : EnsembleInformation = record { eid = s.eid; change = bits_of (change_of s.current s.next); al = false; count = s.count; occurrence = Some (low_of_swap s.count s.left) } in r)
+    (record { eid = s.eid; change = 0; al = false; count = s.count; occurrence = None }))
+ensemble_by plan s h true e =
+    flagged_within s.eid s.count (bits_of (change_of s.current s.next)) (low_of_swap s.count s.left) h.eid h.count (change_below s.current s.next)
+    (change_some s.current s.next (committed_changes plan s.left s.current s.next e h.committed)) (low_below s.count s.left)
+ensemble_by plan s h false e = plain_within s.eid s.count h.eid h.count
+
+pub ensemble_within : (plan : Plan) (s : State) → Airs plan s → IsEnsembleInformation (ensemble_of plan s)
+ensemble_within plan s h = ensemble_by plan s h (is_noticed plan.notice s.left) refl
+
+sent_within_by : (plan : Plan) (s : State) → Airs plan s → (b : Bool) → IfSome (cond b (Some (ensemble_of plan s)) None) IsEnsembleInformation
+sent_within_by plan s h true = ensemble_within plan s h
+sent_within_by plan s h false = tt
+
+next_is : (plan : Plan) (s : State) → Airs plan s → (b : Bool) → IfSome (cond b (Some s.next) None) IsConfiguration
+next_is plan s h true = h.next
+next_is plan s h false = tt
+
+-- what a state sends can be packed
+pub pageable : PageLaws → (plan : Plan) (s : State) → Airs plan s → IsPageable (ensemble_sent plan s) (sent_entries plan s)
+pageable laws plan s h =
+    laws.pageable s.current (announced_next plan s) (ensemble_sent plan s) h.current (next_is plan s h (is_noticed plan.notice s.left)) (sent_within_by plan s h (s.count % count_step plan.mode == 0))
+
+-- ---- the entries of a page
+
+later_inside : (e : Marked) (es : List Marked) (m : Marked) → Contains es m → Contains (e ∷ es) m
+later_inside e es m h = (suc h.0, omega (arith, h.1), h.2)
+
+first_inside : (e m : Marked) (es xs : List Marked) → (Contains xs m → Contains es m) → Contains (e ∷ xs) m → Contains (e ∷ es) m
+first_inside e m es xs f (zero, lt, is) = (0, omega arith, is)
+first_inside e m es xs f (suc k, lt, is) = later_inside e es m (f (k, omega (arith, lt), is))
+
+where_by : (e : Marked) (es xs : List Marked) (m : Marked) → (Contains xs m → Contains es m) → (b : Bool) → Contains (cond b (e ∷ xs) xs) m → Contains (e ∷ es) m
+where_by e es xs m f true h = first_inside e m es xs f h
+where_by e es xs m f false h = later_inside e es m (f h)
+
+where_inside : (test : ℕ → Bool) (es : List Marked) (ns : List ℕ) (m : Marked) → Contains (entries_where test es ns) m → Contains es m
+where_inside test [] ns m h = h
+where_inside test (e ∷ es) [] m h = absurd (omega (arith, h.1))
+where_inside test (e ∷ es) (n ∷ ns) m h = where_by e es (entries_where test es ns) m (where_inside test es ns m) (test n) h
+
+pub page_inside : (mode : Mode) (k : ℕ) (es : List Marked) (m : Marked) → Contains (page_entries mode k es) m → Contains es m
+page_inside mode k es m h = where_inside (λ n. n / fib_count mode == k) es (packing mode es) m h
+
+set_by : (c n : Configuration) (b : Bool) (m : Marked) → Contains (page_set c (cond b (Some n) None)) m → Contains (facts_of c false) m ⊎ ((b ≡ true) × Contains (facts_of n true) m)
+set_by c n false m h = inl h
+set_by c n true m h = elim (Contains-append_cases (facts_of c false) (facts_of n true) m h) [ inl here ↦ inl here | inr there ↦ inr (refl, there) ]
+
+entries_right : PageLaws → (plan : Plan) (s : State) → Airs plan s → (m : Marked) → IsHeardInRow (shown_bytes plan s) m
+    → Contains (facts_of s.current false) m ⊎ ((is_noticed plan.notice s.left ≡ true) × Contains (facts_of s.next true) m)
+entries_right laws plan s h m heard =
+    let inside = (laws.heard plan.mode (ensemble_sent plan s) s.turn (sent_entries plan s) (pageable laws plan s h) m).0 heard in
+    set_by s.current s.next (is_noticed plan.notice s.left) m (page_inside plan.mode s.turn (sent_entries plan s) m inside)
+
+-- ---- FIGs that are not FIG 0/0
+
+-- a FIG that is written under a head of extension 1 to 3
+abbrev IsOrganized : Written → Type 0
+IsOrganized w = (1 ≤ w.head.ext) × (w.head.ext ≤ 3) × (w.head.oe ≡ false)
+
+ext_low : (e : Entry) → ext_of e ≤ 3
+ext_low (EnsembleOf e) = omega arith
+ext_low (SubOf s) = omega arith
+ext_low (ShortOf s) = omega arith
+ext_low (ServiceOf s) = omega arith
+ext_low (PacketOf p) = omega arith
+
+head_organized : (m : Marked) (es : List Entry) → 1 ≤ ext_of m.entry → IsOrganized (record { head = head_of m; entries = es })
+head_organized m es some = (some, ext_low m.entry, refl)
+
+join_by : (m : Marked) (f : Written) (fs : List Written) → 1 ≤ ext_of m.entry → IsOrganized f → Each IsOrganized fs → (b : Bool)
+    → Each IsOrganized (cond b ((let w : Written = record { head = f.head; entries = m.entry ∷ f.entries } in w) ∷ fs) ((let w : Written = record { head = head_of m; entries = m.entry ∷ [] } in w) ∷ f ∷ fs))
+join_by m f fs some h hs true = (h, hs)
+join_by m f fs some h hs false = (head_organized m (m.entry ∷ []) some, (h, hs))
+
+join_organized : (m : Marked) (fs : List Written) → 1 ≤ ext_of m.entry → Each IsOrganized fs → Each IsOrganized (joined m fs)
+join_organized m [] some h = (head_organized m (m.entry ∷ []) some, tt)
+join_organized m (f ∷ fs) some h = join_by m f fs some h.0 h.1 (same_head (head_of m) f.head)
+
+figs_organized : (ms : List Marked) → AreSendable ms → Each IsOrganized (figs_of ms)
+figs_organized [] h = tt
+figs_organized (m ∷ ms) h = join_organized m (figs_of ms) h.0.organization (figs_organized ms h.1)
+
+flag_le : (b : Bool) → bit_of b ≤ 1
+flag_le true = omega arith
+flag_le false = omega arith
+
+byte_ext : (h : Head) → h.ext ≤ 3 → head_byte h % 32 ≡ h.ext
+byte_ext h low = omega (arith, low, flag_le h.next, flag_le h.oe, flag_le h.long)
+
+not_ours : (oe : Bool) (second : ℕ) (bytes : List ℕ) (es : List (List ℕ)) → 1 ≤ second % 32 → IsNoHeader (cond oe (Other bytes) (Open second es))
+not_ours true second bytes es some h = h
+not_ours false second bytes es some h = omega (arith, some, h)
+
+no_header : (w : Written) → IsOrganized w → IsNoHeader (fig_of w)
+no_header w h =
+    let ext = byte_ext w.head h.1 in
+    let some : 1 ≤ head_byte w.head % 32 = omega (arith, ext, h.0) in
+    not_ours w.head.oe (head_byte w.head) (fig_bytes w.head w.entries) (map entry_bytes w.entries) some
+
+no_headers : (fs : List Written) → Each IsOrganized fs → Each IsNoHeader (map fig_of fs)
+no_headers [] h = tt
+no_headers (w ∷ ws) h = (no_header w h.0, no_headers ws h.1)
+
+-- ---- the FIBs of a page
+
+sendable_by : (e : Marked) (xs : List Marked) → IsSendable e → AreSendable xs → (b : Bool) → AreSendable (cond b (e ∷ xs) xs)
+sendable_by e xs h hs true = (h, hs)
+sendable_by e xs h hs false = hs
+
+sendable_where : (test : ℕ → Bool) (es : List Marked) (ns : List ℕ) → AreSendable es → AreSendable (entries_where test es ns)
+sendable_where test [] ns h = tt
+sendable_where test (e ∷ es) [] h = tt
+sendable_where test (e ∷ es) (n ∷ ns) h = sendable_by e (entries_where test es ns) h.0 (sendable_where test es ns h.1) (test n)
+
+-- FIB n of these FIBs
+pub record IsFibAt (all : List (List Written)) (bytes : List ℕ) (n : ℕ) : Type 0 where
+  pub figs : List Written
+  pub there : slice_get all n ≡ Some figs
+  pub valid : IsValid (fib_at bytes n) (map fig_of figs)
+
+fib_is : (all : List (List Written)) (bytes : List ℕ) → AreFibs all bytes → (n : ℕ) → n < length all → IsFibAt all bytes n
+fib_is [] bytes h n below = absurd (omega (arith, below))
+fib_is (figs ∷ rest) bytes h zero below = record { figs = figs; there = refl; valid = h.0 }
+fib_is (figs ∷ rest) bytes h (suc n) below =
+    let later = fib_is rest (drop 32 bytes) h.1 n (omega (arith, below)) in
+    let places : drop (32 * n) (drop 32 bytes) ≡ drop (32 * suc n) bytes = drop-drop (32 * n) 32 bytes ∙ ap (λ k. drop k bytes) (omega arith) in
+    record { figs = later.figs; there = later.there; valid = subst (λ (b : List ℕ). IsValid (take 32 b) (map fig_of later.figs)) places later.valid }
+
+page_length : (mode : Mode) (o : Option EnsembleInformation) (k : ℕ) (ms : List Marked) → length (page_figs mode o k ms) ≡ fib_count mode
+page_length I o k ms = refl
+page_length II o k ms = refl
+page_length III o k ms = refl
+page_length IV o k ms = refl
+
+mapped_organized : (mode : Mode) (ms : List Marked) → AreSendable ms → (ns : List ℕ) (n : ℕ) (figs : List Written)
+    → slice_get (map (λ m. figs_of (entries_in_fib m ms (packing mode ms))) ns) n ≡ Some figs → Each IsOrganized figs
+mapped_organized mode ms h [] n figs e = absurd cc
+mapped_organized mode ms h (m ∷ ns) zero figs e =
+    let same : figs_of (entries_in_fib m ms (packing mode ms)) ≡ figs = cc e in
+    subst (λ (f : List Written). Each IsOrganized f) same (figs_organized (entries_in_fib m ms (packing mode ms)) (sendable_where (λ x. x == m) ms (packing mode ms) h))
+mapped_organized mode ms h (m ∷ ns) (suc n) figs e = mapped_organized mode ms h ns n figs e
+
+later_figs : (mode : Mode) (o : Option EnsembleInformation) (k : ℕ) (ms : List Marked) → AreSendable ms → (n : ℕ) (figs : List Written) → 1 ≤ n → slice_get (page_figs mode o k ms) n ≡ Some figs → Each IsOrganized figs
+later_figs mode o k ms h zero figs some e = absurd (omega (arith, some))
+later_figs mode o k ms h (suc n) figs some e = mapped_organized mode ms h (later_fibs mode k) n figs e
+
+-- ---- the frame
+
+valid_at : PageLaws → (plan : Plan) (s : State) → Airs plan s → (n : ℕ) → n < fib_count plan.mode → IsFibAt (page_figs plan.mode (ensemble_sent plan s) s.turn (sent_entries plan s)) (shown_bytes plan s) n
+valid_at laws plan s h n below =
+    let figs : List (List Written) = page_figs plan.mode (ensemble_sent plan s) s.turn (sent_entries plan s) in
+    let long : length figs ≡ fib_count plan.mode = page_length plan.mode (ensemble_sent plan s) s.turn (sent_entries plan s) in
+    let are = (laws.valid plan.mode (ensemble_sent plan s) s.turn (sent_entries plan s) (pageable laws plan s h)).0 in
+    fib_is figs (shown_bytes plan s) are n (omega (arith, below, long))
+
+some_fibs : (mode : Mode) → 0 < fib_count mode
+some_fibs I = omega arith
+some_fibs II = omega arith
+some_fibs III = omega arith
+some_fibs IV = omega arith
+
+first_sendable : PageLaws → (plan : Plan) (s : State) → Airs plan s → AreSendable (sent_entries plan s)
+first_sendable laws plan s h = (pageable laws plan s h).entries
+
+-- the first FIB, where FIG 0/0 is sent or not
+abbrev FirstFigs : Plan → State → Option EnsembleInformation → List Written
+FirstFigs plan s o = ensemble_figs o ++ figs_of (entries_in_fib (first_fib plan.mode s.turn) (sent_entries plan s) (packing plan.mode (sent_entries plan s)))
+
+first_valid : PageLaws → (plan : Plan) (s : State) → Airs plan s → (o : Option EnsembleInformation) → ensemble_sent plan s ≡ o → IsValid (fib_at (shown_bytes plan s) 0) (map fig_of (FirstFigs plan s o))
+first_valid laws plan s h o e =
+    let at = valid_at laws plan s h 0 (some_fibs plan.mode) in
+    let there : Some (FirstFigs plan s (ensemble_sent plan s)) ≡ Some at.figs = at.there in
+    let same : FirstFigs plan s (ensemble_sent plan s) ≡ at.figs = cc there in
+    let now : FirstFigs plan s o ≡ at.figs = sym (ap (FirstFigs plan s) e) ∙ same in
+    subst (λ (f : List Written). IsValid (fib_at (shown_bytes plan s) 0) (map fig_of f)) (sym now) at.valid
+
+others_organized : PageLaws → (plan : Plan) (s : State) → Airs plan s
+    → Each IsOrganized (figs_of (entries_in_fib (first_fib plan.mode s.turn) (sent_entries plan s) (packing plan.mode (sent_entries plan s))))
+others_organized laws plan s h =
+    let es : List Marked = sent_entries plan s in
+    figs_organized (entries_in_fib (first_fib plan.mode s.turn) es (packing plan.mode es)) (sendable_where (λ x. x == first_fib plan.mode s.turn) es (packing plan.mode es) (first_sendable laws plan s h))
+
+-- what FIG 0/0 says
+flagged_right : (plan : Plan) (s : State) (left : Option ℕ) → (e : EnsembleInformation) → is_noticed plan.notice left ≡ true
+    → e.change ≡ bits_of (change_of s.current s.next) → e.occurrence ≡ Some (low_of_swap s.count left) → IsFlaggedBy s left e
+flagged_right plan s None e noticed change occurrence = absurd cc
+flagged_right plan s (Some l) e noticed change occurrence = (change, occurrence)
+
+ensemble_right_by : (plan : Plan) (s : State) (b : Bool) → is_noticed plan.notice s.left ≡ b
+    → IsEnsembleOf plan s
+    (cond b (let r : EnsembleInformation = record { eid = s.eid; change = bits_of (change_of s.current s.next); al = false; count = s.count; occurrence = Some (low_of_swap s.count s.left) } in r)
+    (record { eid = s.eid; change = 0; al = false; count = s.count; occurrence = None }))
+ensemble_right_by plan s true e =
+    let info : EnsembleInformation = record { eid = s.eid; change = bits_of (change_of s.current s.next); al = false; count = s.count; occurrence = Some (low_of_swap s.count s.left) } in
+    record {
+      eid = refl;
+      alarm = refl;
+      count = refl;
+      flagged = λ noticed. flagged_right plan s s.left info noticed refl refl;
+      unflagged = λ not_so. let clash : true ≡ false = sym e ∙ not_so in absurd cc;
+    }
+ensemble_right_by plan s false e =
+    record {
+      eid = refl;
+      alarm = refl;
+      count = refl;
+      flagged = λ noticed. let clash : true ≡ false = sym noticed ∙ e in absurd cc;
+      unflagged = λ not_so. (refl, refl);
+    }
+
+pub ensemble_right : (plan : Plan) (s : State) → IsEnsembleOf plan s (ensemble_of plan s)
+ensemble_right plan s = ensemble_right_by plan s (is_noticed plan.notice s.left) refl
+
+is_sent : (plan : Plan) (s : State) → s.count % count_step plan.mode ≡ 0 → ensemble_sent plan s ≡ Some (ensemble_of plan s)
+is_sent plan s e = ap (λ (b : Bool). cond b (Some (ensemble_of plan s)) None) (eq-eqb (s.count % count_step plan.mode) 0 e)
+
+not_sent_by : (plan : Plan) (s : State) (b : Bool) → (s.count % count_step plan.mode == 0) ≡ b → s.count % count_step plan.mode ≢ 0 → cond b (Some (ensemble_of plan s)) None ≡ None
+not_sent_by plan s true e apart = absurd (apart (eqb-true (s.count % count_step plan.mode) 0 e))
+not_sent_by plan s false e apart = refl
+
+not_sent : (plan : Plan) (s : State) → s.count % count_step plan.mode ≢ 0 → ensemble_sent plan s ≡ None
+not_sent plan s apart = not_sent_by plan s (s.count % count_step plan.mode == 0) refl apart
+
+says_it : (e : EnsembleInformation) → IsEnsembleInformation e → IsInFig (fig_of (record { head = head_of (marked false (EnsembleOf e)); entries = EnsembleOf e ∷ [] })) (marked false (EnsembleOf e))
+says_it e within = (
+  entry_bytes (EnsembleOf e),
+  (0, omega arith, refl),
+  record { ext = refl; next = refl; long = λ two. absurd (omega (arith, two)); spelled = refl; within = within },
+)
+
+headed : PageLaws → (plan : Plan) (s : State) → Airs plan s → s.count % count_step plan.mode ≡ 0 → IsHeadedBy plan s (fib_at (shown_bytes plan s) 0)
+headed laws plan s h whole =
+    let e : EnsembleInformation = ensemble_of plan s in
+    let valid = first_valid laws plan s h (Some e) (is_sent plan s whole) in
+    let rest : List Written = figs_of (entries_in_fib (first_fib plan.mode s.turn) (sent_entries plan s) (packing plan.mode (sent_entries plan s))) in
+    record {
+      header = fig_of (record { head = head_of (marked false (EnsembleOf e)); entries = EnsembleOf e ∷ [] });
+      others = map fig_of rest;
+      information = e;
+      first = valid.fib;
+      says = says_it e (ensemble_within plan s h);
+      right = ensemble_right plan s;
+      alone = no_headers rest (others_organized laws plan s h);
+    }
+
+unheaded : PageLaws → (plan : Plan) (s : State) → Airs plan s → s.count % count_step plan.mode ≢ 0 → IsUnheaded (fib_at (shown_bytes plan s) 0)
+unheaded laws plan s h apart =
+    let valid = first_valid laws plan s h None (not_sent plan s apart) in
+    let rest : List Written = figs_of (entries_in_fib (first_fib plan.mode s.turn) (sent_entries plan s) (packing plan.mode (sent_entries plan s))) in
+    (map fig_of rest, valid.fib, no_headers rest (others_organized laws plan s h))
+
+others_unheaded : PageLaws → (plan : Plan) (s : State) → Airs plan s → (n : ℕ) → 1 ≤ n → n < fib_count plan.mode → IsUnheaded (fib_at (shown_bytes plan s) n)
+others_unheaded laws plan s h n some below =
+    let at = valid_at laws plan s h n below in
+    let organized = later_figs plan.mode (ensemble_sent plan s) s.turn (sent_entries plan s) (first_sendable laws plan s h) n at.figs some at.there in
+    (map fig_of at.figs, at.valid.fib, no_headers at.figs organized)
+
+pub frame_right : PageLaws → (plan : Plan) (s : State) → Airs plan s → IsRight plan s (shown_bytes plan s)
+frame_right laws plan s h = record {
+  length_of_fibs = (laws.valid plan.mode (ensemble_sent plan s) s.turn (sent_entries plan s) (pageable laws plan s h)).1;
+  valid = λ n below. let at = valid_at laws plan s h n below in (map fig_of at.figs, at.valid);
+  headed = headed laws plan s h;
+  unheaded = unheaded laws plan s h;
+  others_unheaded = others_unheaded laws plan s h;
+  entries = entries_right laws plan s h;
+}
+
+pub sent_within : (plan : Plan) (s : State) → Airs plan s → IfSome (ensemble_sent plan s) IsEnsembleInformation
+sent_within plan s h = sent_within_by plan s h (s.count % count_step plan.mode == 0)

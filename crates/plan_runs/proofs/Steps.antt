@@ -1,0 +1,122 @@
+-- One instruction of a typed code: it is allowed, and leaves what is known where the machine goes.
+use Rattle.std.specs.Prelude.{slice_get, option_map}
+use Rattle.std.proofs.Common.{◌≡◌, ℕ, ◌<◌, ◌≤◌, true, false, eqb, List, length, Option, Some, None, refl, sym, ap, subst, ◌∙◌, arith, ◌⊎◌}
+use Rattle.std.proofs.lemmas.Bool.{eqb-true}
+use Rattle.mux_config.specs.Configuration.{Configuration}
+use Rattle.plan_code.specs.declared.hold.Hold.{Hold}
+use Rattle.plan_code.specs.declared.hold.Hold.TheVariants.{Waits, WaitsDay, WaitsContact, WaitsSwap, Ended}
+use Rattle.plan_code.specs.declared.flags.Counters.{Counters}
+use Rattle.plan_code.specs.declared.label.Label.{Label}
+use Rattle.plan_code.specs.declared.label.Swap.{Swap}
+use Rattle.plan_code.specs.declared.instr.Instr.{Instr}
+use Rattle.plan_code.specs.Program.{Program, instr_at, label_at}
+use Rattle.plan_code.specs.Machine.{State}
+use Rattle.plan_verifier.specs.Typing.{Known, IsTyping, Arrives, Declares}
+use Rattle.plan_runs.specs.Frames.{is_running, hold_after_frame, left_after_frame}
+use Rattle.plan_runs.proofs.Lookups.{found, get_some, get_below}
+use Rattle.plan_runs.proofs.Knowledge.{AgreesBy, ComesBy, PausesBy, JoinsBy, IsAhead, AreSet, IsKept}
+use Rattle.plan_runs.proofs.Passing.{fits_by}
+
+-- ---- what is expected where the machine resumes
+
+pub record Expects (p : Program) (ts : List Known) (pc : ℕ) (counters : List ℕ) (R : Known → Type 0) : Type 0 where
+  pub known : Known
+  pub arrives : Arrives p ts pc (label_at p pc) known
+  pub affords : known.allowance ≤ p.plan.budget
+  pub set : AreSet known.counters counters
+  pub comes : R known
+
+abbrev pub ResumesBy : Program → List Known → ℕ → Hold → Option ℕ → Configuration → Configuration → List ℕ → Type 0
+ResumesBy p ts pc (Waits k) left c n counters = Expects p ts pc counters (λ t. ComesBy k t.pending t.current t.next left c n)
+ResumesBy p ts pc (WaitsDay d) left c n counters = Expects p ts pc counters (λ t. PausesBy t.pending t.current t.next left c n)
+ResumesBy p ts pc (WaitsContact d closed) left c n counters = Expects p ts pc counters (λ t. PausesBy t.pending t.current t.next left c n)
+ResumesBy p ts pc WaitsSwap left c n counters = Expects p ts pc counters (λ t. JoinsBy t left n)
+ResumesBy p ts pc Ended left c n counters = Unit {0}
+
+-- the machine is suspended, after the instructions of a frame
+pub record Suspends (p : Program) (ts : List Known) (s : State) : Type 0 where
+  pub stops : is_running s.hold ≡ false
+  pub ahead : IsAhead s.left
+  pub resumes : ResumesBy p ts s.pc (hold_after_frame s.hold) (left_after_frame s.left) s.current s.next s.counters
+  pub kept : IsKept p.plan s.left s.current s.next s.counters
+
+-- an instruction is carried out, of which this is known
+pub record RunsAt (p : Program) (ts : List Known) (b : ℕ) (s : State) : Type 0 where
+  pub runs : is_running s.hold ≡ true
+  pub instr : Instr
+  pub known : Known
+  pub at : instr_at p s.pc ≡ Some instr
+  pub there : slice_get ts s.pc ≡ Some known
+  pub affords : known.allowance ≤ b
+  pub agrees : AgreesBy known.pending known.current known.next s.left s.current s.next
+  pub set : AreSet known.counters s.counters
+  pub kept : IsKept p.plan s.left s.current s.next s.counters
+
+abbrev pub Outcome : Program → List Known → ℕ → State → Type 0
+Outcome p ts b s = Suspends p ts s ⊎ RunsAt p ts b s
+
+-- ---- the machine comes to an instruction
+
+same_known : (a b : Known) → a.current ≡ b.current → a.next ≡ b.next → a.pending ≡ b.pending → a.counters ≡ b.counters → a.allowance ≡ b.allowance → a ≡ b
+same_known a b c n p s w =
+    ap (λ (x : Configuration). let k : Known = record { current = x; next = a.next; pending = a.pending; counters = a.counters; allowance = a.allowance } in k) c
+    ∙ ap (λ (x : Configuration). let k : Known = record { current = b.current; next = x; pending = a.pending; counters = a.counters; allowance = a.allowance } in k) n
+    ∙ ap (λ (x : Swap). let k : Known = record { current = b.current; next = b.next; pending = x; counters = a.counters; allowance = a.allowance } in k) p
+    ∙ ap (λ (x : Counters). let k : Known = record { current = b.current; next = b.next; pending = b.pending; counters = x; allowance = a.allowance } in k) s
+    ∙ ap (λ (x : ℕ). let k : Known = record { current = b.current; next = b.next; pending = b.pending; counters = b.counters; allowance = x } in k) w
+
+same_some : {A : Type 0} (a b : A) (o : Option A) → o ≡ Some a → o ≡ Some b → a ≡ b
+same_some a b o e f = cc (sym e ∙ f)
+
+declares_one : (p : Program) (label : Label) (a b : Known) → Declares p label a → Declares p label b → a ≡ b
+declares_one p label a b d e =
+    same_known a b
+    (same_some a.current b.current (slice_get p.configurations label.cur) d.current e.current)
+    (same_some a.next b.next (slice_get p.configurations label.next) d.next e.next)
+    (sym d.pending ∙ e.pending)
+    (sym d.counters ∙ e.counters)
+    (sym d.cost ∙ e.cost)
+
+-- what is known there, of a state that arrives
+pub record IsThere (p : Program) (ts : List Known) (pc b : ℕ) (s : State) : Type 0 where
+  pub known : Known
+  pub there : slice_get ts pc ≡ Some known
+  pub affords : known.allowance ≤ b
+  pub agrees : AgreesBy known.pending known.current known.next s.left s.current s.next
+  pub set : AreSet known.counters s.counters
+
+is_there : (p : Program) (ts : List Known) (ty : IsTyping p ts) (pc b : ℕ) (s : State) (t : Known) (o : Option Label) → label_at p pc ≡ o → Arrives p ts pc o t → t.allowance ≤ b
+    → AgreesBy t.pending t.current t.next s.left s.current s.next → AreSet t.counters s.counters → IsThere p ts pc b s
+is_there p ts ty pc b s t None e arrives affords agrees set = record { known = t; there = arrives; affords = affords; agrees = agrees; set = set }
+is_there p ts ty pc b s t (Some label) e arrives affords agrees set =
+    let one = found (λ (l : Label). eqb l.pc pc) p.labels label e in
+    let place = ty.labels label one.inside in
+    let here : label.pc ≡ pc = eqb-true label.pc pc one.passes in
+    let same : arrives.declared ≡ place.known = declares_one p label arrives.declared place.known arrives.declares place.declares in
+    let fits = arrives.fits in
+    let cost : label.cost ≡ place.known.allowance = place.declares.cost in
+    record {
+      known = place.known;
+      there = subst (λ (k : ℕ). slice_get ts k ≡ Some place.known) here place.there;
+      affords = omega (arith, cost, arrives.affords, affords);
+      agrees = subst (λ (d : Known). AgreesBy d.pending d.current d.next s.left s.current s.next) same (fits_by t.pending arrives.declared.pending t arrives.declared s.left s.current s.next fits.swap agrees);
+      set = subst (λ (d : Known). AreSet d.counters s.counters) same (λ r low on. set r low (fits.counters r on));
+    }
+
+pub arrive : (p : Program) (ts : List Known) (ty : IsTyping p ts) (b : ℕ) (s : State) (t : Known) → is_running s.hold ≡ true → Arrives p ts s.pc (label_at p s.pc) t → t.allowance ≤ b
+    → AgreesBy t.pending t.current t.next s.left s.current s.next → AreSet t.counters s.counters → IsKept p.plan s.left s.current s.next s.counters → RunsAt p ts b s
+arrive p ts ty b s t runs arrives affords agrees set kept =
+    let x = is_there p ts ty s.pc b s t (label_at p s.pc) refl arrives affords agrees set in
+    let inside : s.pc < length p.lines = omega (arith, get_below ts s.pc x.known x.there, ty.each) in
+    let line = get_some p.lines s.pc inside in
+    record {
+      runs = runs;
+      instr = line.0.instr;
+      known = x.known;
+      at = ap (λ o. option_map (λ l. l.instr) o) line.1;
+      there = x.there;
+      affords = x.affords;
+      agrees = x.agrees;
+      set = x.set;
+      kept = kept;
+    }

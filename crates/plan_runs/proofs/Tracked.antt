@@ -1,0 +1,299 @@
+-- The page in turn and the counts, from frame to frame.
+use Rattle.std.specs.Prelude.{nat_lt, nat_le, ◌&&◌}
+use Rattle.std.proofs.Common.{◌≡◌, ℕ, zero, suc, ◌+◌, ◌-◌, ◌%◌, ◌<◌, ◌≤◌, Bool, true, false, cond, leb, List, Option, Some, None, refl, sym, ap, subst, ◌∙◌, arith, inl, inr, ◌⊎◌}
+use Rattle.std.proofs.lemmas.Bool.{eqb-true, eqb-false, ltb-true, leb-true, leb-false}
+use Rattle.mux_config.specs.Configuration.{Configuration, IsConfiguration}
+use Rattle.mux_config.specs.Facts.{Marked}
+use Rattle.fib_codec.specs.declared.modes.Mode.{Mode}
+use Rattle.fib_codec.specs.declared.modes.Mode.TheVariants.{I, II, III, IV}
+use Rattle.fib_codec.specs.Modes.{count_step}
+use Rattle.fib_carousel.specs.Pages.{page_set, rounds, page_after}
+use Rattle.plan_code.specs.declared.plan.Plan.{Plan}
+use Rattle.plan_code.specs.Program.{Program, IsProgram}
+use Rattle.plan_code.specs.Machine.{State}
+use Rattle.plan_verifier.specs.Typing.{Known, IsTyping}
+use Rattle.plan_runs.specs.Frames.{is_due, with_swap, after_burst, is_noticed, is_first_noticed, shown, sent_rounds, left_after_frame, with_next_counts, after_frame}
+use Rattle.plan_runs.proofs.Knowledge.{IsAhead, IsOnAir, CommittedBy}
+use Rattle.plan_runs.proofs.Steps.{Suspends}
+use Rattle.plan_runs.proofs.Between.{Between, frame_goes}
+use Rattle.plan_runs.proofs.Carries.{IsNewly, LeftBy, Carries, frame_carries}
+
+-- ---- pages in turn
+
+-- the page in turn in frame k of a phase
+pub page_of : ℕ → ℕ → ℕ
+page_of pages zero = 0
+page_of pages (suc k) = page_after pages (page_of pages k)
+
+pub page_of_first : (pages : ℕ) → page_of pages 0 ≡ 0
+unfolding page_of
+page_of_first pages = refl
+
+pub page_of_next : (pages k : ℕ) → page_of pages (suc k) ≡ page_after pages (page_of pages k)
+unfolding page_of
+page_of_next pages k = refl
+
+after_by : (pages turn : ℕ) → 1 ≤ pages → (b : Bool) → nat_lt (turn + 1) pages ≡ b → cond b (turn + 1) 0 < pages
+after_by pages turn some true e = ltb-true (turn + 1) pages e
+after_by pages turn some false e = omega (arith, some)
+
+pub page_after_below : (pages turn : ℕ) → 1 ≤ pages → page_after pages turn < pages
+page_after_below pages turn some = after_by pages turn some (nat_lt (turn + 1) pages) refl
+
+pub page_of_below : (pages k : ℕ) → 1 ≤ pages → page_of pages k < pages
+unfolding page_of
+page_of_below pages zero some = omega (arith, some)
+page_of_below pages (suc k) some = page_after_below pages (page_of pages k) some
+
+pub some_rounds : (m : Mode) (es : List Marked) → 1 ≤ rounds m es
+some_rounds m es = omega arith
+
+-- ---- frames of a notice
+
+both_true : (a b : Bool) → (a && b) ≡ true → (a ≡ true) × (b ≡ true)
+both_true true b e = (refl, e)
+both_true false b e = absurd cc
+
+pub noticed_from : (notice l : ℕ) → is_noticed notice (Some l) ≡ true → (1 ≤ l) × (l ≤ notice)
+noticed_from notice l e =
+    let both = both_true (nat_le 1 l) (nat_le l notice) e in
+    (leb-true 1 l both.0, leb-true l notice both.1)
+
+pub noticed : (notice l : ℕ) → 1 ≤ l → l ≤ notice → is_noticed notice (Some l) ≡ true
+noticed notice l from to = grind (arith, from, to)
+
+pub not_noticed : (notice l : ℕ) → notice < l → is_noticed notice (Some l) ≡ false
+not_noticed notice l past = grind (arith, past)
+
+-- ---- what is tracked
+
+abbrev pub SwapsOn : Plan → ℕ → Option ℕ → Type 0
+SwapsOn plan count None = Unit {0}
+SwapsOn plan count (Some l) = (count + l) % count_step plan.mode ≡ 0
+
+pub record IsTurn (plan : Plan) (l : ℕ) (c n : Configuration) (turn : ℕ) : Type 0 where
+  pub within : l ≤ plan.notice → turn ≡ page_of (rounds plan.mode (page_set c (Some n))) (plan.notice - l)
+  pub before : plan.notice < l → turn < rounds plan.mode (page_set c None)
+
+-- in the state that the bytes show
+abbrev pub TurnShown : Plan → Option ℕ → Configuration → Configuration → ℕ → Type 0
+TurnShown plan None c n turn = turn < rounds plan.mode (page_set c None)
+TurnShown plan (Some l) c n turn = IsTurn plan l c n turn
+
+-- before a frame: where the notice is still to begin, the page is one of the current configuration
+pub record IsTurnBefore (plan : Plan) (l : ℕ) (c n : Configuration) (turn : ℕ) : Type 0 where
+  pub within : l < plan.notice → turn ≡ page_of (rounds plan.mode (page_set c (Some n))) (plan.notice - l)
+  pub before : plan.notice ≤ l → turn < rounds plan.mode (page_set c None)
+
+abbrev pub TurnBefore : Plan → Option ℕ → Configuration → Configuration → ℕ → Type 0
+TurnBefore plan None c n turn = turn < rounds plan.mode (page_set c None)
+TurnBefore plan (Some l) c n turn = IsTurnBefore plan l c n turn
+
+pub record Tracked (plan : Plan) (s : State) : Type 0 where
+  pub count : s.count < 5000
+  pub eid : s.eid < 65536
+  pub current : IsConfiguration s.current
+  pub next : IsConfiguration s.next
+  pub swaps : SwapsOn plan s.count s.left
+  pub turn : TurnBefore plan s.left s.current s.next s.turn
+
+pub record Airs (plan : Plan) (s : State) : Type 0 where
+  pub count : s.count < 5000
+  pub eid : s.eid < 65536
+  pub current : IsConfiguration s.current
+  pub next : IsConfiguration s.next
+  pub ahead : IsAhead s.left
+  pub on_air : IsOnAir plan s.current
+  pub committed : CommittedBy plan s.left s.current s.next
+  pub swaps : SwapsOn plan s.count s.left
+  pub turn : TurnShown plan s.left s.current s.next s.turn
+
+-- ---- the page in turn is a page
+
+sent_alone : (plan : Plan) (c n : Configuration) (b : Bool) → b ≡ false → rounds plan.mode (page_set c (cond b (Some n) None)) ≡ rounds plan.mode (page_set c None)
+sent_alone plan c n b e = ap (λ (x : Bool). rounds plan.mode (page_set c (cond x (Some n) None))) e
+
+sent_both : (plan : Plan) (c n : Configuration) (b : Bool) → b ≡ true → rounds plan.mode (page_set c (cond b (Some n) None)) ≡ rounds plan.mode (page_set c (Some n))
+sent_both plan c n b e = ap (λ (x : Bool). rounds plan.mode (page_set c (cond x (Some n) None))) e
+
+pub split_le : (a b : ℕ) → (a ≤ b) ⊎ (b < a)
+split_le a b = by (leb a b) refl
+  where
+    by : (t : Bool) → leb a b ≡ t → (a ≤ b) ⊎ (b < a)
+    by true e = inl (leb-true a b e)
+    by false e = inr (leb-false a b e)
+
+turn_below : (plan : Plan) (left : Option ℕ) (c n : Configuration) (turn : ℕ) → IsAhead left → TurnShown plan left c n turn
+    → turn < rounds plan.mode (page_set c (cond (is_noticed plan.notice left) (Some n) None))
+turn_below plan None c n turn a h = h
+turn_below plan (Some l) c n turn a h =
+    elim (split_le l plan.notice) [
+      | inl within ↦
+          let e = sent_both plan c n (is_noticed plan.notice (Some l)) (noticed plan.notice l a within) in
+          let is = h.within within in
+          let below = page_of_below (rounds plan.mode (page_set c (Some n))) (plan.notice - l) (some_rounds plan.mode (page_set c (Some n))) in
+          subst (λ (x : ℕ). turn < x) (sym e) (subst (λ (x : ℕ). x < rounds plan.mode (page_set c (Some n))) (sym is) below)
+      | inr past ↦
+          let e = sent_alone plan c n (is_noticed plan.notice (Some l)) (not_noticed plan.notice l past) in
+          subst (λ (x : ℕ). turn < x) (sym e) (h.before past)
+    ]
+
+pub turn_is_page : (plan : Plan) (s : State) → Airs plan s → s.turn < sent_rounds plan s
+turn_is_page plan s h = turn_below plan s.left s.current s.next s.turn h.ahead h.turn
+
+-- ---- the next frame
+
+count_later : (count : ℕ) → (count + 1) % 5000 < 5000
+count_later count = omega arith
+
+swaps_later : (m : Mode) (count l : ℕ) → 1 ≤ l → (count + l) % count_step m ≡ 0 → ((count + 1) % 5000 + (l - 1)) % count_step m ≡ 0
+swaps_later I count l some h = omega (arith, some, h)
+swaps_later II count l some h = omega (arith, some, h)
+swaps_later III count l some h = omega (arith, some, h)
+swaps_later IV count l some h = omega (arith, some, h)
+
+swaps_on_later : (plan : Plan) (count : ℕ) (left : Option ℕ) → IsAhead left → SwapsOn plan count left → SwapsOn plan ((count + 1) % 5000) (left_after_frame left)
+swaps_on_later plan count None a h = tt
+swaps_on_later plan count (Some l) a h = swaps_later plan.mode count l a h
+
+page_step : (pages l notice : ℕ) → 1 ≤ l → l ≤ notice → page_after pages (page_of pages (notice - l)) ≡ page_of pages (notice - (l - 1))
+page_step pages l notice some within =
+    let up : notice - (l - 1) ≡ suc (notice - l) = omega (arith, some, within) in
+    sym (ap (page_of pages) up ∙ page_of_next pages (notice - l))
+
+turn_later : (plan : Plan) (left : Option ℕ) (c n : Configuration) (turn : ℕ) → IsAhead left → TurnShown plan left c n turn
+    → TurnBefore plan (left_after_frame left) c n (page_after (rounds plan.mode (page_set c (cond (is_noticed plan.notice left) (Some n) None))) turn)
+turn_later plan None c n turn a h = page_after_below (rounds plan.mode (page_set c None)) turn (some_rounds plan.mode (page_set c None))
+turn_later plan (Some l) c n turn a h =
+    let both : ℕ = rounds plan.mode (page_set c (Some n)) in
+    let alone : ℕ = rounds plan.mode (page_set c None) in
+    let sent : ℕ = rounds plan.mode (page_set c (cond (is_noticed plan.notice (Some l)) (Some n) None)) in
+    record {
+      within = λ earlier.
+          let inside : l ≤ plan.notice = omega (arith, earlier, a) in
+          let e : sent ≡ both = sent_both plan c n (is_noticed plan.notice (Some l)) (noticed plan.notice l a inside) in
+          ap (λ (x : ℕ). page_after x turn) e ∙ ap (page_after both) (h.within inside) ∙ page_step both l plan.notice a inside;
+      before = λ later.
+          let past : plan.notice < l = omega (arith, later, a) in
+          let e : sent ≡ alone = sent_alone plan c n (is_noticed plan.notice (Some l)) (not_noticed plan.notice l past) in
+          subst (λ (x : ℕ). page_after x turn < alone) (sym e) (page_after_below alone turn (some_rounds plan.mode (page_set c None)));
+    }
+
+pub airs_later : (plan : Plan) (s : State) → Airs plan s → Tracked plan (with_next_counts plan s)
+airs_later plan s h = record {
+  count = count_later s.count;
+  eid = h.eid;
+  current = h.current;
+  next = h.next;
+  swaps = swaps_on_later plan s.count s.left h.ahead h.swaps;
+  turn = turn_later plan s.left s.current s.next s.turn h.ahead h.turn;
+}
+
+-- ---- from the state before a frame to the one that its bytes show
+
+-- before it is known whether a notice begins
+pub record IsTurnAfter (plan : Plan) (l : ℕ) (c n : Configuration) (turn : ℕ) : Type 0 where
+  pub within : l < plan.notice → turn ≡ page_of (rounds plan.mode (page_set c (Some n))) (plan.notice - l)
+  pub before : plan.notice < l → turn < rounds plan.mode (page_set c None)
+
+abbrev pub TurnAfter : Plan → Option ℕ → Configuration → Configuration → ℕ → Type 0
+TurnAfter plan None c n turn = turn < rounds plan.mode (page_set c None)
+TurnAfter plan (Some l) c n turn = IsTurnAfter plan l c n turn
+
+newly_turn : (plan : Plan) (count : ℕ) (left : Option ℕ) (c n : Configuration) (turn : ℕ) → IsNewly plan count left → turn < rounds plan.mode (page_set c None) → TurnAfter plan left c n turn
+newly_turn plan count None c n turn new below = below
+newly_turn plan count (Some l) c n turn new below = record { within = λ earlier. absurd (omega (arith, earlier, new.0)); before = λ past. below }
+
+newly_swaps : (plan : Plan) (count : ℕ) (left : Option ℕ) → IsNewly plan count left → SwapsOn plan count left
+newly_swaps plan count None new = tt
+newly_swaps plan count (Some l) new = new.1
+
+-- no swap was due
+turn_carried : (plan : Plan) (count : ℕ) (before left : Option ℕ) (c n m : Configuration) (turn : ℕ) → LeftBy plan count before n left m → TurnBefore plan before c n turn → TurnAfter plan left c m turn
+turn_carried plan count None left c n m turn g h = newly_turn plan count left c m turn g h
+turn_carried plan count (Some l) left c n m turn g h =
+    let there : TurnAfter plan (Some l) c n turn =
+    record { within = h.within; before = λ past. h.before (omega (arith, past)) } in
+    subst (λ (o : Option ℕ). TurnAfter plan o c m turn) (sym g.0) (subst (λ (x : Configuration). TurnAfter plan (Some l) c x turn) (sym g.1) there)
+
+swaps_carried : (plan : Plan) (count : ℕ) (before left : Option ℕ) (n m : Configuration) → LeftBy plan count before n left m → SwapsOn plan count before → SwapsOn plan count left
+swaps_carried plan count None left n m g h = newly_swaps plan count left g
+swaps_carried plan count (Some l) left n m g h = subst (λ (o : Option ℕ). SwapsOn plan count o) (sym g.0) h
+
+-- after the instructions
+pub record Carried (plan : Plan) (s u : State) : Type 0 where
+  pub count : u.count ≡ s.count
+  pub eid : u.eid ≡ s.eid
+  pub current : IsConfiguration u.current
+  pub next : IsConfiguration u.next
+  pub swaps : SwapsOn plan u.count u.left
+  pub turn : TurnAfter plan u.left u.current u.next u.turn
+
+at_state : (plan : Plan) (u : State) (count turn : ℕ) (c : Configuration) → u.count ≡ count → u.turn ≡ turn → u.current ≡ c → SwapsOn plan count u.left → TurnAfter plan u.left c u.next turn
+    → SwapsOn plan u.count u.left × TurnAfter plan u.left u.current u.next u.turn
+at_state plan u count turn c a b d swaps t = (
+  subst (λ (x : ℕ). SwapsOn plan x u.left) (sym a) swaps,
+  subst (λ (x : ℕ). TurnAfter plan u.left u.current u.next x) (sym b) (subst (λ (x : Configuration). TurnAfter plan u.left x u.next turn) (sym d) t),
+)
+
+carried_by : (plan : Plan) (s u : State) (due : Bool) → Tracked plan s → Carries plan (cond due (with_swap s) s) u → Carried plan s u
+carried_by plan s u true h g =
+    let at = at_state plan u s.count 0 s.next g.count g.turn g.current (newly_swaps plan s.count u.left g.left) (newly_turn plan s.count u.left s.next u.next 0 g.left (some_rounds plan.mode (page_set s.next None))) in
+    record { count = g.count; eid = g.eid; current = subst (λ (x : Configuration). IsConfiguration x) (sym g.current) h.next; next = g.next h.next; swaps = at.0; turn = at.1 }
+carried_by plan s u false h g =
+    let at = at_state plan u s.count s.turn s.current g.count g.turn g.current (swaps_carried plan s.count s.left u.left s.next u.next g.left h.swaps) (turn_carried plan s.count s.left u.left s.current s.next u.next s.turn g.left h.turn) in
+    record { count = g.count; eid = g.eid; current = subst (λ (x : Configuration). IsConfiguration x) (sym g.current) h.current; next = g.next h.next; swaps = at.0; turn = at.1 }
+
+-- page 0 is in turn where a notice begins
+first_turn : (plan : Plan) (left : Option ℕ) (c n : Configuration) (turn : ℕ) → is_first_noticed plan.notice left ≡ true → TurnShown plan left c n 0
+first_turn plan None c n turn e = absurd cc
+first_turn plan (Some l) c n turn e =
+    let is : l ≡ plan.notice = eqb-true l plan.notice e in
+    let none : plan.notice - l ≡ 0 = omega (arith, is) in
+    record {
+      within = λ inside. sym (ap (page_of (rounds plan.mode (page_set c (Some n)))) none ∙ page_of_first (rounds plan.mode (page_set c (Some n))));
+      before = λ past. absurd (omega (arith, past, is));
+    }
+
+other_turn : (plan : Plan) (left : Option ℕ) (c n : Configuration) (turn : ℕ) → is_first_noticed plan.notice left ≡ false → TurnAfter plan left c n turn → TurnShown plan left c n turn
+other_turn plan None c n turn e h = h
+other_turn plan (Some l) c n turn e h =
+    let apart = eqb-false l plan.notice e in
+    record { within = λ inside. h.within (omega (arith, inside, apart)); before = h.before }
+
+airs_by : (p : Program) (ts : List Known) (s u : State) (first : Bool) → is_first_noticed p.plan.notice u.left ≡ first → Tracked p.plan s → Suspends p ts u → Carried p.plan s u
+    → Airs p.plan (cond first (let r : State = record u { turn = 0 } in r) u)
+airs_by p ts s u true e h d g = record {
+  count = subst (λ (x : ℕ). x < 5000) (sym g.count) h.count;
+  eid = subst (λ (x : ℕ). x < 65536) (sym g.eid) h.eid;
+  current = g.current;
+  next = g.next;
+  ahead = d.ahead;
+  on_air = d.kept.on_air;
+  committed = d.kept.committed;
+  swaps = g.swaps;
+  turn = first_turn p.plan u.left u.current u.next u.turn e;
+}
+airs_by p ts s u false e h d g = record {
+  count = subst (λ (x : ℕ). x < 5000) (sym g.count) h.count;
+  eid = subst (λ (x : ℕ). x < 65536) (sym g.eid) h.eid;
+  current = g.current;
+  next = g.next;
+  ahead = d.ahead;
+  on_air = d.kept.on_air;
+  committed = d.kept.committed;
+  swaps = g.swaps;
+  turn = other_turn p.plan u.left u.current u.next u.turn e g.turn;
+}
+
+pub frame_carried : (p : Program) (ts : List Known) → IsProgram p → IsTyping p ts → (s : State) → Between p ts s → Tracked p.plan s → Carried p.plan s (after_burst p s)
+frame_carried p ts pr ty s b h =
+    let goes = frame_goes p ts pr ty s b in
+    carried_by p.plan s (after_burst p s) (is_due s.left) h (frame_carries p pr s goes.allowed.steps goes.allowed.executes)
+
+pub frame_airs : (p : Program) (ts : List Known) → IsProgram p → IsTyping p ts → (s : State) → Between p ts s → Tracked p.plan s → Airs p.plan (shown p s)
+frame_airs p ts pr ty s b h =
+    airs_by p ts s (after_burst p s) (is_first_noticed p.plan.notice (after_burst p s).left) refl h (frame_goes p ts pr ty s b).suspends (frame_carried p ts pr ty s b h)
+
+pub frame_tracked : (p : Program) (ts : List Known) → IsProgram p → IsTyping p ts → (s : State) → Between p ts s → Tracked p.plan s → Tracked p.plan (after_frame p s)
+frame_tracked p ts pr ty s b h = airs_later p.plan (shown p s) (frame_airs p ts pr ty s b h)

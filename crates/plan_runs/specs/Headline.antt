@@ -1,0 +1,73 @@
+-- What a typed code promises, for every list of events from every state that it comes to.
+use Rattle.std.specs.Prelude.{◌≡◌, ℕ, ◌%◌, ◌==◌, Bool, true, false, MatchBool, List, [], ◌∷◌, Some}
+use Rattle.mux_config.specs.Entries.{EnsembleInformation}
+use Rattle.fib_codec.specs.Heard.{IsEnsembleHeardInRow}
+use Rattle.plan_code.specs.Program.{Program}
+use Rattle.plan_code.specs.Machine.{State}
+use Rattle.plan_runs.specs.declared.event.Event.{Event}
+use Rattle.plan_runs.specs.declared.event.Event.TheVariants.{Contact, Frame}
+use Rattle.plan_runs.specs.Frames.{is_due, frame_bytes, after_frame}
+use Rattle.plan_runs.specs.Runs.{happens, run}
+use Rattle.plan_runs.specs.TypedRuns.{IsPlayed}
+use Rattle.plan_runs.specs.Announced.{Runs, heard_along, heard_of}
+use Rattle.plan_runs.specs.RightBytes.{FrameIsRight, FramesAreRight, IsHeardEachPeriod}
+
+-- ---- the swap comes at the announced count
+
+-- an announcement in the bytes of a frame: a FIG 0/0, whatever its C/N flag, with the low part of the swap's count
+abbrev pub IsAnnouncedIn : List ℕ → ℕ → Type 0
+IsAnnouncedIn frame low = (next : Bool) × (e : EnsembleInformation) × IsEnsembleHeardInRow frame next e × (e.occurrence ≡ Some low)
+
+-- each announcement of this frame is of this count
+abbrev pub AnnouncesOnly : ℕ → List ℕ → Type 0
+AnnouncesOnly low frame = (other : ℕ) → IsAnnouncedIn frame other → other ≡ low
+
+-- the swap falls on the first of these frames whose count has this low part, and until then every flagged FIG 0/0
+-- announces it
+abbrev pub SwapsAt : ℕ → Program → State → List Event → Type 0
+SwapsAt low p s [] = Unit {0}
+SwapsAt low p s (Contact c closed ∷ es) = SwapsAt low p (happens p s (Contact c closed)) es
+SwapsAt low p s (Frame ∷ es) =
+    MatchBool (s.count % 250 == low)
+    (is_due s.left ≡ true)
+    ((is_due s.left ≡ false) × AnnouncesOnly low (frame_bytes p s) × SwapsAt low p (after_frame p s) es)
+
+-- what a frame announces, the frames after it keep
+abbrev pub KeepsCount : Program → State → List Event → Type 0
+KeepsCount p s [] = Unit {0}
+KeepsCount p s (Contact c closed ∷ es) = KeepsCount p (happens p s (Contact c closed)) es
+KeepsCount p s (Frame ∷ es) =
+    ((low : ℕ) → IsAnnouncedIn (frame_bytes p s) low → SwapsAt low p (after_frame p s) es) × KeepsCount p (after_frame p s) es
+
+-- ---- the headline
+
+-- over these events: no trap is met, the budget is kept, and each swap was announced; every frame has right FIBs; each
+-- swap comes at the announced count; and each period has the whole current configuration
+pub record KeepsItsWord (p : Program) (s : State) (events : List Event) : Type 0 where
+  pub runs : Runs p s (heard_of p.plan s) events
+  pub right : FramesAreRight p s events
+  pub counted : KeepsCount p s events
+  pub whole : IsHeardEachPeriod p s
+
+abbrev pub HeadlineHolds : Type 0
+HeadlineHolds = (p : Program) (s : State) (events : List Event) → IsPlayed p s → KeepsItsWord p s events
+
+-- ---- its parts, each a law of its own
+
+abbrev pub FramesOfTypedCodeAreRight : Type 0
+FramesOfTypedCodeAreRight = (p : Program) (s : State) → IsPlayed p s → FrameIsRight p s
+
+abbrev pub PeriodsAreWhole : Type 0
+PeriodsAreWhole = (p : Program) (s : State) → IsPlayed p s → IsHeardEachPeriod p s
+
+abbrev pub SwapsAreAnnounced : Type 0
+SwapsAreAnnounced = (p : Program) (s : State) (events : List Event) → IsPlayed p s → Runs p s (heard_of p.plan s) events
+
+abbrev pub SwapsComeAsAnnounced : Type 0
+SwapsComeAsAnnounced = (p : Program) (s : State) (events : List Event) → IsPlayed p s → KeepsCount p s events
+
+-- the frames heard of a notice are a function of the state, so that a player stores none
+abbrev pub HeardIsKnown : Type 0
+HeardIsKnown =
+    (p : Program) (s : State) (events : List Event) → IsPlayed p s
+    → heard_along p s (heard_of p.plan s) events ≡ heard_of p.plan (run p s events)

@@ -1,0 +1,9 @@
+pub mod Frames
+pub mod Runs
+pub mod Phases
+pub mod TypedRuns
+pub mod Announced
+pub mod RightBytes
+pub mod Settings
+pub mod Headline
+pub mod Listening

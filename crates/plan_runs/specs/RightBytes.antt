@@ -1,0 +1,96 @@
+-- What the bytes of a frame have to be, and of the frames of a phase (EN 300 401 clauses 5.2.1, 6.4 and 6.5).
+use Rattle.std.specs.Prelude.{◌≡◌, ◌≢◌, ℕ, ◌+◌, ◌*◌, ◌%◌, ◌<◌, ◌≤◌, ◌⊎◌, true, false, List, [], ◌∷◌, length, Contains, Option, Some, None}
+use Rattle.mux_config.specs.Configuration.{Each}
+use Rattle.mux_config.specs.Entries.{EnsembleInformation}
+use Rattle.mux_config.specs.Facts.{Marked, marked, facts_of}
+use Rattle.mux_config.specs.declared.entry.Entry.TheVariants.{Ensemble as EnsembleOf}
+use Rattle.fib_codec.specs.Grammar.{Fig, Open, Other, IsFib, IsValid}
+use Rattle.fib_codec.specs.Modes.{fib_count, count_step}
+use Rattle.fib_codec.specs.Heard.{IsInFig, IsHeardInRow, fib_at}
+use Rattle.plan_code.specs.declared.plan.Plan.{Plan}
+use Rattle.plan_code.specs.Program.{Program}
+use Rattle.plan_code.specs.Machine.{State}
+use Rattle.plan_runs.specs.declared.event.Event.{Event}
+use Rattle.plan_runs.specs.declared.event.Event.TheVariants.{Contact, Frame}
+use Rattle.plan_runs.specs.Frames.{with_due_swap, is_noticed, shown, frame_bytes, after_frame, begins_phase}
+use Rattle.plan_runs.specs.Runs.{happens, run, run_frames}
+use Rattle.plan_runs.specs.Announced.{IsFlagged, IsHeardWhole}
+
+-- ---- FIG 0/0
+
+abbrev pub IsHeader : Fig → Type 0
+IsHeader (Open second es) = second % 32 ≡ 0
+IsHeader (Other bytes) = ⊥
+
+abbrev pub IsNoHeader : Fig → Type 0
+IsNoHeader fig = IsHeader fig → ⊥
+
+-- the count of the swap that comes after so many frames
+abbrev pub IsFlaggedBy : State → Option ℕ → EnsembleInformation → Type 0
+IsFlaggedBy s None e = ⊥
+IsFlaggedBy s (Some left) e = IsFlagged s.current s.next ((s.count + left) % 5000) e
+
+-- ensemble information as the state has it: flagged exactly in the frames of a notice
+pub record IsEnsembleOf (plan : Plan) (s : State) (e : EnsembleInformation) : Type 0 where
+  pub eid : e.eid ≡ s.eid
+  pub alarm : e.al ≡ false
+  pub count : e.count ≡ s.count
+  pub flagged : is_noticed plan.notice s.left ≡ true → IsFlaggedBy s s.left e
+  pub unflagged : is_noticed plan.notice s.left ≡ false → (e.change ≡ 0) × (e.occurrence ≡ None)
+
+-- FIG 0/0 stands first in these FIGs, with C/N 0, and no other
+pub record IsHeadedBy (plan : Plan) (s : State) (bytes : List ℕ) : Type 0 where
+  pub header : Fig
+  pub others : List Fig
+  pub information : EnsembleInformation
+  pub first : IsFib bytes (header ∷ others)
+  pub says : IsInFig header (marked false (EnsembleOf information))
+  pub right : IsEnsembleOf plan s information
+  pub alone : Each IsNoHeader others
+
+-- none of these FIGs is FIG 0/0
+abbrev pub IsUnheaded : List ℕ → Type 0
+IsUnheaded bytes = (figs : List Fig) × IsFib bytes figs × Each IsNoHeader figs
+
+-- ---- the bytes of a frame
+
+-- the state is the one that the bytes show
+pub record IsRight (plan : Plan) (s : State) (bytes : List ℕ) : Type 0 where
+  pub length_of_fibs : length bytes ≡ 32 * fib_count plan.mode
+  pub valid : (n : ℕ) → n < fib_count plan.mode → (figs : List Fig) × IsValid (fib_at bytes n) figs
+  pub headed : s.count % count_step plan.mode ≡ 0 → IsHeadedBy plan s (fib_at bytes 0)
+  pub unheaded : s.count % count_step plan.mode ≢ 0 → IsUnheaded (fib_at bytes 0)
+  pub others_unheaded : (n : ℕ) → 1 ≤ n → n < fib_count plan.mode → IsUnheaded (fib_at bytes n)
+  pub entries : (m : Marked) → IsHeardInRow bytes m
+      → Contains (facts_of s.current false) m ⊎ ((is_noticed plan.notice s.left ≡ true) × Contains (facts_of s.next true) m)
+
+abbrev pub FrameIsRight : Program → State → Type 0
+FrameIsRight p s = IsRight p.plan (shown p s) (frame_bytes p s)
+
+-- every frame of a run is right
+abbrev pub FramesAreRight : Program → State → List Event → Type 0
+FramesAreRight p s [] = Unit {0}
+FramesAreRight p s (Contact c closed ∷ es) = FramesAreRight p (happens p s (Contact c closed)) es
+FramesAreRight p s (Frame ∷ es) = FrameIsRight p s × FramesAreRight p (after_frame p s) es
+
+-- ---- phases
+
+-- no frame of these events begins a phase
+abbrev pub BeginsNoPhase : Program → State → List Event → Type 0
+BeginsNoPhase p s [] = Unit {0}
+BeginsNoPhase p s (Contact c closed ∷ es) = BeginsNoPhase p (happens p s (Contact c closed)) es
+BeginsNoPhase p s (Frame ∷ es) = (begins_phase p s ≡ false) × BeginsNoPhase p (after_frame p s) es
+
+-- the frames of these events are of one phase: no frame but maybe the first of them begins one
+abbrev pub IsOnePhase : Program → State → List Event → Type 0
+IsOnePhase p s [] = Unit {0}
+IsOnePhase p s (Contact c closed ∷ es) = IsOnePhase p (happens p s (Contact c closed)) es
+IsOnePhase p s (Frame ∷ es) = BeginsNoPhase p (after_frame p s) es
+
+-- in any P successive frames of one phase the whole current configuration is heard
+abbrev pub IsHeardEachPeriod : Program → State → Type 0
+IsHeardEachPeriod p s =
+    (before events : List Event)
+    → (let t = run p s before in
+    IsOnePhase p t events → length (run_frames p t events) ≡ p.plan.period
+    → IsHeardWhole (with_due_swap t).current false (run_frames p t events))

@@ -1,0 +1,46 @@
+-- A typed code doesn't go wrong: the statements.
+use Rattle.std.specs.Prelude.{◌<◌, List, IfSome}
+use Rattle.mux_config.specs.Configuration.{Each, IsConfiguration}
+use Rattle.mux_config.specs.Sound.{IsSound}
+use Rattle.fib_codec.specs.Ranges.{IsEnsembleInformation}
+use Rattle.plan_code.specs.declared.plan.Plan.{Plan}
+use Rattle.plan_code.specs.Program.{Program, IsProgram}
+use Rattle.plan_code.specs.Machine.{State}
+use Rattle.plan_verifier.specs.Typing.{IsTyped}
+use Rattle.plan_runs.specs.declared.event.Event.{Event}
+use Rattle.plan_runs.specs.declared.event.Start.{Start}
+use Rattle.plan_runs.specs.Frames.{shown, sent_rounds, ensemble_sent}
+use Rattle.plan_runs.specs.Runs.{IsStart, IsInRange, IsEvent, IsReached, RunIsAllowed, run}
+
+-- a typed code, in a state that it comes to
+pub record IsPlayed (p : Program) (s : State) : Type 0 where
+  pub program : IsProgram p
+  pub typed : IsTyped p
+  pub reached : IsReached p s
+
+-- over these events no trap is met, no frame carries out more instructions than the budget, and then the current
+-- configuration is sound
+pub record RunsWell (p : Program) (s : State) (events : List Event) : Type 0 where
+  pub allowed : RunIsAllowed p s events
+  pub sound : IsSound (run p s events).current
+
+abbrev pub TypedCodeRuns : Type 0
+TypedCodeRuns = (p : Program) (s : State) (events : List Event) → IsPlayed p s → RunsWell p s events
+
+-- what the next frame sends can be sent: the page in turn is one of its pages, and FIG 0/0 is within its bits
+pub record CanBeSent (plan : Plan) (s : State) : Type 0 where
+  pub turn : s.turn < sent_rounds plan s
+  pub current : IsConfiguration s.current
+  pub next : IsConfiguration s.next
+  pub count : s.count < 5000
+  pub ensemble : IfSome (ensemble_sent plan s) IsEnsembleInformation
+
+abbrev pub FramesCanBeSent : Type 0
+FramesCanBeSent = (p : Program) (s : State) → IsPlayed p s → CanBeSent p.plan (shown p s)
+
+-- the start is reached, and what follows a reached state is reached
+abbrev pub StartsAreReached : Type 0
+StartsAreReached = (p : Program) (start : Start) (s : State) → IsInRange start → IsStart p start s → IsReached p s
+
+abbrev pub ReachedIsKept : Type 0
+ReachedIsKept = (p : Program) (s : State) (events : List Event) → IsReached p s → Each IsEvent events → IsReached p (run p s events)

@@ -1,0 +1,49 @@
+-- A test of the code answers what the test of the walk does, where both decide the same.
+
+use Rattle.std.proofs.Common.{◌≡◌, ℕ, ◌↔◌, Bool, true, false, IsTrue, refl, sym, length, Option, Some, None, IfSome}
+use Rattle.plan_code.specs.declared.label.Label.{Label}
+use Rattle.plan_code.specs.declared.label.Swap.{Swap}
+use Rattle.plan_code.specs.declared.label.Swap.TheVariants.{Idle, Within, Perhaps}
+use Rattle.plan_code.specs.Program.{Program, IsProgram, IsLabel, label_at}
+use Rattle.plan_verifier.specs.Typing.{Known, FitsSwap}
+use Rattle.plan_verifier.specs.Walking.{fits, may_have_swapped}
+use Rattle.plan_verifier.proofs.Deciding.{Decides, is_false, decides_fits}
+use Rattle.plan_verifier.proofs.Tabled.{tabled, label_of}
+
+pub same_answer : (r b : Bool) (P : Type 0) → (IsTrue r ↔ P) → Decides b P → r ≡ b
+same_answer true b P h d = sym (d.found (h.0 refl))
+same_answer false b P h d = sym (is_false b (λ e. let f : false ≡ true = h.1 (d.told e) in cc))
+
+-- the label at an instruction is within its limits
+pub label_within : (code : Program) (pc : ℕ) (o : Option Label) → IsProgram code → o ≡ label_at code pc → IfSome o (IsLabel (length code.configurations))
+label_within code pc None h e = tt
+label_within code pc (Some label) h e = label_of code h label ((tabled code h).found pc label (sym e)).0
+
+-- what fits a label has its configurations, but for the current one where the swap may have been made
+next_there : (p q : Swap) (t declared : Known) → FitsSwap p q t declared → t.next ≡ declared.next
+next_there Idle Idle t declared h = h.1
+next_there Idle (Within low high) t declared h = absurd h
+next_there Idle (Perhaps high) t declared h = h.1
+next_there (Within lo hi) Idle t declared h = absurd h
+next_there (Within lo hi) (Within low high) t declared h = h.0.1
+next_there (Within lo hi) (Perhaps high) t declared h = h.0.1
+next_there (Perhaps hi) Idle t declared h = absurd h
+next_there (Perhaps hi) (Within low high) t declared h = absurd h
+next_there (Perhaps hi) (Perhaps high) t declared h = h.0.1
+
+current_there : (p q : Swap) (t declared : Known) → FitsSwap p q t declared → may_have_swapped p q ≡ false → t.current ≡ declared.current
+current_there Idle Idle t declared h no_swap = h.0
+current_there Idle (Within low high) t declared h no_swap = absurd h
+current_there Idle (Perhaps high) t declared h no_swap = absurd (let e : true ≡ false = no_swap in cc)
+current_there (Within lo hi) Idle t declared h no_swap = absurd h
+current_there (Within lo hi) (Within low high) t declared h no_swap = h.0.0
+current_there (Within lo hi) (Perhaps high) t declared h no_swap = h.0.0
+current_there (Perhaps hi) Idle t declared h no_swap = absurd h
+current_there (Perhaps hi) (Within low high) t declared h no_swap = absurd h
+current_there (Perhaps hi) (Perhaps high) t declared h no_swap = h.0.0
+
+pub next_fits : (t declared : Known) → fits t declared ≡ true → t.next ≡ declared.next
+next_fits t declared e = next_there t.pending declared.pending t declared ((decides_fits t declared).told e).swap
+
+pub current_fits : (t declared : Known) → fits t declared ≡ true → may_have_swapped t.pending declared.pending ≡ false → t.current ≡ declared.current
+current_fits t declared e no_swap = current_there t.pending declared.pending t declared ((decides_fits t declared).told e).swap no_swap

@@ -1,0 +1,19 @@
+use Rattle.std.proofs.Common.{◌∙◌, sym}
+use Rattle.mux_config.specs.Change.{is_same_service, is_same_list}
+use Rattle.mux_config.proofs.Walking.{same_more, same_not}
+use Rattle.plan_verifier.proofs.holding.has_services.Goals as goal
+
+pub returns-then-not-is_same_service : goal.returns-then-not-is_same_service
+returns-then-not-is_same_service g c =
+    let k = g.S.Store.content c.args.store.now in
+    let d = g.T.Store.content c.args.other.now in
+    same_not is_same_service k.services d.services c.loop-place.place c.service_at.result.now c.service_at-in-loop-place.result.now (is_same_list is_same_service k.services d.services) c.loop-place.invariant.left c.service_at.ensures.value c.service_at-in-loop-place.ensures.value (sym c.is_same_service.ensures ∙ c.if-not-is_same_service.true)
+
+pub loop-place-preserved : goal.loop-place-preserved
+loop-place-preserved g c =
+    let k = g.S.Store.content c.args.store.now in
+    let d = g.T.Store.content c.args.other.now in
+    record {
+      lengths = c.loop-place.invariant.lengths;
+      left = same_more is_same_service k.services d.services c.loop-place.place c.service_at.result.now c.service_at-in-loop-place.result.now (is_same_list is_same_service k.services d.services) c.loop-place.invariant.left c.service_at.ensures.value c.service_at-in-loop-place.ensures.value (sym c.is_same_service.ensures ∙ c.if-not-is_same_service.false);
+    }

@@ -1,0 +1,12 @@
+use Rattle.std.proofs.Common.{◌≡◌, length, drop}
+use Rattle.mux_config.specs.Change.{is_same_service, is_same_list}
+use Rattle.plan_verifier.proofs.holding.has_services.Given as goal
+
+abbrev pub invariant-loop-place : goal.invariant-loop-place
+invariant-loop-place g l =
+    let c = g.S.Store.content l.store in
+    let d = g.T.Store.content l.other in
+    record {
+      lengths : length c.services ≡ length d.services;
+      left : is_same_list is_same_service (drop l.place c.services) (drop l.place d.services) ≡ is_same_list is_same_service c.services d.services;
+    }

@@ -1,0 +1,12 @@
+use Rattle.std.proofs.Common.{◌≡◌, length, drop}
+use Rattle.mux_config.specs.Change.{is_same_sub, is_same_list}
+use Rattle.plan_verifier.proofs.holding.has_subs.Given as goal
+
+abbrev pub invariant-loop-place : goal.invariant-loop-place
+invariant-loop-place g l =
+    let c = g.S.Store.content l.store in
+    let d = g.T.Store.content l.other in
+    record {
+      lengths : length c.subs ≡ length d.subs;
+      left : is_same_list is_same_sub (drop l.place c.subs) (drop l.place d.subs) ≡ is_same_list is_same_sub c.subs d.subs;
+    }

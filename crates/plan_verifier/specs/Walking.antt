@@ -1,0 +1,252 @@
+-- The verifier's walk over a code, as functions. No public contract needs this to be believed.
+use Rattle.std.specs.Prelude.{◌≡◌, ℕ, zero, suc, ◌+◌, ◌*◌, ◌%◌, ◌==◌, ◌&&◌, ◌||◌, Bool, true, false, not, if◌then◌else◌, nat_lt, nat_le, List, [], ◌∷◌, length, find, Option, Some, None, Result, Ok, Err, slice_get}
+use Rattle.std.specs.Int.RustNames.{bit_and}
+use Rattle.mux_config.specs.Configuration.{Configuration, nothing}
+use Rattle.mux_config.specs.Change.{has_same_subs, has_same_services}
+use Rattle.mux_config.specs.Edits.{edit_fault}
+use Rattle.mux_config.specs.Sound.{first_fault}
+use Rattle.fib_codec.specs.Modes.{count_step}
+use Rattle.plan_code.specs.declared.limits.TheConstants.{COUNTS}
+use Rattle.plan_code.specs.declared.plan.Plan.{Plan}
+use Rattle.plan_code.specs.declared.flags.Counters.{Counters}
+use Rattle.plan_code.specs.declared.label.Label.{Label}
+use Rattle.plan_code.specs.declared.label.Swap.{Swap}
+use Rattle.plan_code.specs.declared.label.Swap.TheVariants.{Idle, Within, Perhaps}
+use Rattle.plan_code.specs.declared.instr.Instr.{Instr}
+use Rattle.plan_code.specs.declared.instr.Line.{Line}
+use Rattle.plan_code.specs.declared.instr.Instr.TheVariants.{Wait, Until, WaitContact, CommitIn, CommitAt, Join, Settle, End, Edit as Edits, Test, Jump, Set, Loop}
+use Rattle.plan_code.specs.Flags.{is_set}
+use Rattle.plan_code.specs.Program.{Program, label_at}
+use Rattle.plan_verifier.specs.declared.cause.Cause.{Cause}
+use Rattle.plan_verifier.specs.declared.cause.Cause.TheVariants.{Target, Table, Edit as OfEdit, Config as OfConfig, Pending, NoChange, Notice, Count, JoinIdle, SwapUncertain, CounterUnset, Mismatch, Cost, Round, FallsOff}
+use Rattle.plan_verifier.specs.declared.cause.Refusal.{Refusal}
+use Rattle.plan_verifier.specs.Typing.{Known, notice_pages, pages_alone, leaves, continues, spent}
+
+-- ---- causes in order
+
+-- this cause, where the test holds
+abbrev pub cause_if : Bool → Cause → Option Cause
+cause_if true cause = Some cause
+cause_if false cause = None
+
+-- the cause that names a fault
+abbrev pub cause_of : {T : Type 0} → Option T → (T → Cause) → Option Cause
+cause_of None cause = None
+cause_of (Some fault) cause = Some (cause fault)
+
+-- the first of two
+infixr 6 ◌first_or◌
+abbrev pub ◌first_or◌ : Option Cause → Option Cause → Option Cause
+(None first_or later) = later
+(Some cause first_or later) = Some cause
+
+-- the answer of a function that finds this cause, or none
+abbrev pub unless : Option Cause → Result (Unit {0}) Cause
+unless None = Ok tt
+unless (Some cause) = Err cause
+
+-- ---- tests
+
+abbrev pub is_same : Configuration → Configuration → Bool
+is_same c d = has_same_subs c d && has_same_services c d
+
+abbrev pub is_idle : Swap → Bool
+is_idle Idle = true
+is_idle (Within lo hi) = false
+is_idle (Perhaps hi) = false
+
+abbrev pub is_surely_pending : Swap → Bool
+is_surely_pending Idle = false
+is_surely_pending (Within lo hi) = true
+is_surely_pending (Perhaps hi) = false
+
+abbrev pub is_certain : ℕ → Swap → Bool
+is_certain frames Idle = true
+is_certain frames (Within lo hi) = nat_lt frames lo || nat_le hi frames
+is_certain frames (Perhaps hi) = true
+
+abbrev pub has_room : Plan → Known → Bool
+has_room plan t =
+    nat_le (notice_pages plan t) plan.period && nat_le (3 * notice_pages plan t) plan.notice
+    && nat_le (pages_alone plan t.next) plan.period
+
+abbrev pub is_swap_count : Plan → ℕ → Bool
+is_swap_count plan count = (count % count_step plan.mode == 0) && nat_lt count COUNTS
+
+abbrev pub includes : Counters → Counters → Bool
+includes a b = bit_and a.0 b.0 == b.0
+
+abbrev pub has_configurations_of : Known → Known → Bool
+has_configurations_of t declared = is_same t.current declared.current && is_same t.next declared.next
+
+abbrev pub fits_swap : Swap → Swap → Known → Known → Bool
+fits_swap Idle Idle t declared = has_configurations_of t declared
+fits_swap Idle (Within low high) t declared = false
+fits_swap Idle (Perhaps high) t declared = is_same t.current declared.next && is_same t.next declared.next
+fits_swap (Within lo hi) Idle t declared = false
+fits_swap (Within lo hi) (Within low high) t declared = nat_le low lo && nat_le hi high && has_configurations_of t declared
+fits_swap (Within lo hi) (Perhaps high) t declared = nat_le hi high && has_configurations_of t declared
+fits_swap (Perhaps hi) Idle t declared = false
+fits_swap (Perhaps hi) (Within low high) t declared = false
+fits_swap (Perhaps hi) (Perhaps high) t declared = nat_le hi high && has_configurations_of t declared
+
+abbrev pub fits : Known → Known → Bool
+fits t declared = includes t.counters declared.counters && fits_swap t.pending declared.pending t declared
+
+-- no swap is pending any more where a label says that one may be
+abbrev pub may_have_swapped : Swap → Swap → Bool
+may_have_swapped pending declared = is_idle pending && not (is_idle declared)
+
+abbrev pub is_initial : Known → Bool
+is_initial t = is_idle t.pending && (t.counters.0 == 0) && is_same t.current t.next
+
+-- ---- the cause at an instruction
+
+-- of a commit, where no swap is pending and its delay or its count is right
+abbrev pub change_cause : Plan → Known → Option Cause
+change_cause plan t =
+    cause_of (first_fault t.next) OfConfig
+    first_or cause_if (is_same t.next t.current) NoChange
+    first_or cause_if (not (has_room plan t)) Round
+
+abbrev pub commit_cause : Plan → Known → Bool → Cause → Option Cause
+commit_cause plan t fault cause =
+    cause_if (not (is_idle t.pending)) Pending
+    first_or cause_if fault cause
+    first_or change_cause plan t
+
+abbrev pub or_nothing : Option Configuration → Configuration
+or_nothing None = nothing
+or_nothing (Some c) = c
+
+-- what a label declares: its configurations stand in the table
+abbrev pub declared_by : Program → Label → Known
+declared_by code label =
+    record {
+      current = or_nothing (slice_get code.configurations label.cur);
+      next = or_nothing (slice_get code.configurations label.next);
+      pending = label.pending;
+      counters = label.counters;
+      allowance = label.cost;
+    }
+
+-- what a label declares but for its configurations
+abbrev pub refitted : Label → Known → Known
+refitted label t = record t { pending = label.pending; counters = label.counters; allowance = label.cost }
+
+abbrev pub entry_cause : Program → Label → Known → Option Cause
+entry_cause code label t =
+    cause_if (not (fits t (declared_by code label))) Mismatch
+    first_or cause_if (nat_lt t.allowance label.cost) Cost
+
+abbrev pub jump_cause : Program → Option Label → Known → Option Cause
+jump_cause code None t = Some Target
+jump_cause code (Some label) t = entry_cause code label t
+
+abbrev pub instr_cause : Program → Instr → Known → Option Cause
+instr_cause code (Edits edit) t = cause_if (not (is_idle t.pending)) Pending first_or cause_of (edit_fault edit t.next) OfEdit
+instr_cause code (CommitIn delay) t = commit_cause code.plan t (nat_lt delay code.plan.notice) Notice
+instr_cause code (CommitAt count) t = commit_cause code.plan t (not (is_swap_count code.plan count)) Count
+instr_cause code (Wait frames) t = cause_if (not (is_certain frames t.pending)) SwapUncertain
+instr_cause code (Until day) t = None
+instr_cause code (WaitContact contact closed) t = None
+instr_cause code Join t = cause_if (not (is_surely_pending t.pending)) JoinIdle
+instr_cause code Settle t = None
+instr_cause code (Test contact target) t = jump_cause code (label_at code target) (spent t)
+instr_cause code (Jump target) t = jump_cause code (label_at code target) (spent t)
+instr_cause code (Loop counter target) t =
+    cause_if (not (is_set t.counters counter)) CounterUnset first_or jump_cause code (label_at code target) (spent t)
+instr_cause code (Set counter times) t = None
+instr_cause code End t = None
+
+abbrev pub known_cause : Program → ℕ → Instr → Known → Option Cause
+known_cause code pc i t =
+    cause_if (t.allowance == 0) Cost
+    first_or instr_cause code i t
+    first_or cause_if (continues i && (pc + 1 == length code.lines)) FallsOff
+
+-- ---- where the walk comes to an instruction: what is known there, or the cause why it is refused
+
+abbrev pub taken : Option Cause → Known → Result Known Cause
+taken None t = Ok t
+taken (Some cause) t = Err cause
+
+abbrev pub label_cause : Program → Label → Option Cause
+label_cause code label = cause_if (nat_lt code.plan.budget label.cost) Cost
+
+abbrev pub opening_cause : Program → Label → Known → Option Cause
+opening_cause code label t =
+    cause_if (not (is_initial t)) Mismatch
+    first_or label_cause code label
+    first_or cause_of (first_fault t.current) OfConfig
+    first_or cause_if (nat_lt code.plan.period (pages_alone code.plan t.current)) Round
+
+abbrev pub opening_of : Program → Option Label → Result Known Cause
+opening_of code None = Err Table
+opening_of code (Some label) = taken (opening_cause code label (declared_by code label)) (declared_by code label)
+
+abbrev pub place_of : Program → Option Label → Option Known → Result Known Cause
+place_of code None None = Err Table
+place_of code None (Some t) = Ok t
+place_of code (Some label) None = taken (label_cause code label) (declared_by code label)
+place_of code (Some label) (Some t) = taken (entry_cause code label t first_or label_cause code label) (declared_by code label)
+
+abbrev pub entered : Program → ℕ → Option Known → Result Known Cause
+entered code zero came = opening_of code (label_at code 0)
+entered code (suc pc) came = place_of code (label_at code (suc pc)) came
+
+-- ---- the walk
+
+abbrev pub refused_at : ℕ → Cause → Option Refusal
+refused_at pc cause = Some (record { pc = pc; cause = cause })
+
+-- what is known, where the instruction before goes on to this one
+abbrev pub came_of : Bool → Known → Option Known
+came_of comes t = if comes then Some t else None
+
+abbrev pub passed_on : Plan → Instr → Known → Option Known
+passed_on plan i t = came_of (continues i) (leaves plan i t)
+
+-- the cause at an instruction, where it is entered or else at itself
+abbrev pub whole : Result Known Cause → (Known → Option Cause) → Option Cause
+whole (Err cause) here = Some cause
+whole (Ok t) here = here t
+
+-- the instruction here; `End` past the last one
+abbrev pub instr_of : Option Instr → Instr
+instr_of None = End
+instr_of (Some i) = i
+
+-- an instruction is entered and passed, and this is left
+pub record Passes (code : Program) (pc : ℕ) (i : Instr) (came : Option Known) (left : Known) : Type 0 where
+  pub known : Known
+  pub enters : entered code pc came ≡ Ok known
+  pub none : known_cause code pc i known ≡ None
+  pub leaves_it : left ≡ leaves code.plan i known
+
+-- where no cause holds here, what comes of the rest
+abbrev pub or_after : ℕ → Option Cause → Option Refusal → Option Refusal
+or_after pc None rest = rest
+or_after pc (Some cause) rest = refused_at pc cause
+
+abbrev pub on_entry : ℕ → Result Known Cause → (Known → Option Refusal) → Option Refusal
+on_entry pc (Err cause) rest = refused_at pc cause
+on_entry pc (Ok t) rest = rest t
+
+abbrev pub past_label : Option Label → Option Refusal
+past_label None = None
+past_label (Some label) = refused_at label.pc Table
+
+-- the first label at or past the end
+abbrev pub past_end : Program → Option Refusal
+past_end code = past_label (find (λ l. nat_le (length code.lines) l.pc) code.labels)
+
+-- these are the instructions from `pc` on
+abbrev pub walk : Program → List Line → ℕ → Option Known → Option Refusal
+walk code [] pc came = past_end code
+walk code (line ∷ lines) pc came =
+    on_entry pc (entered code pc came) (λ t.
+    or_after pc (known_cause code pc line.instr t) (walk code lines (pc + 1) (passed_on code.plan line.instr t)))
+
+abbrev pub refusal_of : Program → Option Refusal
+refusal_of code = walk code code.lines 0 None

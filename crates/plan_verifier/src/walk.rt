@@ -1,0 +1,172 @@
+//! The walk over a code: what is known at each instruction, and the first that is refused.
+
+ghost use Rattle.std.specs.Prelude.{◌≡◌, IfErr, OnOk, Ok, Err, Some, None, length, drop};
+ghost use Rattle.plan_code.specs.Program.{IsProgram, instr_at, label_at};
+ghost use Rattle.plan_verifier.specs.Held.{known_of};
+ghost use Rattle.plan_verifier.specs.Typing.{Known, leaves, continues};
+ghost use Rattle.plan_verifier.specs.Walking.{whole, opening_of, place_of, entered, came_of, known_cause, past_end, walk, refusal_of, opening_cause, is_initial, unless, Passes, instr_of};
+
+use crate::cause::{Cause, Refusal};
+use crate::known::{KnownState, is_idle, is_same};
+use crate::labels::{label_at, refit, take, test_cost, test_entry};
+use crate::rounds::pages_alone;
+use crate::step::{continues, instr_at, judge};
+use mux_config::{Store, soundness};
+use plan_code::{Code, Counters, Label, Swap};
+
+/// Whether the walk can begin so: one configuration, nothing pending and no counter set.
+fn is_initial<S: Store>(state: &KnownState<S>) -> bool
+    ensures { result ≡ is_initial (known_of S.content state.now) }
+{
+    is_idle(state.pending) && state.counters.0 == 0 && is_same(&state.current, &state.next)
+}
+
+/// Whether what the first label declares can be what a code begins with. Refused are `Mismatch`, `Cost`,
+/// `Config` and `Round`, in this order.
+fn test_opening<S: Store>(code: &Code, label: &Label, state: &KnownState<S>) -> Result<(), Cause>
+    ensures { result ≡ unless (opening_cause code.now label.now (known_of S.content state.now)) }
+{
+    if !is_initial(state) {
+        return Err(Cause::Mismatch);
+    }
+    test_cost(code, label)?;
+    if let Err(fault) = soundness(&state.current) {
+        return Err(Cause::Config(fault));
+    }
+    let plan = code.plan();
+    if usize::from(plan.period) < pages_alone(&plan, &state.current) {
+        return Err(Cause::Round);
+    }
+    Ok(())
+}
+
+/// What is known at the first instruction, or why the code is refused there.
+fn open<S: Store>(code: &Code, state: &mut KnownState<S>) -> Result<(), Cause>
+    ensures refused { IfErr result (λ cause. opening_of code.now (label_at code.now 0) ≡
+        Err cause) }
+    ensures known { OnOk result (opening_of code.now (label_at code.now 0) ≡ Ok
+        (known_of S.content state.new)) }
+{
+    match label_at(code, 0) {
+        None => Err(Cause::Table),
+        Some(label) => {
+            take(code, &label, state);
+            test_opening(code, &label, state)
+        }
+    }
+}
+
+/// What is known at another instruction, where `comes` says whether the one before continues to it; or why
+/// the code is refused there.
+fn enter<S: Store>(
+    code: &Code,
+    pc: u16,
+    comes: bool,
+    state: &mut KnownState<S>,
+) -> Result<(), Cause>
+    ensures refused { IfErr result (λ cause. place_of code.now (label_at code.now pc)
+        (came_of comes (known_of S.content state.old)) ≡ Err cause) }
+    ensures known { OnOk result (place_of code.now (label_at code.now pc) (came_of comes
+        (known_of S.content state.old)) ≡ Ok (known_of S.content state.new)) }
+{
+    match label_at(code, pc) {
+        None => { if comes { Ok(()) } else { Err(Cause::Table) } }
+        Some(label) => {
+            if comes {
+                test_entry(code, &label, state)?;
+                test_cost(code, &label)?;
+                refit(code, &label, state);
+                return Ok(());
+            }
+            test_cost(code, &label)?;
+            take(code, &label, state);
+            Ok(())
+        }
+    }
+}
+
+/// What is known at an instruction, the first or another.
+#[tactic(auto, using(crate::proofs::Stepping::entered_first, crate::proofs::Stepping::entered_later))]
+fn enter_at<S: Store>(
+    code: &Code,
+    pc: u16,
+    comes: bool,
+    state: &mut KnownState<S>,
+) -> Result<(), Cause>
+    ensures refused { IfErr result (λ cause. entered code.now pc (came_of comes
+        (known_of S.content state.old)) ≡ Err cause) }
+    ensures known { OnOk result (entered code.now pc (came_of comes
+        (known_of S.content state.old)) ≡ Ok (known_of S.content state.new)) }
+{
+    if pc == 0 {
+        return open(code, state);
+    }
+    enter(code, pc, comes, state)
+}
+
+/// One instruction of the walk: why it is refused, or what it leaves.
+fn visit<S: Store>(
+    code: &Code,
+    pc: u16,
+    comes: bool,
+    state: &mut KnownState<S>,
+) -> Result<(), Cause>
+    ensures refused { IfErr result (λ cause. whole (entered code.now pc (came_of comes
+        (known_of S.content state.old))) (known_cause code.now pc (instr_of
+        (instr_at code.now pc))) ≡ Some cause) }
+    ensures passed { OnOk result (Passes code.now pc (instr_of (instr_at code.now pc))
+        (came_of comes (known_of S.content state.old)) (known_of S.content state.new)) }
+{
+    match enter_at(code, pc, comes, state) {
+        Err(cause) => Err(cause),
+        Ok(()) => judge(code, pc, state),
+    }
+}
+
+/// The first label at or past the end of the code, if there is one: it is refused.
+fn past_end(code: &Code) -> Option<Refusal>
+    ensures { result ≡ past_end code.now }
+{
+    let end = code.lines().len();
+    for label in code.labels() {
+        if end <= usize::from(label.pc) {
+            return Some(Refusal {
+                pc: label.pc,
+                cause: Cause::Table,
+            });
+        }
+    }
+    None
+}
+
+/// How many instructions there are, 1 to 4,096.
+fn count(code: &Code) -> u16
+    ensures value { result ≡ length code.now.lines }
+    ensures formed { IsProgram code.now }
+{
+    let lines = code.lines();
+    lines.len() as u16
+}
+
+/// The first instruction that is refused, with its cause, if there is one.
+pub(crate) fn refusal<S: Store>(code: &Code) -> Option<Refusal>
+    ensures value { result ≡ refusal_of code.now }
+    ensures formed { IsProgram code.now }
+{
+    let mut state = KnownState {
+        current: S::empty(),
+        next: S::empty(),
+        pending: Swap::Idle,
+        counters: Counters(0),
+        allowance: 0,
+    };
+    let mut comes = false;
+    for pc in 0..count(code) {
+        match visit(code, pc, comes, &mut state) {
+            Err(cause) => return Some(Refusal { pc, cause }),
+            Ok(()) => {}
+        }
+        comes = continues(instr_at(code, pc));
+    }
+    past_end(code)
+}

@@ -1,0 +1,42 @@
+-- Hexadecimal digits and times, and their numbers.
+use Rattle.std.proofs.Common.{◌≡◌, ℕ, ◌+◌, ◌-◌, ◌*◌, ◌/◌, ◌%◌, ◌<◌, ◌≤◌, List, [], ◌∷◌, ◌++◌, refl, ap, ◌∙◌, lt-ltb, le-ltb, arith}
+use Rattle.script_front.specs.Spelling.{hex_digit, hex_byte, hex_word, hex_long, two_digits, time_word}
+
+pub low_digit : (b : ℕ) → 48 ≤ b → b ≤ 57 → b ≡ hex_digit (b - 48)
+low_digit b from to = let lt : b - 48 < 10 = omega arith in rw (lt-ltb (b - 48) 10 lt) (omega arith)
+
+pub high_digit : (b : ℕ) → 65 ≤ b → b ≤ 70 → b ≡ hex_digit (b - 65 + 10)
+high_digit b from to = let ge : 10 ≤ b - 65 + 10 = omega arith in rw (le-ltb (b - 65 + 10) 10 ge) (omega arith)
+
+pub two_hex : (high low d e : ℕ) → high ≡ hex_digit d → low ≡ hex_digit e → e < 16 → high ∷ low ∷ [] ≡ hex_byte (d * 16 + e)
+two_hex high low d e h l small =
+    let f : (d * 16 + e) / 16 ≡ d = omega arith in
+    let g : (d * 16 + e) % 16 ≡ e = omega arith in
+    rw (f, g, h, l) refl
+
+pub four_hex : (a b c d high low : ℕ) → a ∷ b ∷ [] ≡ hex_byte high → c ∷ d ∷ [] ≡ hex_byte low → low < 256 → a ∷ b ∷ c ∷ d ∷ [] ≡ hex_word (high * 256 + low)
+four_hex a b c d high low h l small =
+    let f : (high * 256 + low) / 256 ≡ high = omega arith in
+    let g : (high * 256 + low) % 256 ≡ low = omega arith in
+    rw (f, g) (ap (λ (xs : List ℕ). xs ++ (c ∷ d ∷ [])) h ∙ ap (λ (xs : List ℕ). hex_byte high ++ xs) l)
+
+pub eight_hex : (front back : List ℕ) (high low : ℕ) → front ≡ hex_word high → back ≡ hex_word low → low < 65536 → front ++ back ≡ hex_long (high * 65536 + low)
+eight_hex front back high low x y small =
+    let i : (high * 65536 + low) / 65536 ≡ high = omega arith in
+    let j : (high * 65536 + low) % 65536 ≡ low = omega arith in
+    rw (i, j) (ap (λ (xs : List ℕ). xs ++ back) x ∙ ap (λ (xs : List ℕ). hex_word high ++ xs) y)
+
+pub two_decimal : (tens ones : ℕ) → 48 ≤ tens → tens ≤ 57 → 48 ≤ ones → ones ≤ 57 → tens ∷ ones ∷ [] ≡ two_digits ((tens - 48) * 10 + (ones - 48))
+two_decimal tens ones a b c d =
+    let f : 48 + ((tens - 48) * 10 + (ones - 48)) / 10 ≡ tens = omega arith in
+    let g : 48 + ((tens - 48) * 10 + (ones - 48)) % 10 ≡ ones = omega arith in
+    rw (f, g) refl
+
+pub a_time : (a b c d e f hours minutes seconds : ℕ) → a ∷ b ∷ [] ≡ two_digits hours → c ∷ d ∷ [] ≡ two_digits minutes → e ∷ f ∷ [] ≡ two_digits seconds → minutes < 60 → seconds < 60
+    → a ∷ b ∷ 58 ∷ c ∷ d ∷ 58 ∷ e ∷ f ∷ [] ≡ time_word (hours * 3600 + minutes * 60 + seconds)
+a_time a b c d e f hours minutes seconds h m s small less =
+    let x : (hours * 3600 + minutes * 60 + seconds) / 3600 ≡ hours = omega arith in
+    let y : (hours * 3600 + minutes * 60 + seconds) / 60 % 60 ≡ minutes = omega arith in
+    let z : (hours * 3600 + minutes * 60 + seconds) % 60 ≡ seconds = omega arith in
+    rw (x, y, z) (ap (λ (xs : List ℕ). xs ++ 58 ∷ c ∷ d ∷ 58 ∷ e ∷ f ∷ []) h ∙ ap (λ (xs : List ℕ). two_digits hours ++ 58 ∷ (xs ++ 58 ∷ e ∷ f ∷ [])) m
+    ∙ ap (λ (xs : List ℕ). two_digits hours ++ 58 ∷ (two_digits minutes ++ 58 ∷ xs)) s)

@@ -1,0 +1,10 @@
+pub mod Block
+pub mod Bytes
+pub mod Lexing
+pub mod Parsing
+pub mod Reading
+pub mod Spelling
+pub mod Texts
+pub mod Times
+pub mod Tree
+pub mod Words

@@ -1,0 +1,127 @@
+-- The tree of a script, its limits and its ranges.
+use Rattle.std.specs.Prelude.{◌≡◌, ◌≢◌, ℕ, ◌+◌, ◌-◌, ◌<◌, ◌≤◌, ◌||◌, ◌==◌, Bool, true, false, List, [], ◌∷◌, length, nat_le, ◌&&◌}
+use Rattle.std.specs.List.{All, AllPairs, list_all}
+use Rattle.mux_config.specs.declared.edit.Edit.{Edit}
+use Rattle.mux_config.specs.declared.edit.Edit.TheVariants.{AddSub, AddService, AddComponent, AddPacket}
+use Rattle.plan_code.specs.Program.{IsEdit}
+use Rattle.script_front.specs.declared.tree.Act.{Act}
+use Rattle.script_front.specs.declared.tree.Act.TheVariants.{Edit as Edits, Wait, WaitContact, Until, CommitIn, CommitAt, Join, Settle}
+use Rattle.script_front.specs.declared.tree.Header.{Header}
+use Rattle.script_front.specs.declared.tree.Item.{Item}
+use Rattle.script_front.specs.declared.tree.Statement.{Statement}
+use Rattle.script_front.specs.Block.{Block, nothing, basic, stop, when, either, repeat, forever, apply, block_of}
+use Rattle.script_front.specs.Words.{IsNoKeyword}
+
+pub record Tree : Type 0 where
+  pub header : Header
+  pub items : List Item
+  -- the names of the defined blocks and the blocks, in the order of their definitions
+  pub names : List (List ℕ)
+  pub blocks : List (List Statement)
+  -- the line of `begin`
+  pub begin_line : ℕ
+  pub statements : List Statement
+  -- the line of the last token
+  pub last_line : ℕ
+
+-- ---- ranges
+
+pub record IsHeader (h : Header) : Type 0 where
+  pub named : h.eid < 65536
+  pub period_from : 1 ≤ h.period
+  pub period_to : h.period ≤ 60
+  pub notice_from : 12 ≤ h.notice
+  pub notice_to : h.notice ≤ 248
+  pub budget_from : 1 ≤ h.budget
+  pub budget_to : h.budget ≤ 255
+
+abbrev pub IsAct : Act → Type 0
+IsAct (Edits edit) = IsEdit edit
+IsAct (Wait frames) = (1 ≤ frames) × (frames < 65536)
+IsAct (WaitContact contact closed) = contact < 16
+IsAct (Until second) = second < 86400
+IsAct (CommitIn delay) = (1 ≤ delay) × (delay ≤ 60000)
+IsAct (CommitAt count) = count < 65536
+IsAct Join = Unit {0}
+IsAct Settle = Unit {0}
+
+-- an edit that adds
+abbrev pub Adds : Edit → Type 0
+Adds (AddSub s) = Unit {0}
+Adds (AddService sid) = Unit {0}
+Adds (AddComponent sid component) = Unit {0}
+Adds (AddPacket p) = Unit {0}
+Adds _ = ⊥
+
+abbrev pub IsItem : Item → Type 0
+IsItem item = IsEdit item.edit × Adds item.edit
+
+-- ---- names
+
+abbrev pub is_lower : ℕ → Bool
+is_lower b = nat_le 97 b && nat_le b 122
+
+abbrev pub is_name_byte : ℕ → Bool
+is_name_byte b = is_lower b || (nat_le 48 b && nat_le b 57) || (b == 95)
+
+-- a lower-case letter and then lower-case letters, digits or `_`
+abbrev pub has_name_letters : List ℕ → Bool
+has_name_letters [] = false
+has_name_letters (b ∷ bs) = is_lower b && list_all is_name_byte bs
+
+-- no word of the grammar may be a name
+pub record IsName (bs : List ℕ) : Type 0 where
+  pub formed : has_name_letters bs ≡ true
+  pub short : length bs ≤ 32
+  pub own : IsNoKeyword bs
+
+abbrev pub AreDifferent : List (List ℕ) → Type 0
+AreDifferent names = AllPairs (λ one other. one ≢ other) names
+
+-- ---- blocks
+
+-- every number is in range, so many blocks are known, and braces stand at most so deep
+abbrev pub Fits : (known depth : ℕ) → Block → Type 0
+Fits known depth nothing = Unit {0}
+Fits known depth (basic line act rest) = IsAct act × Fits known depth rest
+Fits known depth (stop line rest) = Fits known depth rest
+Fits known depth (when line contact first rest) =
+    (1 ≤ depth) × (contact < 16) × Fits known (depth - 1) first × Fits known depth rest
+Fits known depth (either line contact first second rest) =
+    (1 ≤ depth) × (contact < 16) × Fits known (depth - 1) first × Fits known (depth - 1) second × Fits known depth rest
+Fits known depth (repeat line times body rest) =
+    (1 ≤ depth) × (1 ≤ times) × (times < 65536) × Fits known (depth - 1) body × Fits known depth rest
+Fits known depth (forever line body rest) = (1 ≤ depth) × Fits known (depth - 1) body × Fits known depth rest
+Fits known depth (apply line number named rest) = (number < known) × Fits known depth rest
+
+-- each defined block applies those before it only; its own braces are the first
+abbrev pub AllFit : ℕ → List (List Statement) → Type 0
+AllFit known [] = Unit {0}
+AllFit known (b ∷ bs) = Fits known 15 (block_of [] b) × AllFit (known + 1) bs
+
+-- the statements of a block, those inside others too
+abbrev pub counted : Block → ℕ
+counted nothing = 0
+counted (basic line act rest) = 1 + counted rest
+counted (stop line rest) = 1 + counted rest
+counted (when line contact first rest) = 1 + (counted first + counted rest)
+counted (either line contact first second rest) = 1 + (counted first + (counted second + counted rest))
+counted (repeat line times body rest) = 1 + (counted body + counted rest)
+counted (forever line body rest) = 1 + (counted body + counted rest)
+counted (apply line number named rest) = 1 + counted rest
+
+abbrev pub counted_in : List (List Statement) → ℕ
+counted_in [] = 0
+counted_in (b ∷ bs) = counted (block_of [] b) + counted_in bs
+
+-- a script: every number in range, names well formed and different, and no limit passed
+pub record IsScript (t : Tree) : Type 0 where
+  pub headed : IsHeader t.header
+  pub adding : All IsItem t.items
+  pub named : All IsName t.names
+  pub different : AreDifferent t.names
+  pub defined : length t.names ≡ length t.blocks
+  pub few_blocks : length t.blocks ≤ 64
+  pub blocks_fit : AllFit 0 t.blocks
+  pub fits : Fits (length t.blocks) 16 (block_of [] t.statements)
+  pub few : length t.items + (counted_in t.blocks + counted (block_of [] t.statements)) ≤ 8192

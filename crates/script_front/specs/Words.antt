@@ -1,0 +1,67 @@
+-- The words of the grammar, as the bytes that spell them.
+use Rattle.std.specs.Prelude.{◌≢◌, ℕ, List, [], ◌∷◌, codes, if◌then◌else◌}
+use Rattle.std.specs.Str.{bytes_eq}
+use Rattle.script_front.specs.declared.keyword.Keyword.{Keyword}
+use Rattle.script_front.specs.declared.keyword.Keyword.TheVariants.{Ensemble, Mode, Period, Notice, Budget, Define, Begin, Sub, At, Eep, Service, Audio, In, Data, Carry, Packet, Groups, Raw, TypeWord, Address, Drop, Component, Move, Rate, Wait, Contact, Closed, Open, Until, Commit, Join, Settle, End, If, Else, Repeat, Forever, Apply, OpenBrace, CloseBrace}
+
+abbrev pub letters : Keyword → List ℕ
+letters Ensemble = codes "ensemble"
+letters Mode = codes "mode"
+letters Period = codes "period"
+letters Notice = codes "notice"
+letters Budget = codes "budget"
+letters Define = codes "define"
+letters Begin = codes "begin"
+letters Sub = codes "sub"
+letters At = codes "at"
+letters Eep = codes "eep"
+letters Service = codes "service"
+letters Audio = codes "audio"
+letters In = codes "in"
+letters Data = codes "data"
+letters Carry = codes "carry"
+letters Packet = codes "packet"
+letters Groups = codes "groups"
+letters Raw = codes "raw"
+letters TypeWord = codes "type"
+letters Address = codes "address"
+letters Drop = codes "drop"
+letters Component = codes "component"
+letters Move = codes "move"
+letters Rate = codes "rate"
+letters Wait = codes "wait"
+letters Contact = codes "contact"
+letters Closed = codes "closed"
+letters Open = codes "open"
+letters Until = codes "until"
+letters Commit = codes "commit"
+letters Join = codes "join"
+letters Settle = codes "settle"
+letters End = codes "end"
+letters If = codes "if"
+letters Else = codes "else"
+letters Repeat = codes "repeat"
+letters Forever = codes "forever"
+letters Apply = codes "apply"
+letters OpenBrace = codes "{"
+letters CloseBrace = codes "}"
+
+-- a token: a word of the grammar, or the bytes of another atom
+pub data Word : Type 0 where
+  the : (keyword : Keyword) → Word
+  text : (bytes : List ℕ) → Word
+
+abbrev pub keywords : List Keyword
+keywords =
+    Ensemble ∷ Mode ∷ Period ∷ Notice ∷ Budget ∷ Define ∷ Begin ∷ Sub ∷ At ∷ Eep ∷ Service ∷ Audio ∷ In ∷ Data ∷ Carry ∷ Packet ∷ Groups ∷ Raw ∷ TypeWord ∷ Address ∷ Drop ∷ Component ∷ Move ∷ Rate ∷ Wait ∷ Contact ∷ Closed ∷ Open ∷ Until ∷ Commit ∷ Join ∷ Settle ∷ End ∷ If ∷ Else ∷ Repeat ∷ Forever ∷ Apply ∷ OpenBrace ∷ CloseBrace ∷ []
+
+abbrev pub word_among : List Keyword → List ℕ → Word
+word_among [] bytes = text bytes
+word_among (k ∷ ks) bytes = if bytes_eq bytes (letters k) then the k else word_among ks bytes
+
+-- the word of these bytes
+unfoldable pub word_of : List ℕ → Word
+word_of bytes = word_among keywords bytes
+
+abbrev pub IsNoKeyword : List ℕ → Type 0
+IsNoKeyword bytes = (k : Keyword) → bytes ≢ letters k

@@ -1,0 +1,66 @@
+//! Reading the header of a script.
+
+ghost use Rattle.std.specs.Prelude.{◌≡◌, ◌<◌, ◌≤◌, length, IfOk, OnOk};
+ghost use Rattle.script_front.specs.Tree.{IsHeader};
+
+use crate::fault::ScriptFault;
+use crate::keyword::Keyword;
+use crate::reader::Reader;
+use crate::tree::Header;
+use crate::values::{decimal, eid};
+use fib_codec::Mode;
+
+/// A number from `low` to `high` behind this word.
+fn declared(reader: &mut Reader, keyword: Keyword, low: u8, high: u8) -> Result<u8, ScriptFault>
+    ensures range { IfOk result (λ n. (low ≤ n) × (n ≤ high)) }
+    ensures shorter { OnOk result (length reader.new < length reader.old) }
+{
+    reader.expect(keyword)?;
+    let value = decimal(reader, u32::from(low), u32::from(high))?;
+    Ok(value as u8)
+}
+
+/// `mode MODE`, or mode I where no `mode` stands
+fn mode(reader: &mut Reader) -> Result<Mode, ScriptFault>
+    ensures shorter { OnOk result (length reader.new ≤ length reader.old) }
+{
+    match reader.keyword() {
+        Some(Keyword::Mode) => {
+            reader.advance();
+            later_mode(reader)
+        }
+        _ => Ok(Mode::I),
+    }
+}
+
+/// A mode from II to IV, as 2, 3 or 4
+fn later_mode(reader: &mut Reader) -> Result<Mode, ScriptFault>
+    ensures shorter { OnOk result (length reader.new < length reader.old) }
+{
+    let number = decimal(reader, 2, 4)?;
+    match number {
+        2 => Ok(Mode::II),
+        3 => Ok(Mode::III),
+        _ => Ok(Mode::IV),
+    }
+}
+
+/// `ensemble EID [mode MODE] period P notice W budget B`
+pub fn header(reader: &mut Reader) -> Result<Header, ScriptFault>
+    ensures range { IfOk result IsHeader }
+    ensures shorter { OnOk result (length reader.new < length reader.old) }
+{
+    reader.expect(Keyword::Ensemble)?;
+    let eid = eid(reader)?;
+    let mode = mode(reader)?;
+    let period = declared(reader, Keyword::Period, 1, 60)?;
+    let notice = declared(reader, Keyword::Notice, 12, 248)?;
+    let budget = declared(reader, Keyword::Budget, 1, 255)?;
+    Ok(Header {
+        eid,
+        mode,
+        period,
+        notice,
+        budget,
+    })
+}

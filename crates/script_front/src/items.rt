@@ -1,0 +1,357 @@
+//! Reading items and the statements without a block.
+
+ghost use Rattle.std.specs.Prelude.{◌≡◌, ℕ, ◌+◌, ◌++◌, ◌∷◌, [], ◌<◌, ◌≤◌, length, IfOk, OnOk};
+ghost use Rattle.std.specs.List.{All};
+ghost use Rattle.mux_config.specs.Configuration.{IsSid, IsComponent};
+ghost use Rattle.plan_code.specs.Program.{IsEdit, IsNewSub, IsNewPacket, IsCarrier};
+ghost use Rattle.script_front.specs.Tree.{IsAct, IsItem, Adds};
+ghost use Rattle.script_front.specs.Parsing.{IsOneMore};
+
+use crate::fault::ScriptFault;
+use crate::keyword::Keyword;
+use crate::reader::Reader;
+use crate::tree::{Act, Item};
+use crate::values::{
+    contact, delay, frames, profile, sc_id, sc_ty, sid, start, sub_id, time, word,
+};
+use mux_config::{Carrier, Component, Edit, NewSub, Packet, ScTy, Sid, SubId};
+use std::alloc::Global;
+
+/// `sub ID`
+fn sub(reader: &mut Reader) -> Result<SubId, ScriptFault>
+    ensures range { IfOk result (λ s. s < 64) }
+    ensures shorter { OnOk result (length reader.new < length reader.old) }
+{
+    reader.expect(Keyword::Sub)?;
+    sub_id(reader)
+}
+
+/// `in SID`
+fn in_service(reader: &mut Reader) -> Result<Sid, ScriptFault>
+    ensures range { IfOk result IsSid }
+    ensures shorter { OnOk result (length reader.new < length reader.old) }
+{
+    reader.expect(Keyword::In)?;
+    sid(reader)
+}
+
+/// `ID at START eep PROFILE RATE`
+fn new_sub(reader: &mut Reader) -> Result<NewSub, ScriptFault>
+    ensures range { IfOk result IsNewSub }
+    ensures shorter { OnOk result (length reader.new < length reader.old) }
+{
+    let id = sub_id(reader)?;
+    reader.expect(Keyword::At)?;
+    let start = start(reader)?;
+    reader.expect(Keyword::Eep)?;
+    let protection = profile(reader)?;
+    let kbits = word(reader)?;
+    Ok(NewSub::from_parts(id, start, protection, kbits))
+}
+
+/// `SCID groups type TYPE sub ID address ADDR`, or `raw` in place of `groups`
+fn new_packet(reader: &mut Reader) -> Result<Packet, ScriptFault>
+    ensures range { IfOk result IsNewPacket }
+    ensures shorter { OnOk result (length reader.new < length reader.old) }
+{
+    let scid = sc_id(reader)?;
+    let dg = data_groups(reader)?;
+    reader.expect(Keyword::TypeWord)?;
+    let ty = sc_ty(reader)?;
+    let sub = sub(reader)?;
+    reader.expect(Keyword::Address)?;
+    let address = word(reader)?;
+    Ok(Packet {
+        scid,
+        dg,
+        ty,
+        sub,
+        address,
+    })
+}
+
+/// `groups`, which is sent as 0, or `raw`, which is sent as 1
+fn data_groups(reader: &mut Reader) -> Result<bool, ScriptFault>
+    ensures shorter { OnOk result (length reader.new < length reader.old) }
+{
+    match reader.keyword() {
+        Some(Keyword::Groups) => {
+            reader.advance();
+            Ok(false)
+        }
+        Some(Keyword::Raw) => {
+            reader.advance();
+            Ok(true)
+        }
+        _ => Err(reader.expected()),
+    }
+}
+
+/// `TYPE sub ID`
+fn typed_sub(reader: &mut Reader) -> Result<(ScTy, SubId), ScriptFault>
+    ensures range { IfOk result (λ p. (p.0 < 64) × (p.1 < 64)) }
+    ensures shorter { OnOk result (length reader.new < length reader.old) }
+{
+    let ty = sc_ty(reader)?;
+    let sub = sub(reader)?;
+    Ok((ty, sub))
+}
+
+/// `audio`, `data` or `carry` with what follows
+fn component(reader: &mut Reader, first: Keyword) -> Result<Edit, ScriptFault>
+    ensures range { IfOk result IsEdit }
+    ensures adds { IfOk result Adds }
+    ensures shorter { OnOk result (length reader.new < length reader.old) }
+{
+    let component = carried(reader, first)?;
+    let sid = in_service(reader)?;
+    Ok(Edit::AddComponent { sid, component })
+}
+
+/// What is carried, up to before `in`
+fn carried(reader: &mut Reader, first: Keyword) -> Result<Component, ScriptFault>
+    ensures range { IfOk result IsComponent }
+    ensures shorter { OnOk result (length reader.new < length reader.old) }
+{
+    match first {
+        Keyword::Audio => {
+            let (ty, sub) = typed_sub(reader)?;
+            Ok(Component::Sound { ty, sub })
+        }
+        Keyword::Data => {
+            let (ty, sub) = typed_sub(reader)?;
+            Ok(Component::Stream { ty, sub })
+        }
+        _ => {
+            let scid = sc_id(reader)?;
+            Ok(Component::Packet { scid })
+        }
+    }
+}
+
+/// An item after its first word.
+fn item(reader: &mut Reader, first: Keyword) -> Result<Edit, ScriptFault>
+    ensures range { IfOk result IsEdit }
+    ensures adds { IfOk result Adds }
+    ensures shorter { OnOk result (length reader.new < length reader.old) }
+{
+    match first {
+        Keyword::Sub => {
+            let sub = new_sub(reader)?;
+            Ok(Edit::AddSub(sub))
+        }
+        Keyword::Service => {
+            let sid = sid(reader)?;
+            Ok(Edit::AddService(sid))
+        }
+        Keyword::Packet => {
+            let packet = new_packet(reader)?;
+            Ok(Edit::AddPacket(packet))
+        }
+        _ => component(reader, first),
+    }
+}
+
+/// `sub ID` or `packet SCID`
+fn carrier(reader: &mut Reader) -> Result<Carrier, ScriptFault>
+    ensures range { IfOk result IsCarrier }
+    ensures shorter { OnOk result (length reader.new < length reader.old) }
+{
+    match reader.keyword() {
+        Some(Keyword::Sub) => {
+            reader.advance();
+            let id = sub_id(reader)?;
+            Ok(Carrier::Sub(id))
+        }
+        Some(Keyword::Packet) => {
+            reader.advance();
+            let scid = sc_id(reader)?;
+            Ok(Carrier::Packet(scid))
+        }
+        _ => Err(reader.expected()),
+    }
+}
+
+/// What follows `drop`
+fn dropped(reader: &mut Reader) -> Result<Edit, ScriptFault>
+    ensures range { IfOk result IsEdit }
+    ensures shorter { OnOk result (length reader.new < length reader.old) }
+{
+    match reader.keyword() {
+        Some(Keyword::Service) => {
+            reader.advance();
+            let sid = sid(reader)?;
+            Ok(Edit::DropService(sid))
+        }
+        Some(Keyword::Component) => {
+            reader.advance();
+            let carrier = carrier(reader)?;
+            let sid = in_service(reader)?;
+            Ok(Edit::DropComponent { sid, carrier })
+        }
+        _ => dropped_carrier(reader),
+    }
+}
+
+/// `sub ID` or `packet SCID` after `drop`
+fn dropped_carrier(reader: &mut Reader) -> Result<Edit, ScriptFault>
+    ensures range { IfOk result IsEdit }
+    ensures shorter { OnOk result (length reader.new < length reader.old) }
+{
+    match carrier(reader)? {
+        Carrier::Sub(id) => Ok(Edit::DropSub(id)),
+        Carrier::Packet(scid) => Ok(Edit::DropPacket(scid)),
+    }
+}
+
+/// `sub ID at START` after `move`
+fn moved(reader: &mut Reader) -> Result<Edit, ScriptFault>
+    ensures range { IfOk result IsEdit }
+    ensures shorter { OnOk result (length reader.new < length reader.old) }
+{
+    let id = sub(reader)?;
+    reader.expect(Keyword::At)?;
+    let start = start(reader)?;
+    Ok(Edit::MoveSub { id, start })
+}
+
+/// `sub ID RATE` after `rate`
+fn rated(reader: &mut Reader) -> Result<Edit, ScriptFault>
+    ensures range { IfOk result IsEdit }
+    ensures shorter { OnOk result (length reader.new < length reader.old) }
+{
+    let id = sub(reader)?;
+    let kbits = word(reader)?;
+    Ok(Edit::RateSub { id, kbits })
+}
+
+/// An edit after its first word.
+fn edit(reader: &mut Reader, first: Keyword) -> Result<Edit, ScriptFault>
+    ensures range { IfOk result IsEdit }
+    ensures shorter { OnOk result (length reader.new < length reader.old) }
+{
+    match first {
+        Keyword::Drop => dropped(reader),
+        Keyword::Move => moved(reader),
+        Keyword::Rate => rated(reader),
+        _ => item(reader, first),
+    }
+}
+
+/// What follows `wait`
+fn waiting(reader: &mut Reader) -> Result<Act, ScriptFault>
+    ensures range { IfOk result IsAct }
+    ensures shorter { OnOk result (length reader.new < length reader.old) }
+{
+    match reader.keyword() {
+        Some(Keyword::Contact) => {
+            reader.advance();
+            let contact = contact(reader)?;
+            let closed = level(reader)?;
+            Ok(Act::WaitContact { contact, closed })
+        }
+        _ => {
+            let frames = frames(reader)?;
+            Ok(Act::Wait(frames))
+        }
+    }
+}
+
+/// `closed` or `open`
+fn level(reader: &mut Reader) -> Result<bool, ScriptFault>
+    ensures shorter { OnOk result (length reader.new < length reader.old) }
+{
+    match reader.keyword() {
+        Some(Keyword::Closed) => {
+            reader.advance();
+            Ok(true)
+        }
+        Some(Keyword::Open) => {
+            reader.advance();
+            Ok(false)
+        }
+        _ => Err(reader.expected()),
+    }
+}
+
+/// `in K` or `at COUNT` after `commit`
+fn committing(reader: &mut Reader) -> Result<Act, ScriptFault>
+    ensures range { IfOk result IsAct }
+    ensures shorter { OnOk result (length reader.new < length reader.old) }
+{
+    match reader.keyword() {
+        Some(Keyword::In) => {
+            reader.advance();
+            let delay = delay(reader)?;
+            Ok(Act::CommitIn(delay))
+        }
+        Some(Keyword::At) => {
+            reader.advance();
+            let count = word(reader)?;
+            Ok(Act::CommitAt(count))
+        }
+        _ => Err(reader.expected()),
+    }
+}
+
+/// A statement without a block, after its first word.
+pub fn act(reader: &mut Reader, first: Keyword) -> Result<Act, ScriptFault>
+    ensures range { IfOk result IsAct }
+    ensures shorter { OnOk result (length reader.new ≤ length reader.old) }
+{
+    match first {
+        Keyword::Wait => waiting(reader),
+        Keyword::Until => {
+            let time = time(reader)?;
+            Ok(Act::Until(time))
+        }
+        Keyword::Commit => committing(reader),
+        Keyword::Join => Ok(Act::Join),
+        Keyword::Settle => Ok(Act::Settle),
+        _ => {
+            let edit = edit(reader, first)?;
+            Ok(Act::Edit(edit))
+        }
+    }
+}
+
+/// Whether an item is next.
+pub fn begins_item(reader: &Reader) -> bool {
+    match reader.keyword() {
+        None => false,
+        Some(first) => first.begins_item(),
+    }
+}
+
+/// Items, up to what is none; `left` is how many more items and statements a script may have.
+pub fn items(alloc: Global, reader: &mut Reader, left: &mut u16) -> Result<Vec<Item>, ScriptFault>
+    ensures formed { IfOk result (λ v. All IsItem v.items) }
+    ensures counts { IfOk result (λ v. length v.items + left.new ≡ left.old) }
+{
+    let mut list = Vec::new(alloc);
+    while begins_item(reader) {
+        if *left == 0 {
+            return Err(ScriptFault::Limit(reader.position()));
+        }
+        *left -= 1;
+        one_more(reader, &mut list)?;
+    }
+    Ok(list)
+}
+
+/// An item, at the end of a list.
+fn one_more(reader: &mut Reader, list: &mut Vec<Item>) -> Result<(), ScriptFault>
+    ensures formed { OnOk result (IsOneMore list.old.items list.new.items) }
+    ensures shorter { OnOk result (length reader.new < length reader.old) }
+{
+    let Some(first) = reader.keyword() else {
+        return Err(reader.expected());
+    };
+    let line = reader.line();
+    reader.advance();
+    let edit = item(reader, first)?;
+    match list.push(Item { line, edit }) {
+        Ok(()) => Ok(()),
+        Err(_full) => Err(ScriptFault::Memory),
+    }
+}

@@ -1,0 +1,71 @@
+//! Making statements.
+
+ghost use Rattle.std.specs.Prelude.{◌≡◌, []};
+ghost use Rattle.script_front.specs.Block.{Block, basic, stop, when, either, repeat, forever, apply, before, block_of};
+ghost use Rattle.script_front.specs.Block.{nothing, named_at};
+
+use crate::tree::{Act, BlockId, Statement};
+use plan_code::{ContactId, Times};
+
+/// A statement without a block.
+pub fn acting(line: u16, act: Act) -> Statement
+    ensures { (b : Block) → before [] result b ≡ basic line act b }
+{
+    Statement::Act { line, act }
+}
+
+/// `end`
+pub fn ending(line: u16) -> Statement
+    ensures { (b : Block) → before [] result b ≡ stop line b }
+{
+    Statement::End { line }
+}
+
+/// `if` without `else`
+pub fn conditional(line: u16, contact: ContactId, first: Vec<Statement>) -> Statement
+    ensures { (b : Block) → before [] result b ≡ when line contact (block_of [] first.items) b }
+{
+    Statement::If {
+        line,
+        contact,
+        first,
+    }
+}
+
+/// `if` with `else`
+pub fn choosing(
+    line: u16,
+    contact: ContactId,
+    first: Vec<Statement>,
+    second: Vec<Statement>,
+) -> Statement
+    ensures { (b : Block) → before [] result b ≡ either line contact (block_of [] first.items) (block_of [] second.items) b }
+{
+    Statement::IfElse {
+        line,
+        contact,
+        first,
+        second,
+    }
+}
+
+/// `repeat`
+pub fn repeating(line: u16, times: Times, body: Vec<Statement>) -> Statement
+    ensures { (b : Block) → before [] result b ≡ repeat line times (block_of [] body.items) b }
+{
+    Statement::Repeat { line, times, body }
+}
+
+/// `forever`
+pub fn looping(line: u16, body: Vec<Statement>) -> Statement
+    ensures { (b : Block) → before [] result b ≡ forever line (block_of [] body.items) b }
+{
+    Statement::Forever { line, body }
+}
+
+/// `apply`
+pub fn applying(line: u16, block: BlockId) -> Statement
+    ensures { (b : Block) → before [] result b ≡ apply line block nothing b }
+{
+    Statement::Apply { line, block }
+}

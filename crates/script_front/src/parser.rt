@@ -1,0 +1,134 @@
+//! Reading a whole script.
+
+ghost use Rattle.std.specs.Prelude.{◌≡◌, ◌≢◌, ℕ, ◌+◌, ◌++◌, ◌∷◌, [], ◌<◌, ◌≤◌, true, length, slice_get, Some, IfOk, OnOk, map};
+ghost use Rattle.std.specs.List.{All};
+ghost use Rattle.script_front.specs.Block.{block_of};
+ghost use Rattle.script_front.specs.Parsing.{IsBody, AreDefined, IsNamed};
+ghost use Rattle.script_front.specs.Tree.{IsItem, IsName};
+
+use crate::fault::ScriptFault;
+use crate::header::header;
+use crate::items::items;
+use crate::keyword::Keyword;
+use crate::lexer::lex;
+use crate::names::Names;
+use crate::reader::Reader;
+use crate::script::Script;
+use crate::statements::{block, statements};
+use crate::tree::Statement;
+use crate::values::name;
+use std::alloc::Global;
+
+/// The most items and statements of a script.
+const MOST_STATEMENTS: u16 = 8192;
+
+/// The most defined blocks of a script.
+const MOST_BLOCKS: usize = 64;
+
+/// The deepest that braces may stand one inside another.
+const DEEPEST: u8 = 16;
+
+/// Definitions, up to what is none. A name is defined once its block has ended.
+fn definitions(
+    alloc: Global,
+    reader: &mut Reader,
+    names: &mut Names,
+    left: &mut u16,
+) -> Result<Vec<Vec<Statement>>, ScriptFault>
+    requires { names.old ≡ [] }
+    ensures { IfOk result (λ v. AreDefined names.new left.old left.new v.items) }
+{
+    let mut blocks = Vec::new(alloc);
+    while is_next(reader, Keyword::Define) {
+        if blocks.len() == MOST_BLOCKS {
+            return Err(ScriptFault::Limit(reader.position()));
+        }
+        let body = definition(alloc, reader, names, left)?;
+        if blocks.push(body).is_err() {
+            return Err(ScriptFault::Memory);
+        }
+    }
+    Ok(blocks)
+}
+
+/// `define NAME` and a block
+fn definition(
+    alloc: Global,
+    reader: &mut Reader,
+    names: &mut Names,
+    left: &mut u16,
+) -> Result<Vec<Statement>, ScriptFault>
+    requires { length names.old < 64 }
+    ensures named { OnOk result (IsNamed names.old names.new) }
+    ensures body { IfOk result (λ v. IsBody (length names.old) 16 left.old left.new (block_of [] v.items)) }
+    ensures shorter { OnOk result (length reader.new < length reader.old) }
+{
+    reader.advance();
+    let name = new_name(reader, names)?;
+    reader.advance();
+    let body = block(alloc, reader, names, left, DEEPEST)?;
+    names.add(alloc, name)?;
+    Ok(body)
+}
+
+/// A name that is not defined yet, and is not passed over
+fn new_name<'a>(reader: &Reader<'a>, names: &Names) -> Result<&'a str, ScriptFault>
+    ensures formed { IfOk result (λ s. IsName s.now) }
+    ensures new { IfOk result (λ s. (i : ℕ) → slice_get names.now i ≢ Some s.now) }
+{
+    let name = name(reader)?;
+    match names.find(name) {
+        None => Ok(name),
+        Some(_index) => Err(ScriptFault::NameUsed(reader.position())),
+    }
+}
+
+/// Whether this word is next.
+fn is_next(reader: &Reader, keyword: Keyword) -> bool
+    ensures { result ≡ true → 0 < length reader.now }
+{
+    match reader.keyword() {
+        None => false,
+        Some(found) => found == keyword,
+    }
+}
+
+/// The end of the text.
+fn end(reader: &Reader) -> Result<(), ScriptFault> {
+    match reader.peek() {
+        None => Ok(()),
+        Some(_word) => Err(reader.expected()),
+    }
+}
+
+/// The words of a whole script.
+fn script(alloc: Global, reader: &mut Reader) -> Result<Script, ScriptFault> {
+    let last_line = reader.last_line();
+    let header = header(reader)?;
+    let mut left = MOST_STATEMENTS;
+    let items = items(alloc, reader, &mut left)?;
+    let mut names = Names::new(alloc);
+    let blocks = definitions(alloc, reader, &mut names, &mut left)?;
+    let begin_line = reader.line();
+    reader.expect(Keyword::Begin)?;
+    let statements = statements(alloc, reader, &names, &mut left, DEEPEST)?;
+    end(reader)?;
+    Ok(Script::new(
+        header, items, names, blocks, begin_line, statements, last_line,
+    ))
+}
+
+/// The script of a text, with the lines of its items, its statements, `begin` and its last token.
+///
+/// # Errors
+///
+/// The faults of `lex`; then the first from the front of: `Number` for an atom that is no value in range where a
+/// value must stand, `Expected` for another wrong token or the end of the text, `Depth` for a brace more than 16
+/// deep, `NameUsed` for a second definition of a name, `NameUnknown` where a name is applied that was not defined
+/// before, `Limit` for a 65th definition, and for an item or statement past 8,192 in all; `Memory` where memory is
+/// refused. Each but `Memory` has the position of the token at fault, or just past the text.
+pub fn parse(alloc: Global, text: &str) -> Result<Script, ScriptFault> {
+    let tokens = lex(alloc, text)?;
+    let mut reader = Reader::new(text.as_bytes(), &tokens);
+    script(alloc, &mut reader)
+}

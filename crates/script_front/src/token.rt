@@ -1,0 +1,70 @@
+//! Tokens, and what the lexer stands in.
+
+use crate::fault::Position;
+
+/// A token of a text: the bytes from `start` to before `end`, and the position of its first byte.
+#[derive(Clone, Copy, Debug, PartialEq, Eq)]
+pub struct Token {
+    pub start: usize,
+    pub end: usize,
+    pub position: Position,
+}
+
+/// The limits on the tokens of a text.
+#[derive(Clone, Copy, Debug, PartialEq, Eq)]
+pub struct Limits {
+    /// The most bytes of an atom.
+    pub atom: usize,
+    /// The last line on which a token may begin.
+    pub line: usize,
+}
+
+/// The limits of a script: atoms of 32 bytes, tokens up to line 65,535.
+pub const SCRIPT_LIMITS: Limits = Limits {
+    atom: 32,
+    line: 65_535,
+};
+
+/// No limits, for texts that are not scripts.
+pub const NO_LIMITS: Limits = Limits {
+    atom: usize::MAX,
+    line: usize::MAX,
+};
+
+/// The most bytes of a script.
+pub const MOST_BYTES: usize = 1_048_576;
+
+/// What a byte is to the lexer.
+#[derive(Clone, Copy, Debug, PartialEq, Eq)]
+pub enum Kind {
+    /// Space, tab, carriage return or `;`.
+    Blank,
+    /// Line feed.
+    LineEnd,
+    /// `#`
+    Hash,
+    /// `{` or `}`
+    Brace,
+    /// A letter, a digit, `_`, `:` or `-`.
+    Letter,
+    /// Any other byte.
+    Bad,
+}
+
+/// A place of a text: how many bytes stand before it, and its position.
+#[derive(Clone, Copy, Debug, PartialEq, Eq)]
+pub struct Place {
+    pub at: usize,
+    pub position: Position,
+}
+
+/// What the lexer stands in.
+#[derive(Clone, Copy, Debug, PartialEq, Eq)]
+pub enum Inside {
+    /// Neither an atom nor a comment.
+    Nothing,
+    /// A comment.
+    Comment,
+    /// An atom that began at this place.
+    Atom(Place),
+}

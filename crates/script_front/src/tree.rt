@@ -1,0 +1,137 @@
+//! The tree of a script: its header, its items and its statements.
+
+ghost use Rattle.std.specs.Prelude.{◌≡◌, ◌<◌, ◌↔◌, IsSome, IfSome};
+
+use crate::time::TimeOfDay;
+use fib_codec::Mode;
+use mux_config::Edit;
+use plan_code::{ContactId, Delay, Frames, Times};
+use std::marker::Model;
+
+/// What a script declares for the whole of its run.
+#[derive(Clone, Copy, Debug, PartialEq, Eq)]
+pub struct Header {
+    /// The identifier of the ensemble, EId (EN 300 401 clause 6.4).
+    pub eid: u16,
+    /// The transmission mode; mode I is not written in a text.
+    pub mode: Mode,
+    /// The period, in frames, 1 to 60 in a script.
+    pub period: u8,
+    /// The notice, in frames, 12 to 248 in a script.
+    pub notice: u8,
+    /// The budget, in instructions per frame, 1 to 255 in a script.
+    pub budget: u8,
+}
+
+/// An item: an edit of the opening configuration, which in a script adds a sub-channel, a service, a
+/// component or a packet component.
+#[derive(Clone, Copy, Debug, PartialEq, Eq)]
+pub struct Item {
+    /// The line of its first token, 1 to 65,535.
+    pub line: u16,
+    /// What it adds.
+    pub edit: Edit,
+}
+
+/// The number of a defined block, 0 to 63, in the order of their definitions.
+#[derive(Clone, Copy, Debug, PartialEq, Eq, PartialOrd, Ord)]
+pub struct BlockId {
+    id: u8,
+}
+
+impl Model for BlockId {
+    ghost use Rattle.std.specs.Prelude.{ℕ, ◌<◌};
+
+    ghost Value = { ℕ };
+
+    ghost view = { λ b. b.id };
+
+    ghost invariant = { λ b. b.id < 64 };
+
+    ghost inverse = { λ n. record { id = n } };
+}
+
+impl BlockId {
+    /// The block of this number; None where it is above 63.
+    pub fn new(id: u8) -> Option<BlockId>
+        ensures in_range { IsSome result ↔ (id < 64) }
+        ensures value { IfSome result (λ b. b ≡ id) }
+    {
+        if id < 64 { Some(BlockId { id }) } else { None }
+    }
+
+    /// Its number, 0 to 63.
+    pub fn get(self) -> u8
+        ensures value { result ≡ self }
+        ensures in_range { result < 64 }
+    {
+        self.id
+    }
+}
+
+/// A statement that is carried out at once or suspends, and after which the next one follows: each is one
+/// instruction of a plan code.
+#[derive(Clone, Copy, Debug, PartialEq, Eq)]
+pub enum Act {
+    /// One of the ten edits, of the next configuration.
+    Edit(Edit),
+    /// `wait N`: suspends for this many frames.
+    Wait(Frames),
+    /// `wait contact C closed` or `open`: suspends until the contact has this level in a later frame.
+    WaitContact { contact: ContactId, closed: bool },
+    /// `until TIME`: suspends until a later frame is the first of this time of the day.
+    Until(TimeOfDay),
+    /// `commit in K`: commits the next configuration; the swap comes this many frames later, or at the first
+    /// count after them at which one can fall.
+    CommitIn(Delay),
+    /// `commit at COUNT`: commits the next configuration; the swap comes at this CIF count, 0 to 65,535 in a
+    /// text, after a whole notice.
+    CommitAt(u16),
+    /// `join`: suspends until the pending swap has been made.
+    Join,
+    /// `settle`: suspends until the pending swap has been made, where one is pending.
+    Settle,
+}
+
+/// A statement, with the line of its first token, 1 to 65,535. Blocks in braces are lists of statements.
+#[derive(Drop)]
+pub enum Statement {
+    /// A statement without a block.
+    Act {
+        line: u16,
+        act: Act,
+    },
+    /// `end`: nothing more is carried out.
+    End {
+        line: u16,
+    },
+    /// `if contact C { .. }`: the block where the contact is closed.
+    If {
+        line: u16,
+        contact: ContactId,
+        first: Vec<Statement>,
+    },
+    /// `if contact C { .. } else { .. }`: the second block where the contact is open.
+    IfElse {
+        line: u16,
+        contact: ContactId,
+        first: Vec<Statement>,
+        second: Vec<Statement>,
+    },
+    /// `repeat N { .. }`: the block this many times.
+    Repeat {
+        line: u16,
+        times: Times,
+        body: Vec<Statement>,
+    },
+    /// `forever { .. }`: the block again and again.
+    Forever {
+        line: u16,
+        body: Vec<Statement>,
+    },
+    /// `apply NAME`: the block that was defined by this name.
+    Apply {
+        line: u16,
+        block: BlockId,
+    },
+}
