@@ -7,3 +7,5 @@ pub mod Stepping
 pub mod Tabled
 pub mod Verdicts
 mod Vectors
+mod VectorsOfTyping
+mod VectorsOfRefusals

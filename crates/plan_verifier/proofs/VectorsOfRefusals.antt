@@ -1,0 +1,327 @@
+-- Why small codes are refused: each definition of refusals where it holds, and where it fails.
+use Rattle.std.proofs.Common.{◌≡◌, ◌≢◌, ℕ, zero, suc, ◌<◌, ◌≤◌, List, [], ◌∷◌, length, slice_get, Contains, Some, None, inl, inr, refl, ap, subst, arith}
+use Rattle.std.proofs.lemmas.Bool.{false≢true}
+use Rattle.mux_config.specs.Configuration.{IsConfiguration, Each, IsAscending, nothing}
+use Rattle.mux_config.specs.declared.edit.Edit.TheVariants.{AddSub, DropSub}
+use Rattle.mux_config.specs.declared.fault.EditFault.TheVariants.{IdAbsent}
+use Rattle.plan_code.specs.declared.label.Label.{Label}
+use Rattle.plan_code.specs.declared.label.Swap.TheVariants.{Idle, Within}
+use Rattle.plan_code.specs.declared.instr.Instr.{Instr}
+use Rattle.plan_code.specs.declared.instr.Line.{Line}
+use Rattle.plan_code.specs.declared.instr.Instr.TheVariants.{CommitIn, Join, End, Edit as Edits, Jump}
+use Rattle.plan_code.specs.Program.{Program, IsProgram, IsPlan, IsLabel, IsLine, IsInstr, instr_at, label_at, label_key}
+use Rattle.plan_verifier.specs.declared.cause.Cause.{Cause}
+use Rattle.plan_verifier.specs.declared.cause.Cause.TheVariants.{Target, Table, Edit as OfEdit, Pending, Notice, JoinIdle, Mismatch, Cost, FallsOff}
+use Rattle.plan_verifier.specs.Typing.{Known, Declares, IsPlaced, IsAfter, IsSafe}
+use Rattle.plan_verifier.specs.Refusals.{Where, WhereSome, ◌orelse◌, CommitRefused, FitsLabel, EntryRefused, JumpRefused, InstrRefused, KnownRefused, TakenRefused, LabelRefused, PlaceRefused, OpenedRefused, OpeningRefused, IsSafeBelow, IsTypingBelow, InstructionRefused, IsFirstPast, IsRefusedAt, IsRefused}
+use Rattle.plan_verifier.proofs.Tabled.{IsTabled, tabled, declared_once}
+use Rattle.plan_verifier.proofs.Causes.{decides_label, entry_computes, known_computes}
+use Rattle.plan_verifier.proofs.Entries.{whole_computes}
+use Rattle.plan_verifier.proofs.OneVerdict.{refused_if}
+use Rattle.plan_verifier.proofs.VectorsOfTyping.{plan, sub, label, line, code, joins, opened, edited, committed, its_label_declares, opened_fits, a_first_sub_channel, opens_empty}
+
+-- adds a sub-channel, and then waits for a swap that nothing has committed
+abbrev unjoined : Program
+unjoined = code (label 0 3 ∷ []) (line (Edits (AddSub sub)) ∷ line Join ∷ [])
+
+-- one instruction
+abbrev lone : Instr → Program
+lone i = code (label 0 3 ∷ []) (line i ∷ [])
+
+-- ---- their fields are within their limits
+
+empty_is : IsConfiguration nothing
+empty_is = record {
+  subs_ascend = tt;
+  services_ascend = tt;
+  packets_ascend = tt;
+  subs_placed = tt;
+  services_formed = tt;
+  packets_addressed = tt;
+  subs_few = omega arith;
+  services_few = omega arith;
+  packets_few = omega arith;
+}
+
+plan_is : IsPlan plan
+plan_is = record {
+  ensemble = omega arith;
+  period_from = omega arith;
+  period_to = omega arith;
+  notice_from = omega arith;
+  notice_to = omega arith;
+  budget_from = omega arith;
+  budget_to = omega arith;
+}
+
+label_at_pc : (pc : ℕ) → pc < 65536 → IsLabel 1 (label pc 3)
+label_at_pc pc low = record {
+  place = low;
+  current = omega arith;
+  following = omega arith;
+  bounds = tt;
+  set = omega arith;
+  cost_from = omega arith;
+  cost_to = omega arith;
+}
+
+code_is : (labels : List Label) (lines : List Line) → Each (IsLabel 1) labels → IsAscending label_key labels → 1 ≤ length labels → length labels ≤ 1024
+    → Each IsLine lines → 1 ≤ length lines → length lines ≤ 4096 → IsProgram (code labels lines)
+code_is labels lines formed ascend from to each first last = record {
+  planned = plan_is;
+  configurations_from = omega arith;
+  configurations_to = omega arith;
+  configurations_formed = (empty_is, tt);
+  labels_from = from;
+  labels_to = to;
+  labels_formed = formed;
+  labels_ascend = ascend;
+  lines_from = first;
+  lines_to = last;
+  lines_formed = each;
+}
+
+-- with a label at the first instruction
+first_is : (lines : List Line) → Each IsLine lines → 1 ≤ length lines → length lines ≤ 4096 → IsProgram (code (label 0 3 ∷ []) lines)
+first_is lines each first last = code_is (label 0 3 ∷ []) lines (label_at_pc 0 (omega arith), tt) (tt, tt) (omega arith) (omega arith) each first last
+
+line_is : (i : Instr) → IsInstr i → IsLine (line i)
+line_is i h = record { numbered = omega arith; formed = h }
+
+adds : IsLine (line (Edits (AddSub sub)))
+adds = line_is (Edits (AddSub sub)) (record { named = omega arith; start = omega arith; from_one = omega arith; to_four = omega arith; rate = omega arith })
+
+joins_tabled : IsTabled joins
+joins_tabled =
+    tabled joins (first_is joins.lines (adds, (line_is (CommitIn 24) (omega arith, omega arith), (line_is Join tt, (line_is End tt, tt)))) (omega arith) (omega arith))
+
+unjoined_is : IsProgram unjoined
+unjoined_is = first_is unjoined.lines (adds, (line_is Join tt, tt)) (omega arith) (omega arith)
+
+lone_tabled : (i : Instr) → IsInstr i → IsTabled (lone i)
+lone_tabled i h = tabled (lone i) (first_is (line i ∷ []) (line_is i h, tt) (omega arith) (omega arith))
+
+-- ---- causes in order
+
+a_fault : Where (1 < 2) Cost Cost
+a_fault = (omega arith, refl)
+
+no_fault : Where (2 < 1) Cost Cost → ⊥
+no_fault h = let e : 2 < 1 = h.0 in omega (arith, e)
+
+another_cause : Where (1 < 2) Cost Table → ⊥
+another_cause h = let e : Table ≡ Cost = h.1 in absurd cc
+
+named_by_its_fault : WhereSome (Some IdAbsent) OfEdit (OfEdit IdAbsent)
+named_by_its_fault = refl
+
+without_a_fault : WhereSome None OfEdit (OfEdit IdAbsent) → ⊥
+without_a_fault h = h
+
+tested_later : (Where (2 < 1) Cost orelse Where (1 < 2) Table) Table
+tested_later = inr ((λ cause h. let e : 2 < 1 = h.0 in omega (arith, e)), (omega arith, refl))
+
+tested_first : (Where (1 < 2) Cost orelse Where (1 < 2) Table) Table → ⊥
+tested_first h = elim h [ inl first ↦ (let e : Table ≡ Cost = first.1 in absurd cc) | inr later ↦ later.0 Cost a_fault ]
+
+-- ---- at an instruction: a swap is pending, and the delay is too short as well
+
+swap_pending : Where (committed.pending ≢ Idle) Pending Pending
+swap_pending = ((λ e. absurd cc), refl)
+
+commit_while_pending : CommitRefused plan committed (23 < 24) Notice Pending
+commit_while_pending = inl swap_pending
+
+not_for_its_delay : CommitRefused plan committed (23 < 24) Notice Notice → ⊥
+not_for_its_delay h = elim h [ inl first ↦ (let e : Notice ≡ Pending = first.1 in absurd cc) | inr later ↦ later.0 Pending swap_pending ]
+
+fits_its_label : FitsLabel joins (label 0 3) opened
+fits_its_label = (opened, its_label_declares, opened_fits)
+
+with_another_next_one : FitsLabel joins (label 0 3) edited → ⊥
+with_another_next_one h = false≢true ((decides_label joins (label 0 3) edited its_label_declares).found h)
+
+abbrev spent_two : Known
+spent_two = record opened { allowance = 2 }
+
+cannot_afford_the_label : EntryRefused joins (label 0 3) spent_two Cost
+cannot_afford_the_label = (entry_computes joins (label 0 3) spent_two its_label_declares).told Cost refl
+
+-- what doesn't fit is not refused for its cost
+not_for_its_cost : EntryRefused joins (label 0 3) edited Cost → ⊥
+not_for_its_cost h = let e : Some Mismatch ≡ Some Cost = (entry_computes joins (label 0 3) edited its_label_declares).found Cost h in absurd cc
+
+comes_to_the_label : (cause : Cause) → EntryRefused joins (label 0 3) opened cause → ⊥
+comes_to_the_label cause h = let e : None ≡ Some cause = (entry_computes joins (label 0 3) opened its_label_declares).found cause h in absurd cc
+
+no_label_there : JumpRefused joins None opened Target
+no_label_there = refl
+
+a_label_there : (cause : Cause) → JumpRefused joins (Some (label 0 3)) opened cause → ⊥
+a_label_there cause h = comes_to_the_label cause h
+
+drops_what_is_absent : InstrRefused joins (Edits (DropSub 5)) opened (OfEdit IdAbsent)
+drops_what_is_absent = inr ((λ cause first. first.0 refl), refl)
+
+jumps_to_no_label : InstrRefused joins (Jump 1) edited Target
+jumps_to_no_label = refl
+
+joins_a_swap : (cause : Cause) → InstrRefused joins Join committed cause → ⊥
+joins_a_swap cause h = h.0 tt
+
+-- no swap is pending at the last instruction, which goes on
+abbrev here : ℕ → Instr → Known → Cause → Type 0
+here pc i t cause = KnownRefused joins pc i t cause
+
+falls_off : here 3 Join committed FallsOff
+falls_off = (known_computes joins 3 Join committed joins_tabled).told FallsOff refl
+
+joins_nothing_first : here 3 Join opened FallsOff → ⊥
+joins_nothing_first h = let e : Some JoinIdle ≡ Some FallsOff = (known_computes joins 3 Join opened joins_tabled).found FallsOff h in absurd cc
+
+spent_all_first : here 3 Join (record opened { allowance = 0 }) Cost
+spent_all_first = (known_computes joins 3 Join (record opened { allowance = 0 }) joins_tabled).told Cost refl
+
+-- ---- where the machine comes to an instruction
+
+takes_too_much : TakenRefused joins 0 End (label 0 21) opened Cost
+takes_too_much = inl (omega arith, refl)
+
+takes_what_there_is : (cause : Cause) → TakenRefused joins 0 End (label 0 3) opened cause → ⊥
+takes_what_there_is cause h = elim h [
+  | inl first ↦ (let e : 20 < 3 = first.0 in omega (arith, e))
+  | inr later ↦ (let e : None ≡ Some cause = (known_computes joins 0 End opened joins_tabled).found cause later.1 in absurd cc)
+]
+
+label_before_a_join : LabelRefused joins 0 Join (label 0 3) JoinIdle
+label_before_a_join = (
+  opened,
+  its_label_declares,
+  inr ((λ cause first. let e : 20 < 3 = first.0 in omega (arith, e)), (known_computes joins 0 Join opened joins_tabled).told JoinIdle refl),
+)
+
+label_before_an_end : (cause : Cause) → LabelRefused joins 0 End (label 0 3) cause → ⊥
+label_before_an_end cause h =
+    let same : h.0 ≡ opened = declared_once joins (label 0 3) _ _ h.1 its_label_declares in
+    takes_what_there_is cause (subst (λ (t : Known). TakenRefused joins 0 End (label 0 3) t cause) same h.2)
+
+-- no label, and nothing goes on to it
+neither_label_nor_way : PlaceRefused joins 2 Join None None Table
+neither_label_nor_way = refl
+
+comes_without_a_label : PlaceRefused joins 2 Join None (Some opened) JoinIdle
+comes_without_a_label = (known_computes joins 2 Join opened joins_tabled).told JoinIdle refl
+
+comes_with_a_swap : PlaceRefused joins 2 Join None (Some committed) JoinIdle → ⊥
+comes_with_a_swap h = let e : None ≡ Some JoinIdle = (known_computes joins 2 Join committed joins_tabled).found JoinIdle h in absurd cc
+
+begins_without_a_label : OpeningRefused joins End None Table
+begins_without_a_label = refl
+
+begins_with_a_join : OpeningRefused (lone Join) Join (Some (label 0 3)) JoinIdle
+begins_with_a_join = (whole_computes (lone Join) [] 0 Join (lone_tabled Join tt)).told JoinIdle refl
+
+begins_with_an_end : (cause : Cause) → OpeningRefused (lone End) End (Some (label 0 3)) cause → ⊥
+begins_with_an_end cause h = let e : None ≡ Some cause = (whole_computes (lone End) [] 0 End (lone_tabled End tt)).found cause h in absurd cc
+
+lone_declares : (i : Instr) → Declares (lone i) (label 0 3) opened
+lone_declares i = record { current = refl; next = refl; pending = refl; counters = refl; cost = refl }
+
+opens_while_pending : OpenedRefused (lone End) End (label 0 3) committed Mismatch
+opens_while_pending = inl ((λ h. let e : Within 24 27 ≡ Idle = h.idle in absurd cc), refl)
+
+opens_idle : (cause : Cause) → OpenedRefused (lone End) End (label 0 3) opened cause → ⊥
+opens_idle cause h = begins_with_an_end cause (opened, lone_declares End, h)
+
+-- ---- the instructions below a place
+
+unjoined_declares : Declares unjoined (label 0 3) opened
+unjoined_declares = record { current = refl; next = refl; pending = refl; counters = refl; cost = refl }
+
+-- what comes after the place is not asked for
+safe_below_one : IsSafeBelow unjoined 1 (opened ∷ []) 0 (Edits (AddSub sub)) opened
+safe_below_one = record {
+  allowance = omega arith;
+  fine = a_first_sub_channel;
+  inside = λ on. omega arith;
+  onward = λ on lt. absurd (omega (arith, lt));
+  targets = λ target e. absurd cc;
+}
+
+not_safe_as_a_whole : IsSafe unjoined (opened ∷ []) 0 (Edits (AddSub sub)) opened → ⊥
+not_safe_as_a_whole h = let e : None ≡ Some edited = h.onward refl in absurd cc
+
+join_of_nothing : IsSafeBelow unjoined 2 (opened ∷ edited ∷ []) 1 Join edited → ⊥
+join_of_nothing h = h.fine
+
+safe_there : (pc : ℕ) (i : Instr) (t : Known) → instr_at unjoined pc ≡ Some i → slice_get (opened ∷ []) pc ≡ Some t → IsSafeBelow unjoined 1 (opened ∷ []) pc i t
+safe_there zero i t e f =
+    let same : Edits (AddSub sub) ≡ i = cc in
+    let known : opened ≡ t = cc in
+    subst (λ (u : Known). IsSafeBelow unjoined 1 (opened ∷ []) 0 i u) known (subst (λ (j : Instr). IsSafeBelow unjoined 1 (opened ∷ []) 0 j opened) same safe_below_one)
+safe_there (suc pc) i t e f = absurd cc
+
+placed_there : (l : Label) → Contains unjoined.labels l → IsPlaced unjoined (opened ∷ []) l
+placed_there l (zero, lt, same) =
+    subst (λ (x : Label). IsPlaced unjoined (opened ∷ []) x) same (record { known = opened; there = refl; declares = unjoined_declares; within = omega arith })
+placed_there l (suc n, lt, same) = absurd (omega (arith, lt))
+
+no_more_below : (pc : ℕ) → pc < 1 → label_at unjoined pc ≡ None → IsAfter unjoined pc
+no_more_below zero lt e = absurd cc
+no_more_below (suc pc) lt e = absurd (omega (arith, lt))
+
+typing_below_one : IsTypingBelow unjoined 1 (opened ∷ [])
+typing_below_one = record { each = refl; opening = λ some. record { label = label 0 3; known = opened; first = refl; declares = unjoined_declares; opening = opens_empty }; labels = λ l has lt. placed_there l has; safe = safe_there; reached = no_more_below }
+
+typing_below_two : IsTypingBelow unjoined 2 (opened ∷ edited ∷ []) → ⊥
+typing_below_two h = (h.safe 1 Join edited refl refl).fine
+
+second_refused : InstructionRefused unjoined (opened ∷ []) 1 Join JoinIdle
+second_refused = (whole_computes unjoined (opened ∷ []) 1 Join (tabled unjoined unjoined_is)).told JoinIdle refl
+
+second_not_for_its_cost : InstructionRefused unjoined (opened ∷ []) 1 Join Cost → ⊥
+second_not_for_its_cost h =
+    let e : Some JoinIdle ≡ Some Cost = (whole_computes unjoined (opened ∷ []) 1 Join (tabled unjoined unjoined_is)).found Cost h in
+    absurd cc
+
+-- ---- labels past the end
+
+abbrev labels_past : Program
+labels_past = code (label 0 3 ∷ label 7 3 ∷ label 9 3 ∷ []) (line End ∷ [])
+
+least_past : (l : Label) → Contains labels_past.labels l → 1 ≤ l.pc → 7 ≤ l.pc
+least_past l (zero, lt, same) past = let e : 0 ≡ l.pc = ap label_key same in omega (arith, e, past)
+least_past l (suc zero, lt, same) past = let e : 7 ≡ l.pc = ap label_key same in omega (arith, e)
+least_past l (suc (suc zero), lt, same) past = let e : 9 ≡ l.pc = ap label_key same in omega (arith, e)
+least_past l (suc (suc (suc n)), lt, same) past = absurd (omega (arith, lt))
+
+first_label_past : IsFirstPast labels_past 7
+first_label_past = record { label = label 7 3; there = refl; first = least_past }
+
+another_label_past : IsFirstPast labels_past 9 → ⊥
+another_label_past h = let e : 9 ≤ 7 = h.first (label 7 3) (1, omega arith, refl) (omega arith) in omega (arith, e)
+
+-- ---- the first cause at the first instruction that has one
+
+refused_at_the_join : IsRefusedAt unjoined (opened ∷ []) 1 (Some Join) JoinIdle
+refused_at_the_join = (typing_below_one, second_refused)
+
+for_no_other_cause : IsRefusedAt unjoined (opened ∷ []) 1 (Some Join) Cost → ⊥
+for_no_other_cause h = second_not_for_its_cost h.1
+
+at_no_instruction : IsRefusedAt unjoined (opened ∷ []) 2 None Table → ⊥
+at_no_instruction h = let e : 1 ≡ 2 = h.0.each in omega (arith, e)
+
+so_it_is_refused : IsRefused unjoined 1 JoinIdle
+so_it_is_refused = ((opened ∷ []), refused_at_the_join)
+
+labels_past_are : Each (IsLabel 1) labels_past.labels
+labels_past_are = (label_at_pc 0 (omega arith), (label_at_pc 7 (omega arith), (label_at_pc 9 (omega arith), tt)))
+
+labels_past_is : IsProgram labels_past
+labels_past_is =
+    code_is labels_past.labels labels_past.lines labels_past_are (((omega arith, (omega arith, tt)), ((omega arith, tt), (tt, tt)))) (omega arith) (omega arith)
+    (line_is End tt, tt) (omega arith) (omega arith)
+
+labels_past_refused : IsRefused labels_past 7 Table
+labels_past_refused = refused_if labels_past 7 Table labels_past_is refl

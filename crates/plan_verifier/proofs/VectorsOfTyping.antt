@@ -1,0 +1,392 @@
+-- What is known at the instructions of a small code: each definition of typed codes where it holds, and where it fails.
+use Rattle.std.proofs.Common.{◌≡◌, ◌≢◌, ℕ, zero, suc, ◌+◌, ◌*◌, ◌<◌, ◌≤◌, true, false, List, [], ◌∷◌, slice_get, Contains, Option, Some, None, inl, inr, refl, ap, subst, ◌∙◌, arith}
+use Rattle.std.proofs.lemmas.Bool.{false≢true}
+use Rattle.mux_config.specs.Configuration.{Configuration, nothing}
+use Rattle.mux_config.specs.Sound.{IsSound}
+use Rattle.mux_config.specs.declared.edit.Edit.TheVariants.{AddSub, DropSub}
+use Rattle.mux_config.specs.declared.parts.Sub.{Sub}
+use Rattle.mux_config.proofs.Sounding.{sound_told}
+use Rattle.mux_eep.specs.declared.sizes.EepSet.TheVariants.{A}
+use Rattle.fib_codec.specs.declared.modes.Mode.TheVariants.{I}
+use Rattle.plan_code.specs.declared.plan.Plan.{Plan}
+use Rattle.plan_code.specs.declared.flags.Counters.{Counters}
+use Rattle.plan_code.specs.declared.label.Label.{Label}
+use Rattle.plan_code.specs.declared.label.Swap.{Swap}
+use Rattle.plan_code.specs.declared.label.Swap.TheVariants.{Idle, Within, Perhaps}
+use Rattle.plan_code.specs.declared.instr.Instr.{Instr}
+use Rattle.plan_code.specs.declared.instr.Line.{Line}
+use Rattle.plan_code.specs.declared.instr.Instr.TheVariants.{Wait, CommitIn, CommitAt, Join, End, Edit as Edits, Loop}
+use Rattle.plan_code.specs.Program.{Program, instr_at, label_at}
+use Rattle.plan_verifier.specs.Typing.{Known, HasRoom, CanCommit, IsCertain, IsSurelyPending, IsFine, Declares, HasConfigurationsOf, FitsSwap, Fits, ComesTo, IsInitial, IsOpening, Arrives, HasOpening, IsPlaced, Reaches, IsAfter, IsSafe, IsTyping, leaves, continues}
+use Rattle.plan_verifier.proofs.Deciding.{decides_room, decides_includes, decides_initial}
+
+-- ---- values shared by these vectors: one sub-channel of 128 kbit/s, added to an empty multiplex
+
+abbrev pub plan : Plan
+plan = record { eid = 0xe1c5; mode = I; period = 4; notice = 24; budget = 20 }
+
+-- the same, but the whole configuration goes out in each frame
+abbrev pub each_frame : Plan
+each_frame = record { eid = 0xe1c5; mode = I; period = 1; notice = 24; budget = 20 }
+
+abbrev pub counters : ℕ → Counters
+counters set = record { 0 = set }
+
+abbrev pub sub : Sub
+sub = record { id = 1; start = 0; protection = record { set = A; level = 3 }; kbits = 128 }
+
+abbrev pub one_sub : Configuration
+one_sub = record { subs = sub ∷ []; services = []; packets = [] }
+
+-- two that share all capacity units
+abbrev pub overlapping : Configuration
+overlapping = record { subs = sub ∷ record sub { id = 2 } ∷ []; services = []; packets = [] }
+
+-- so many sub-channels of 8 kbit/s, one after the other
+abbrev pub small_subs : ℕ → ℕ → List Sub
+small_subs zero id = []
+small_subs (suc n) id = record { id = id; start = 6 * id; protection = record { set = A; level = 3 }; kbits = 8 } ∷ small_subs n (id + 1)
+
+abbrev pub many_subs : Configuration
+many_subs = record { subs = small_subs 24 0; services = []; packets = [] }
+
+-- with an empty configuration as current one
+abbrev pub knows : Configuration → Swap → ℕ → Known
+knows next pending allowance = record { current = nothing; next = next; pending = pending; counters = counters 0; allowance = allowance }
+
+-- the label at the first instruction: nothing pending, nothing set, and instructions for so much
+abbrev pub label : ℕ → ℕ → Label
+label pc cost = record { pc = pc; cur = 0; next = 0; pending = Idle; counters = counters 0; cost = cost }
+
+abbrev pub line : Instr → Line
+line i = record { number = 1; instr = i }
+
+abbrev pub code : List Label → List Line → Program
+code labels lines = record { plan = plan; configurations = nothing ∷ []; labels = labels; lines = lines }
+
+-- adds the sub-channel, commits it, waits for the swap and ends
+abbrev pub joins : Program
+joins = code (label 0 3 ∷ []) (line (Edits (AddSub sub)) ∷ line (CommitIn 24) ∷ line Join ∷ line End ∷ [])
+
+-- what is known at each of its instructions
+abbrev pub opened : Known
+opened = knows nothing Idle 3
+
+abbrev pub edited : Known
+edited = knows one_sub Idle 2
+
+abbrev pub committed : Known
+committed = knows one_sub (Within 24 27) 1
+
+abbrev pub joined : Known
+joined = record { current = one_sub; next = one_sub; pending = Idle; counters = counters 0; allowance = 20 }
+
+abbrev pub known_there : List Known
+known_there = opened ∷ edited ∷ committed ∷ joined ∷ []
+
+abbrev subs_of : Option Configuration → List Sub
+subs_of None = []
+subs_of (Some c) = c.subs
+
+abbrev next_subs_of : Option Known → List Sub
+next_subs_of None = []
+next_subs_of (Some t) = t.next.subs
+
+abbrev pending_of : Option Known → Swap
+pending_of None = Idle
+pending_of (Some t) = t.pending
+
+-- ---- room for the pages of a notice
+
+room_for_one_sub : HasRoom plan edited
+room_for_one_sub = (decides_room plan edited).told refl
+
+-- these take two pages, which go out in two frames
+no_room_in_each_frame : HasRoom each_frame (knows many_subs Idle 2) → ⊥
+no_room_in_each_frame h = let e : 2 ≤ 1 = h.within_period in omega (arith, e)
+
+-- ---- commits
+
+pub one_sub_is_sound : IsSound one_sub
+one_sub_is_sound = sound_told one_sub refl
+
+pub not_the_current : one_sub ≢ nothing
+not_the_current e = let subs : sub ∷ [] ≡ [] = ap (λ (c : Configuration). c.subs) e in absurd cc
+
+pub can_commit_one_sub : CanCommit plan edited
+can_commit_one_sub = record { idle = refl; sound = one_sub_is_sound; changes = not_the_current; room = room_for_one_sub }
+
+not_while_pending : CanCommit plan committed → ⊥
+not_while_pending h = let e : Within 24 27 ≡ Idle = h.idle in absurd cc
+
+not_what_overlaps : CanCommit plan (knows overlapping Idle 2) → ⊥
+not_what_overlaps h =
+    let same : 1 ≡ 2 = h.sound.apart sub (record sub { id = 2 }) 0 (0, omega arith, refl) (1, omega arith, refl) (omega arith, omega arith) (omega arith, omega arith) in
+    omega (arith, same)
+
+not_without_a_change : CanCommit plan opened → ⊥
+not_without_a_change h = h.changes refl
+
+-- ---- instructions and the swap: it is due in 24 to 27 frames
+
+ends_before_the_swap : IsCertain 23 (Within 24 27)
+ends_before_the_swap = inl (omega arith)
+
+ends_after_the_swap : IsCertain 27 (Within 24 27)
+ends_after_the_swap = inr (omega arith)
+
+ends_among_them : IsCertain 25 (Within 24 27) → ⊥
+ends_among_them h = elim h [ inl early ↦ omega (arith, early) | inr late ↦ omega (arith, late) ]
+
+a_swap_is_pending : IsSurelyPending (Within 24 27)
+a_swap_is_pending = tt
+
+it_may_have_been_made : IsSurelyPending (Perhaps 26) → ⊥
+it_may_have_been_made h = h
+
+pub a_first_sub_channel : IsFine plan (Edits (AddSub sub)) opened
+a_first_sub_channel = (refl, refl)
+
+pub no_edit_while_pending : IsFine plan (Edits (DropSub 1)) committed → ⊥
+no_edit_while_pending h = let e : Within 24 27 ≡ Idle = h.0 in absurd cc
+
+no_drop_of_what_is_absent : IsFine plan (Edits (DropSub 1)) opened → ⊥
+no_drop_of_what_is_absent h = let e = h.1 in absurd cc
+
+a_delay_of_the_notice : IsFine plan (CommitIn 24) edited
+a_delay_of_the_notice = (can_commit_one_sub, omega arith)
+
+no_shorter_delay : IsFine plan (CommitIn 23) edited → ⊥
+no_shorter_delay h = let e : 24 ≤ 23 = h.1 in omega (arith, e)
+
+at_count_1000 : IsFine plan (CommitAt 1000) edited
+at_count_1000 = (can_commit_one_sub, (refl, omega arith))
+
+not_at_count_1002 : IsFine plan (CommitAt 1002) edited → ⊥
+not_at_count_1002 h = let e : 2 ≡ 0 = h.1.0 in omega (arith, e)
+
+a_wait_before_the_swap : IsFine plan (Wait 23) committed
+a_wait_before_the_swap = ends_before_the_swap
+
+no_wait_among_its_frames : IsFine plan (Wait 25) committed → ⊥
+no_wait_among_its_frames h = ends_among_them h
+
+a_join_of_the_swap : IsFine plan Join committed
+a_join_of_the_swap = tt
+
+pub no_join_without_a_swap : IsFine plan Join opened → ⊥
+no_join_without_a_swap h = h
+
+a_loop_on_a_set_counter : IsFine plan (Loop 2 0) (record opened { counters = counters 4 })
+a_loop_on_a_set_counter = refl
+
+no_loop_on_an_unset_counter : IsFine plan (Loop 2 0) opened → ⊥
+no_loop_on_an_unset_counter h = false≢true h
+
+-- ---- labels
+
+pub its_label_declares : Declares joins (label 0 3) opened
+its_label_declares = record { current = refl; next = refl; pending = refl; counters = refl; cost = refl }
+
+pub it_declares_no_sub_channel : Declares joins (label 0 3) edited → ⊥
+it_declares_no_sub_channel h =
+    let same : Some nothing ≡ Some one_sub = h.next in
+    let subs : [] ≡ sub ∷ [] = ap (λ (o : Option Configuration). subs_of o) same in
+    absurd cc
+
+no_configuration_there : Declares joins (record (label 0 3) { next = 1 }) opened → ⊥
+no_configuration_there h = let e : None ≡ Some nothing = h.next in absurd cc
+
+the_same_two : HasConfigurationsOf edited committed
+the_same_two = (refl, refl)
+
+another_next_one : HasConfigurationsOf opened committed → ⊥
+another_next_one h = let e : nothing ≡ one_sub = h.1 in let subs : [] ≡ sub ∷ [] = ap (λ (c : Configuration). c.subs) e in absurd cc
+
+-- bounds inside those of the label, and not outside of them
+narrower_bounds : FitsSwap (Within 24 27) (Within 20 30) committed committed
+narrower_bounds = ((refl, refl), omega arith, omega arith)
+
+wider_bounds : FitsSwap (Within 24 27) (Within 25 30) committed committed → ⊥
+wider_bounds h = let e : 25 ≤ 24 = h.1 in omega (arith, e)
+
+-- the swap may have been made: it has been, or comes in time, but not later
+swap_made : FitsSwap Idle (Perhaps 26) joined committed
+swap_made = (refl, refl)
+
+swap_to_come : FitsSwap (Within 24 27) (Perhaps 27) committed committed
+swap_to_come = ((refl, refl), omega arith)
+
+swap_too_late : FitsSwap (Within 24 27) (Perhaps 26) committed committed → ⊥
+swap_too_late h = let e : 27 ≤ 26 = h.1 in omega (arith, e)
+
+no_swap_pending : FitsSwap Idle (Within 24 27) edited committed → ⊥
+no_swap_pending h = h
+
+-- a counter that is set, and that no label asks for
+pub more_counters_fit : Fits (record opened { counters = counters 5 }) (record opened { counters = counters 4 })
+more_counters_fit = record { swap = (refl, refl); counters = (decides_includes (counters 5) (counters 4)).told refl }
+
+unset_counter : Fits opened (record opened { counters = counters 4 }) → ⊥
+unset_counter h = false≢true (h.counters 2 refl)
+
+pub opened_fits : Fits opened opened
+opened_fits = record { swap = (refl, refl); counters = λ r set. set }
+
+comes_to_its_label : ComesTo joins (label 0 3) opened
+comes_to_its_label = record { declared = opened; declares = its_label_declares; fits = opened_fits; affords = omega arith }
+
+cannot_afford_it : ComesTo joins (label 0 3) (record opened { allowance = 2 }) → ⊥
+cannot_afford_it h = let e : 3 ≤ 2 = h.affords in omega (arith, e)
+
+-- ---- the opening
+
+pub begins_idle : IsInitial opened
+begins_idle = (decides_initial opened).told refl
+
+not_with_a_swap : IsInitial committed → ⊥
+not_with_a_swap h = let e : Within 24 27 ≡ Idle = h.idle in absurd cc
+
+not_with_a_counter : IsInitial (record opened { counters = counters 4 }) → ⊥
+not_with_a_counter h = let e : 4 ≡ 0 = h.unset in omega (arith, e)
+
+pub opens_empty : IsOpening plan opened
+opens_empty = record { initial = begins_idle; sound = sound_told nothing refl; within_period = omega arith }
+
+opens_with_one_sub : IsOpening each_frame joined
+opens_with_one_sub = record { initial = (decides_initial joined).told refl; sound = one_sub_is_sound; within_period = omega arith }
+
+-- two pages in a period of one frame
+not_with_two_pages : IsOpening each_frame (record joined { current = many_subs; next = many_subs }) → ⊥
+not_with_two_pages h = let e : 2 ≤ 1 = h.within_period in omega (arith, e)
+
+pub its_opening : HasOpening joins
+its_opening = record { label = label 0 3; known = opened; first = refl; declares = its_label_declares; opening = opens_empty }
+
+no_label_at_its_beginning : HasOpening (code (label 1 3 ∷ []) (line End ∷ line End ∷ [])) → ⊥
+no_label_at_its_beginning h = let e : None ≡ Some h.label = h.first in absurd cc
+
+-- ---- places of a code
+
+arrives_after_the_edit : Arrives joins known_there 1 None (leaves plan (Edits (AddSub sub)) opened)
+arrives_after_the_edit = refl
+
+arrives_with_something_else : Arrives joins known_there 1 None opened → ⊥
+arrives_with_something_else h =
+    let subs : subs_of (Some one_sub) ≡ [] = ap (λ (o : Option Known). next_subs_of o) h in
+    absurd cc
+
+arrives_at_its_label : Arrives joins known_there 0 (Some (label 0 3)) opened
+arrives_at_its_label = comes_to_its_label
+
+pub its_label_is_placed : IsPlaced joins known_there (label 0 3)
+its_label_is_placed = record { known = opened; there = refl; declares = its_label_declares; within = omega arith }
+
+no_instruction_there : IsPlaced joins known_there (label 4 3) → ⊥
+no_instruction_there h = let e : None ≡ Some h.known = h.there in absurd cc
+
+past_the_budget : IsPlaced joins known_there (label 0 21) → ⊥
+past_the_budget h = let e : 21 ≤ 20 = h.within in omega (arith, e)
+
+reaches_its_label : Reaches joins 0 opened
+reaches_its_label = record { label = label 0 3; there = refl; comes = comes_to_its_label }
+
+no_label_at_the_target : Reaches joins 1 edited → ⊥
+no_label_at_the_target h = let e : None ≡ Some h.label = h.there in absurd cc
+
+after_the_edit : IsAfter joins 1
+after_the_edit = record { before = 0; instr = Edits (AddSub sub); next = refl; there = refl; onward = refl }
+
+abbrev ends_twice : Program
+ends_twice = code (label 0 1 ∷ []) (line End ∷ line End ∷ [])
+
+nothing_goes_on_to_it : IsAfter ends_twice 1 → ⊥
+nothing_goes_on_to_it h =
+    let first : h.before ≡ 0 = (let e : 1 ≡ h.before + 1 = h.next in omega (arith, e)) in
+    let there : Some End ≡ Some h.instr = subst (λ (pc : ℕ). instr_at ends_twice pc ≡ Some h.instr) first h.there in
+    let same : End ≡ h.instr = cc in
+    let onward : false ≡ true = ap continues same ∙ h.onward in
+    false≢true onward
+
+-- ---- codes
+
+pub edit_is_safe : IsSafe joins known_there 0 (Edits (AddSub sub)) opened
+edit_is_safe = record {
+  allowance = omega arith;
+  fine = a_first_sub_channel;
+  inside = λ on. omega arith;
+  onward = λ on. refl;
+  targets = λ target e. absurd cc;
+}
+
+commit_is_safe : IsSafe joins known_there 1 (CommitIn 24) edited
+commit_is_safe = record {
+  allowance = omega arith;
+  fine = a_delay_of_the_notice;
+  inside = λ on. omega arith;
+  onward = λ on. refl;
+  targets = λ target e. absurd cc;
+}
+
+pub join_is_safe : IsSafe joins known_there 2 Join committed
+join_is_safe = record {
+  allowance = omega arith;
+  fine = a_join_of_the_swap;
+  inside = λ on. omega arith;
+  onward = λ on. refl;
+  targets = λ target e. absurd cc;
+}
+
+end_is_safe : IsSafe joins known_there 3 End joined
+end_is_safe = record {
+  allowance = omega arith;
+  fine = tt;
+  inside = λ on. absurd (false≢true on);
+  onward = λ on. absurd (false≢true on);
+  targets = λ target e. absurd cc;
+}
+
+nothing_left_to_spend : IsSafe joins known_there 2 Join (record committed { allowance = 0 }) → ⊥
+nothing_left_to_spend h = let e : 1 ≤ 0 = h.allowance in omega (arith, e)
+
+no_wait_at_the_end : IsSafe joins known_there 3 (Wait 1) joined → ⊥
+no_wait_at_the_end h = let e : 4 < 4 = h.inside refl in omega (arith, e)
+
+safe_for : (pc : ℕ) (i : Instr) (t : Known) → IsSafe joins known_there pc i t
+    → (j : Instr) (u : Known) → Some i ≡ Some j → Some t ≡ Some u → IsSafe joins known_there pc j u
+safe_for pc i t h j u e f =
+    let same : i ≡ j = cc in
+    let known : t ≡ u = cc in
+    subst (λ (v : Known). IsSafe joins known_there pc j v) known (subst (λ (k : Instr). IsSafe joins known_there pc k t) same h)
+
+safe_everywhere : (pc : ℕ) (i : Instr) (t : Known) → instr_at joins pc ≡ Some i → slice_get known_there pc ≡ Some t → IsSafe joins known_there pc i t
+safe_everywhere zero i t e f = safe_for 0 (Edits (AddSub sub)) opened edit_is_safe i t e f
+safe_everywhere (suc zero) i t e f = safe_for 1 (CommitIn 24) edited commit_is_safe i t e f
+safe_everywhere (suc (suc zero)) i t e f = safe_for 2 Join committed join_is_safe i t e f
+safe_everywhere (suc (suc (suc zero))) i t e f = safe_for 3 End joined end_is_safe i t e f
+safe_everywhere (suc (suc (suc (suc pc)))) i t e f = absurd cc
+
+placed_everywhere : (l : Label) → Contains joins.labels l → IsPlaced joins known_there l
+placed_everywhere l (zero, lt, same) = subst (λ (x : Label). IsPlaced joins known_there x) same its_label_is_placed
+placed_everywhere l (suc n, lt, same) = absurd (omega (arith, lt))
+
+after_another : (pc : ℕ) → pc < 4 → label_at joins pc ≡ None → IsAfter joins pc
+after_another zero lt e = absurd cc
+after_another (suc zero) lt e = record { before = 0; instr = Edits (AddSub sub); next = refl; there = refl; onward = refl }
+after_another (suc (suc zero)) lt e = record { before = 1; instr = CommitIn 24; next = refl; there = refl; onward = refl }
+after_another (suc (suc (suc zero))) lt e = record { before = 2; instr = Join; next = refl; there = refl; onward = refl }
+after_another (suc (suc (suc (suc pc)))) lt e = absurd (omega (arith, lt))
+
+its_typing : IsTyping joins known_there
+its_typing = record { each = refl; opening = its_opening; labels = placed_everywhere; safe = safe_everywhere; reached = after_another }
+
+-- a typing says something of every instruction
+ends_too_early : IsTyping joins (opened ∷ edited ∷ committed ∷ []) → ⊥
+ends_too_early h = let e : 3 ≡ 4 = h.each in omega (arith, e)
+
+-- after the join the swap has been made
+forgets_the_swap : IsTyping joins (opened ∷ edited ∷ committed ∷ committed ∷ []) → ⊥
+forgets_the_swap h =
+    let arrived : Some committed ≡ Some joined = (h.safe 2 Join committed refl refl).onward refl in
+    let pending : Within 24 27 ≡ Idle = ap (λ (o : Option Known). pending_of o) arrived in
+    absurd cc
