@@ -1,0 +1,3 @@
+mod Trees
+mod Weight
+mod Arms

@@ -1,0 +1,137 @@
+//! From scripts to codes.
+
+ghost use Rattle.std.specs.Prelude.{◌≡◌, ◌≤◌, length, IfOk};
+ghost use Rattle.plan_verifier.specs.Typing.{IsTyped};
+
+use crate::accepted::test_typed;
+use crate::cost::first_round;
+use crate::falls::{all_fall, all_silent};
+use crate::fault::CompileFault;
+use crate::needs::{first_over, needs, with_needs};
+use crate::opening::{built, test};
+use crate::work::{Work, refused};
+use mux_config::Config;
+use plan_code::{Code, Line, Plan};
+use plan_verifier::Cause;
+use script_front::{Script, Statement};
+use script_scheme::{Flow, Spot};
+use std::alloc::{AllocError, Global};
+
+/// Whether what follows each of these blocks can be reached.
+fn known_of(alloc: Global, blocks: &[Vec<Statement>]) -> Result<Vec<bool>, AllocError>
+    ensures { IfOk result (λ v. length v.items ≡ length blocks.now) }
+{
+    let mut known = Vec::new(alloc);
+    for block in blocks {
+        let falls = all_fall(&known, block);
+        known.push(falls)?;
+    }
+    Ok(known)
+}
+
+/// Whether each of these blocks has no instruction.
+fn silent_of(alloc: Global, blocks: &[Vec<Statement>]) -> Result<Vec<bool>, AllocError>
+    ensures { IfOk result (λ v. length v.items ≡ length blocks.now) }
+{
+    let mut known = Vec::new(alloc);
+    for block in blocks {
+        let silent = all_silent(&known, block);
+        known.push(silent)?;
+    }
+    Ok(known)
+}
+
+/// What a script declares.
+fn plan_of(script: &Script) -> Plan {
+    let header = script.header();
+    Plan {
+        eid: header.eid,
+        mode: header.mode,
+        period: header.period,
+        notice: header.notice,
+        budget: header.budget,
+    }
+}
+
+/// All that is laid down of a script that begins with this configuration.
+fn lay(alloc: Global, plan: &Plan, script: &Script, config: &Config) -> Result<Work, CompileFault> {
+    let known = known_of(alloc, script.blocks())?;
+    let silent = silent_of(alloc, script.blocks())?;
+    let mut work = Work {
+        lines: Vec::new(alloc),
+        labels: Vec::new(alloc),
+        configs: Vec::new(alloc),
+        now: Spot {
+            flow: Flow::opening(config),
+            labelled: true,
+        },
+        saved: Vec::new(alloc),
+    };
+    let falls = match work.block(
+        plan,
+        &known,
+        &silent,
+        script.blocks(),
+        0,
+        script.statements(),
+    ) {
+        Ok(falls) => falls,
+        Err(fault) => return Err(fault),
+    };
+    match work.close(falls, script.last_line()) {
+        Ok(()) => Ok(work),
+        Err(fault) => Err(fault),
+    }
+}
+
+/// The number of the line that an instruction comes from.
+fn line_at(lines: &[Line], pc: usize) -> u16 {
+    match lines.get(pc) {
+        Some(line) => line.number,
+        None => 0,
+    }
+}
+
+/// Whether every need is within the budget: refused is `Cost`, at the first instruction that goes back on a round
+/// without a suspension, and where there is none at the first whose need is over the budget.
+fn test_costs(
+    alloc: Global,
+    lines: &[Line],
+    needs: &[u16],
+    budget: u8,
+) -> Result<(), CompileFault> {
+    let Some(over) = first_over(needs, budget) else {
+        return Ok(());
+    };
+    let pc = match first_round(alloc, lines)? {
+        Some(round) => round,
+        None => over,
+    };
+    Err(refused(line_at(lines, pc), Cause::Cost))
+}
+
+/// The code of a script: what its statements lay down, one after another, after the opening that its items make.
+///
+/// # Errors
+///
+/// `Refused` with the first fault that is found as the code is laid down, in text order: of an item, of the opening
+/// at the line of `begin`, and of a statement, where `Table` says that it cannot be reached. `Limit` where a limit of
+/// codes would be passed, `Memory` where memory was refused. Costs come last: `Cost` is at the line of the first loop
+/// that can be gone round without a suspension, or else of the first instruction from which more instructions than the
+/// budget can run in one frame.
+pub fn compile(alloc: Global, script: &Script) -> Result<Code, CompileFault>
+    ensures typed { IfOk result (λ c. IsTyped c) }
+{
+    let plan = plan_of(script);
+    let config = built(script.items())?;
+    test(&plan, &config, script.begin_line())?;
+    let work = lay(alloc, &plan, script, &config)?;
+    let costs = needs(alloc, &work.lines, plan.budget)?;
+    test_costs(alloc, &work.lines, &costs, plan.budget)?;
+    let labels = with_needs(alloc, &work.labels, &costs)?;
+    test_typed(alloc, plan, &work.configs, &labels, &work.lines)?;
+    match Code::new(plan, work.configs, labels, work.lines) {
+        Some(code) => Ok(code),
+        None => Err(CompileFault::Limit),
+    }
+}

@@ -1,0 +1,52 @@
+//! Which statements can be followed by others, and which have no instruction.
+
+use script_front::Statement;
+
+/// Whether what follows these statements can be reached, where it is known of the blocks that they apply.
+#[cycle(falls)]
+pub(crate) fn all_fall(known: &[bool], statements: &[Statement]) -> bool {
+    for statement in statements {
+        if !falls(known, statement) {
+            return false;
+        }
+    }
+    true
+}
+
+/// Whether what follows this statement can be reached.
+#[cycle(falls)]
+fn falls(known: &[bool], statement: &Statement) -> bool {
+    match statement {
+        Statement::End { .. } => false,
+        Statement::Forever { .. } => false,
+        Statement::IfElse { first, second, .. } => all_fall(known, first)
+            || all_fall(known, second),
+        Statement::Repeat { body, .. } => all_fall(known, body),
+        Statement::Apply { block, .. } => {
+            let number = usize::from(block.get());
+            number >= known.len() || known[number]
+        }
+        _ => true,
+    }
+}
+
+/// Whether these statements have no instruction, where it is known of the blocks that they apply.
+pub(crate) fn all_silent(known: &[bool], statements: &[Statement]) -> bool {
+    for statement in statements {
+        if !is_silent(known, statement) {
+            return false;
+        }
+    }
+    true
+}
+
+/// Whether this statement has no instruction.
+fn is_silent(known: &[bool], statement: &Statement) -> bool {
+    match statement {
+        Statement::Apply { block, .. } => {
+            let number = usize::from(block.get());
+            number >= known.len() || known[number]
+        }
+        _ => false,
+    }
+}

@@ -1,0 +1,34 @@
+//! Why a script is not compiled.
+
+use plan_verifier::Cause;
+use std::alloc::AllocError;
+use thiserror::Error;
+
+/// Why a script is not compiled. Printed it is the line that `dabplan compile` prints: `refused line L: CAUSE`,
+/// `refused: Limit` or `no memory`.
+#[derive(Clone, Copy, Debug, PartialEq, Eq, Error)]
+pub enum CompileFault {
+    /// A statement, an item or the opening is refused. The line is that of the item's or the statement's first
+    /// token, also inside a defined block, or that of `begin` for the opening as a whole.
+    #[error("refused line {line}: {cause}")]
+    Refused { line: u16, cause: Cause },
+    /// The code would have more instructions, labels or configurations than a code can have, or repeats would
+    /// stand nine deep.
+    #[error("refused: Limit")]
+    Limit,
+    /// Memory was refused.
+    #[error("no memory")]
+    Memory,
+}
+
+impl From<AllocError> for CompileFault {
+    ghost use Rattle.std.specs.Prelude.{◌≡◌};
+    ghost use Rattle.script_compiler.specs.declared.fault.CompileFault.TheVariants.{Memory};
+
+    ghost from_gives = { λ _ e. e ≡ Memory };
+
+    /// Want of memory.
+    fn from(_error: AllocError) -> Self {
+        CompileFault::Memory
+    }
+}

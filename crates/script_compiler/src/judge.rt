@@ -1,0 +1,199 @@
+//! What is known after a statement that is one instruction, or why it is refused.
+
+use crate::fault::CompileFault;
+use fib_carousel::pages;
+use mux_config::{Config, Edit, Store, soundness};
+use plan_code::limits::COUNTS;
+use plan_code::{Delay, Instr, Plan, Swap};
+use plan_verifier::Cause;
+use script_front::Act;
+use script_scheme::Flow;
+
+/// The instruction of a statement that is one.
+pub(crate) fn instr_of(act: Act) -> Instr {
+    match act {
+        Act::Edit(edit) => Instr::Edit(edit),
+        Act::Wait(frames) => Instr::Wait(frames),
+        Act::WaitContact { contact, closed } => Instr::WaitContact { contact, closed },
+        Act::Until(time) => Instr::Until(time.frame()),
+        Act::CommitIn(delay) => Instr::CommitIn(delay),
+        Act::CommitAt(count) => Instr::CommitAt(count),
+        Act::Join => Instr::Join,
+        Act::Settle => Instr::Settle,
+    }
+}
+
+/// Whether no swap is pending.
+pub(crate) fn is_idle(pending: Swap) -> bool {
+    match pending {
+        Swap::Idle => true,
+        Swap::Within(_, _) => false,
+        Swap::Perhaps(_) => false,
+    }
+}
+
+/// Edits the next configuration: refused are `Pending` and `Edit`.
+fn change(edit: Edit, flow: &mut Flow) -> Result<(), Cause> {
+    if !is_idle(flow.pending) {
+        return Err(Cause::Pending);
+    }
+    match edit.apply(&mut flow.next) {
+        Ok(()) => Ok(()),
+        Err(fault) => Err(Cause::Edit(fault)),
+    }
+}
+
+/// How many pages a configuration takes by itself.
+pub(crate) fn pages_alone(plan: &Plan, config: &Config) -> usize {
+    let alone: Option<&Config> = None;
+    pages(plan.mode, config, alone)
+}
+
+/// Whether a notice has room for the pages of both configurations, and the period for those of each.
+fn has_room(plan: &Plan, flow: &Flow) -> bool {
+    let both = pages(plan.mode, &flow.current, Some(&flow.next));
+    both <= usize::from(plan.period)
+        && both <= usize::from(plan.notice) / 3
+        && pages_alone(plan, &flow.next) <= usize::from(plan.period)
+}
+
+/// Whether the next configuration can be committed, where no swap is pending: refused are `Config`, where it
+/// is not sound, `NoChange` and `Round`.
+fn test_change(plan: &Plan, flow: &Flow) -> Result<(), Cause> {
+    if let Err(fault) = soundness(&flow.next) {
+        return Err(Cause::Config(fault));
+    }
+    if flow.next.same(&flow.current) {
+        return Err(Cause::NoChange);
+    }
+    if !has_room(plan, flow) {
+        return Err(Cause::Round);
+    }
+    Ok(())
+}
+
+/// Commits the next configuration, for a swap after this delay.
+fn commit_in(plan: &Plan, delay: Delay, flow: &mut Flow) -> Result<(), Cause> {
+    let least = delay.get();
+    if !is_idle(flow.pending) {
+        return Err(Cause::Pending);
+    }
+    if least < u16::from(plan.notice) {
+        return Err(Cause::Notice);
+    }
+    test_change(plan, flow)?;
+    flow.pending = Swap::Within(least, least + (plan.mode.step() - 1));
+    Ok(())
+}
+
+/// Commits the next configuration, for a swap at this CIF count.
+fn commit_at(plan: &Plan, count: u16, flow: &mut Flow) -> Result<(), Cause> {
+    let notice = u16::from(plan.notice);
+    if !is_idle(flow.pending) {
+        return Err(Cause::Pending);
+    }
+    if !(count % plan.mode.step() == 0 && count < COUNTS) {
+        return Err(Cause::Count);
+    }
+    test_change(plan, flow)?;
+    flow.pending = Swap::Within(notice, notice + (COUNTS - 1));
+    Ok(())
+}
+
+/// The swap has been made.
+fn swap(flow: &mut Flow) {
+    flow.current.copy_from(&flow.next);
+    flow.pending = Swap::Idle;
+}
+
+/// This many frames have passed: refused is `SwapUncertain`, where the wait may end before the swap or after it.
+fn wait(frames: u16, flow: &mut Flow) -> Result<(), Cause> {
+    match flow.pending {
+        Swap::Idle => {}
+        Swap::Within(low, high) => {
+            if frames < low {
+                flow.pending = Swap::Within(low - frames, high.saturating_sub(frames));
+                return Ok(());
+            }
+            if frames < high {
+                return Err(Cause::SwapUncertain);
+            }
+            swap(flow);
+        }
+        Swap::Perhaps(high) => {
+            if frames < high {
+                flow.pending = Swap::Perhaps(high - frames);
+            } else {
+                swap(flow);
+            }
+        }
+    }
+    Ok(())
+}
+
+/// One frame or more has passed, where the swap comes after this many at most.
+fn perhaps_swap(high: u16, flow: &mut Flow) {
+    if 1 < high {
+        flow.pending = Swap::Perhaps(high - 1);
+    } else {
+        swap(flow);
+    }
+}
+
+/// One frame or more has passed.
+fn pause(flow: &mut Flow) {
+    match flow.pending {
+        Swap::Idle => {}
+        Swap::Within(_, high) => perhaps_swap(high, flow),
+        Swap::Perhaps(high) => perhaps_swap(high, flow),
+    }
+}
+
+/// Waits for the swap: refused is `JoinIdle`, where it may be that none is pending.
+fn join(flow: &mut Flow) -> Result<(), Cause> {
+    match flow.pending {
+        Swap::Idle => return Err(Cause::JoinIdle),
+        Swap::Perhaps(_) => return Err(Cause::JoinIdle),
+        Swap::Within(_, _) => {}
+    }
+    swap(flow);
+    Ok(())
+}
+
+/// The swap has been made, where one was pending.
+fn settle(flow: &mut Flow) {
+    match flow.pending {
+        Swap::Idle => {}
+        Swap::Within(_, _) => swap(flow),
+        Swap::Perhaps(_) => swap(flow),
+    }
+}
+
+/// What is known after an instruction that is a statement, or why it is refused.
+fn step(plan: &Plan, instr: Instr, flow: &mut Flow) -> Result<(), Cause> {
+    match instr {
+        Instr::Edit(edit) => return change(edit, flow),
+        Instr::CommitIn(delay) => return commit_in(plan, delay, flow),
+        Instr::CommitAt(count) => return commit_at(plan, count, flow),
+        Instr::Wait(frames) => return wait(frames.get(), flow),
+        Instr::Join => return join(flow),
+        Instr::Until(_) => pause(flow),
+        Instr::WaitContact { .. } => pause(flow),
+        Instr::Settle => settle(flow),
+        _ => {}
+    }
+    Ok(())
+}
+
+/// The same, where the instruction is that of a statement in this line.
+pub(crate) fn judge(
+    plan: &Plan,
+    line: u16,
+    instr: Instr,
+    flow: &mut Flow,
+) -> Result<(), CompileFault> {
+    match step(plan, instr, flow) {
+        Ok(()) => Ok(()),
+        Err(cause) => Err(CompileFault::Refused { line, cause }),
+    }
+}

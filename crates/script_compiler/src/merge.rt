@@ -1,0 +1,81 @@
+//! Where two ways through a script meet.
+
+use crate::judge::is_idle;
+use mux_config::Store;
+use plan_code::Swap;
+use script_scheme::Flow;
+
+/// Whether both flows have the same configurations.
+fn has_same_configurations(flow: &Flow, other: &Flow) -> bool {
+    flow.current.same(&other.current) && flow.next.same(&other.next)
+}
+
+/// Whether what is known fits what a label declares: it says as much or more.
+pub(crate) fn fits(flow: &Flow, label: &Flow) -> bool {
+    match (flow.pending, label.pending) {
+        (Swap::Idle, Swap::Idle) => has_same_configurations(flow, label),
+        (Swap::Idle, Swap::Within(_, _)) => false,
+        (Swap::Idle, Swap::Perhaps(_)) => {
+            flow.current.same(&label.next) && flow.next.same(&label.next)
+        }
+        (Swap::Within(low, high), Swap::Within(least, most)) => {
+            least <= low && high <= most && has_same_configurations(flow, label)
+        }
+        (Swap::Within(_, high), Swap::Perhaps(most)) => {
+            high <= most && has_same_configurations(flow, label)
+        }
+        (Swap::Within(_, _), Swap::Idle) => false,
+        (Swap::Perhaps(high), Swap::Perhaps(most)) => {
+            high <= most && has_same_configurations(flow, label)
+        }
+        (Swap::Perhaps(_), Swap::Idle) => false,
+        (Swap::Perhaps(_), Swap::Within(_, _)) => false,
+    }
+}
+
+/// The most frames until a swap that is pending or may be; 0 where none is.
+fn latest(pending: Swap) -> u16 {
+    match pending {
+        Swap::Idle => 0,
+        Swap::Within(_, high) => high,
+        Swap::Perhaps(high) => high,
+    }
+}
+
+/// The greater of two.
+fn greater(a: u16, b: u16) -> u16 {
+    if a < b { b } else { a }
+}
+
+/// The lesser of two.
+fn lesser(a: u16, b: u16) -> u16 {
+    if a < b { a } else { b }
+}
+
+/// What a label says of the swap where two ways meet.
+fn widest(first: Swap, second: Swap) -> Swap {
+    match (first, second) {
+        (Swap::Idle, Swap::Idle) => Swap::Idle,
+        (Swap::Within(low, high), Swap::Within(least, most)) => {
+            Swap::Within(lesser(low, least), greater(high, most))
+        }
+        (_, _) => Swap::Perhaps(greater(latest(first), latest(second))),
+    }
+}
+
+/// What is known where two ways meet; None where one of them does not fit it.
+pub(crate) fn meeting(first: &Flow, second: &Flow) -> Option<Flow> {
+    let mut met = if is_idle(first.pending) {
+        second.copied()
+    } else {
+        first.copied()
+    };
+    met.pending = widest(first.pending, second.pending);
+    if !fits(first, &met) {
+        return None;
+    }
+    if !fits(second, &met) {
+        return None;
+    }
+    Some(met)
+}

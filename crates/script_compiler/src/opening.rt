@@ -1,0 +1,31 @@
+//! The configuration that a script begins with.
+
+use crate::fault::CompileFault;
+use crate::judge::pages_alone;
+use crate::work::refused;
+use mux_config::{Config, Store, soundness};
+use plan_code::Plan;
+use plan_verifier::Cause;
+use script_front::Item;
+
+/// The items, one after another, on the empty configuration: refused is `Edit` at the item's line.
+pub(crate) fn built(items: &[Item]) -> Result<Config, CompileFault> {
+    let mut config = Config::empty();
+    for item in items {
+        if let Err(fault) = item.edit.apply(&mut config) {
+            return Err(refused(item.line, Cause::Edit(fault)));
+        }
+    }
+    Ok(config)
+}
+
+/// Whether a script can begin so: refused are `Config` and `Round`.
+pub(crate) fn test(plan: &Plan, config: &Config, line: u16) -> Result<(), CompileFault> {
+    if let Err(fault) = soundness(config) {
+        return Err(refused(line, Cause::Config(fault)));
+    }
+    if usize::from(plan.period) < pages_alone(plan, config) {
+        return Err(refused(line, Cause::Round));
+    }
+    Ok(())
+}

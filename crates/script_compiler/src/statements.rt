@@ -1,0 +1,279 @@
+//! The statements of a script, laid down one after another.
+
+ghost use Rattle.std.specs.Prelude.{◌≡◌, ◌≤◌, ◌<◌, length, OnOk};
+
+use crate::falls::all_fall;
+use crate::fault::CompileFault;
+use crate::judge::instr_of;
+use crate::work::{Work, refused};
+use plan_code::{ContactId, CounterId, Instr, Plan, Times};
+use plan_verifier::Cause;
+use script_front::Statement;
+
+/// The line of a statement's first token.
+fn line_of(statement: &Statement) -> u16 {
+    match statement {
+        Statement::Act { line, .. } => *line,
+        Statement::End { line } => *line,
+        Statement::If { line, .. } => *line,
+        Statement::IfElse { line, .. } => *line,
+        Statement::Repeat { line, .. } => *line,
+        Statement::Forever { line, .. } => *line,
+        Statement::Apply { line, .. } => *line,
+    }
+}
+
+impl Work {
+    /// The statements of a block, of which it answers whether what follows can be reached.
+    #[cycle(work)]
+    pub(crate) fn block(
+        &mut self,
+        plan: &Plan,
+        known: &[bool],
+        silent: &[bool],
+        blocks: &[Vec<Statement>],
+        counters: u8,
+        statements: &[Statement],
+    ) -> Result<bool, CompileFault>
+        requires room { length self.old.lines.items ≤ 4096 }
+        requires counters { counters ≤ 8 }
+        requires known { length known.now ≡ length blocks.now }
+        requires silent { length silent.now ≡ length blocks.now }
+        ensures saved { OnOk result (length self.new.saved.items ≡ length self.old.saved.items) }
+        ensures longer { OnOk result (length self.old.lines.items ≤ length self.new.lines.items) }
+        ensures room { OnOk result (length self.new.lines.items ≤ 4096) }
+    {
+        let mut goes_on = true;
+        for statement in statements {
+            if !goes_on {
+                return Err(refused(line_of(statement), Cause::Table));
+            }
+            goes_on = match self.statement(plan, known, silent, blocks, counters, statement) {
+                Ok(falls) => falls,
+                Err(fault) => return Err(fault),
+            };
+        }
+        Ok(goes_on)
+    }
+
+    /// One statement, of which it answers whether what follows can be reached.
+    #[cycle(work)]
+    fn statement(
+        &mut self,
+        plan: &Plan,
+        known: &[bool],
+        silent: &[bool],
+        blocks: &[Vec<Statement>],
+        counters: u8,
+        statement: &Statement,
+    ) -> Result<bool, CompileFault>
+        requires room { length self.old.lines.items ≤ 4096 }
+        requires counters { counters ≤ 8 }
+        requires known { length known.now ≡ length blocks.now }
+        requires silent { length silent.now ≡ length blocks.now }
+        ensures saved { OnOk result (length self.new.saved.items ≡ length self.old.saved.items) }
+        ensures longer { OnOk result (length self.old.lines.items ≤ length self.new.lines.items) }
+        ensures room { OnOk result (length self.new.lines.items ≤ 4096) }
+    {
+        match statement {
+            Statement::Act { line, act } => self.act(plan, *line, counters, &instr_of(*act)),
+            Statement::End { line } => {
+                if let Err(fault) = self.put(*line, counters, Instr::End) {
+                    return Err(fault);
+                }
+                Ok(false)
+            }
+            Statement::If {
+                line,
+                contact,
+                first,
+            } => self.when(
+                plan, known, silent, blocks, counters, *line, *contact, first,
+            ),
+            Statement::IfElse {
+                line,
+                contact,
+                first,
+                second,
+            } => self.either(
+                plan, known, silent, blocks, counters, *line, *contact, first, second,
+            ),
+            Statement::Repeat { line, times, body } => {
+                self.repeat(plan, known, silent, blocks, counters, *line, *times, body)
+            }
+            Statement::Forever { line, body } => {
+                self.forever(plan, known, silent, blocks, counters, *line, body)
+            }
+            Statement::Apply { block, .. } => {
+                let number = usize::from(block.get());
+                if number >= blocks.len() {
+                    return Ok(true);
+                }
+                if silent[number] {
+                    return Ok(true);
+                }
+                self.block(
+                    plan,
+                    &known[..number],
+                    &silent[..number],
+                    &blocks[..number],
+                    counters,
+                    &blocks[number],
+                )
+            }
+        }
+    }
+
+    /// An `if` without `else`.
+    #[cycle(work)]
+    fn when(
+        &mut self,
+        plan: &Plan,
+        known: &[bool],
+        silent: &[bool],
+        blocks: &[Vec<Statement>],
+        counters: u8,
+        line: u16,
+        contact: ContactId,
+        first: &[Statement],
+    ) -> Result<bool, CompileFault>
+        requires room { length self.old.lines.items ≤ 4096 }
+        requires counters { counters ≤ 8 }
+        requires known { length known.now ≡ length blocks.now }
+        requires silent { length silent.now ≡ length blocks.now }
+        ensures saved { OnOk result (length self.new.saved.items ≡ length self.old.saved.items) }
+        ensures longer { OnOk result (length self.old.lines.items ≤ length self.new.lines.items) }
+        ensures room { OnOk result (length self.new.lines.items ≤ 4096) }
+    {
+        let at = self.lines.len();
+        if let Err(fault) = self.fork(line, counters, Instr::Test { contact, target: 0 }) {
+            return Err(fault);
+        }
+        let falls = match self.block(plan, known, silent, blocks, counters, first) {
+            Ok(falls) => falls,
+            Err(fault) => return Err(fault),
+        };
+        self.close_if(falls, line, contact, at)
+    }
+
+    /// An `if` with `else`.
+    #[cycle(work)]
+    fn either(
+        &mut self,
+        plan: &Plan,
+        known: &[bool],
+        silent: &[bool],
+        blocks: &[Vec<Statement>],
+        counters: u8,
+        line: u16,
+        contact: ContactId,
+        first: &[Statement],
+        second: &[Statement],
+    ) -> Result<bool, CompileFault>
+        requires room { length self.old.lines.items ≤ 4096 }
+        requires counters { counters ≤ 8 }
+        requires known { length known.now ≡ length blocks.now }
+        requires silent { length silent.now ≡ length blocks.now }
+        ensures saved { OnOk result (length self.new.saved.items ≡ length self.old.saved.items) }
+        ensures longer { OnOk result (length self.old.lines.items ≤ length self.new.lines.items) }
+        ensures room { OnOk result (length self.new.lines.items ≤ 4096) }
+    {
+        let at = self.lines.len();
+        if let Err(fault) = self.fork(line, counters, Instr::Test { contact, target: 0 }) {
+            return Err(fault);
+        }
+        let first_falls = match self.block(plan, known, silent, blocks, counters, first) {
+            Ok(falls) => falls,
+            Err(fault) => return Err(fault),
+        };
+        let jump = self.lines.len();
+        if let Err(fault) = self.turn(first_falls, line, counters, contact, at) {
+            return Err(fault);
+        }
+        let second_falls = match self.block(plan, known, silent, blocks, counters, second) {
+            Ok(falls) => falls,
+            Err(fault) => return Err(fault),
+        };
+        self.close_else(first_falls, second_falls, line, jump)
+    }
+
+    /// A loop that is gone round so many times.
+    #[cycle(work)]
+    fn repeat(
+        &mut self,
+        plan: &Plan,
+        known: &[bool],
+        silent: &[bool],
+        blocks: &[Vec<Statement>],
+        counters: u8,
+        line: u16,
+        times: Times,
+        body: &[Statement],
+    ) -> Result<bool, CompileFault>
+        requires room { length self.old.lines.items ≤ 4096 }
+        requires counters { counters ≤ 8 }
+        requires known { length known.now ≡ length blocks.now }
+        requires silent { length silent.now ≡ length blocks.now }
+        ensures saved { OnOk result (length self.new.saved.items ≡ length self.old.saved.items) }
+        ensures longer { OnOk result (length self.old.lines.items ≤ length self.new.lines.items) }
+        ensures room { OnOk result (length self.new.lines.items ≤ 4096) }
+    {
+        let Some(counter) = CounterId::new(counters) else {
+            return Err(CompileFault::Limit);
+        };
+        if let Err(fault) = self.put(line, counters, Instr::Set { counter, times }) {
+            return Err(fault);
+        }
+        let target = self.lines.len() as u16;
+        if let Err(fault) = self.enter(all_fall(known, body)) {
+            return Err(fault);
+        }
+        let falls = match self.block(plan, known, silent, blocks, counters + 1, body) {
+            Ok(falls) => falls,
+            Err(fault) => return Err(fault),
+        };
+        if let Err(fault) = self.go_round(
+            falls,
+            line,
+            counters + 1,
+            Instr::Loop { counter, target },
+        ) {
+            return Err(fault);
+        }
+        Ok(falls)
+    }
+
+    /// A loop that is gone round for good.
+    #[cycle(work)]
+    fn forever(
+        &mut self,
+        plan: &Plan,
+        known: &[bool],
+        silent: &[bool],
+        blocks: &[Vec<Statement>],
+        counters: u8,
+        line: u16,
+        body: &[Statement],
+    ) -> Result<bool, CompileFault>
+        requires room { length self.old.lines.items ≤ 4096 }
+        requires counters { counters ≤ 8 }
+        requires known { length known.now ≡ length blocks.now }
+        requires silent { length silent.now ≡ length blocks.now }
+        ensures saved { OnOk result (length self.new.saved.items ≡ length self.old.saved.items) }
+        ensures longer { OnOk result (length self.old.lines.items ≤ length self.new.lines.items) }
+        ensures room { OnOk result (length self.new.lines.items ≤ 4096) }
+    {
+        let target = self.lines.len() as u16;
+        if let Err(fault) = self.enter(all_fall(known, body)) {
+            return Err(fault);
+        }
+        let falls = match self.block(plan, known, silent, blocks, counters, body) {
+            Ok(falls) => falls,
+            Err(fault) => return Err(fault),
+        };
+        if let Err(fault) = self.go_round(falls, line, counters, Instr::Jump(target)) {
+            return Err(fault);
+        }
+        Ok(false)
+    }
+}

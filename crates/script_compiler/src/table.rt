@@ -1,0 +1,53 @@
+//! The table of configurations that labels name, each content once.
+
+ghost use Rattle.std.specs.Prelude.{◌≤◌, ◌<◌, length, OnOk, IfSome};
+
+use crate::fault::CompileFault;
+use mux_config::{Config, Store};
+use plan_code::limits::MOST_CONFIGURATIONS;
+
+/// Where a configuration stands in the table; None where it does not.
+fn find(table: &[Config], config: &Config) -> Option<usize>
+    ensures { IfSome result (λ i. i < length table.now) }
+{
+    for (index, other) in table.iter().enumerate() {
+        if other.same(config) {
+            return Some(index);
+        }
+    }
+    None
+}
+
+/// The index of a configuration in the table, to which it is added where it does not stand there yet.
+///
+/// # Errors
+///
+/// `Limit` where the table is full, `Memory`.
+pub(crate) fn index_of(table: &mut Vec<Config>, config: &Config) -> Result<u16, CompileFault>
+    requires { length table.old.items ≤ 256 }
+    ensures { OnOk result (length table.new.items ≤ 256) }
+{
+    if let Some(index) = find(table, config) {
+        return Ok(index as u16);
+    }
+    let index = table.len();
+    if index >= usize::from(MOST_CONFIGURATIONS) {
+        return Err(CompileFault::Limit);
+    }
+    if table.push(Config::from_config(config)).is_err() {
+        return Err(CompileFault::Memory);
+    }
+    Ok(index as u16)
+}
+
+/// How many configurations the table would have with these two.
+pub(crate) fn size_with(table: &[Config], first: &Config, second: &Config) -> usize {
+    let mut size = table.len();
+    if find(table, first).is_none() {
+        size = size.saturating_add(1);
+    }
+    if !second.same(first) && find(table, second).is_none() {
+        size = size.saturating_add(1);
+    }
+    size
+}
