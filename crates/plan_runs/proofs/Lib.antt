@@ -21,3 +21,5 @@ pub mod Announcing
 pub mod Counted
 pub mod Periods
 pub mod Headline
+mod VectorsOfRuns
+mod VectorsOfBytes

@@ -1,0 +1,481 @@
+-- Frames of one sub-channel and of a notice that lowers its rate: what has to be heard in them, where it is and where not.
+use Rattle.std.proofs.Common.{◌≡◌, ℕ, zero, suc, ◌<◌, Bool, true, false, List, [], ◌∷◌, Contains, Option, Some, None, replicate, refl, sym, ap, subst, ◌∙◌, arith}
+use Rattle.std.proofs.lemmas.Option.{slice_get_within}
+use Rattle.mux_config.specs.Configuration.{Each}
+use Rattle.mux_config.specs.Entries.{EnsembleInformation}
+use Rattle.mux_config.specs.Facts.{Marked, marked, sub_entry}
+use Rattle.mux_config.specs.declared.entry.Entry.TheVariants.{Ensemble as EnsembleOf}
+use Rattle.mux_config.proofs.Sounding.{sound_told}
+use Rattle.fib_codec.specs.declared.modes.Mode.{Mode}
+use Rattle.fib_codec.specs.declared.modes.Mode.TheVariants.{I, II}
+use Rattle.fib_codec.specs.Ranges.{IsEnsembleInformation}
+use Rattle.fib_codec.specs.Grammar.{Fig, Open, Other}
+use Rattle.fib_codec.specs.Heard.{IsInFig, IsHeardInRow, IsEnsembleHeardInRow, fib_at}
+use Rattle.fib_codec.proofs.Uniqueness.{one_fib}
+use Rattle.fib_carousel.specs.Pages.{page_entries}
+use Rattle.fib_carousel.specs.Carried.{IsPageable}
+use Rattle.fib_carousel.proofs.Hearing.{pages_are_valid, pages_are_heard, ensemble_is_heard, page_sets_are_pageable}
+use Rattle.fib_carousel.proofs.Pieces.{each_in_a_page}
+use Rattle.plan_code.specs.declared.plan.Plan.{Plan}
+use Rattle.plan_code.specs.declared.hold.Hold.TheVariants.{Ended}
+use Rattle.plan_code.specs.Program.{Program}
+use Rattle.plan_code.specs.Machine.{State}
+use Rattle.plan_runs.specs.declared.event.Event.TheVariants.{Frame}
+use Rattle.plan_runs.specs.Frames.{FrameIsAllowed, sent_entries, ensemble_sent, shown_bytes, after_frame, frame_bytes}
+use Rattle.plan_runs.specs.Announced.{IsHeardInSome, IsHeardWhole, HasHeader, IsHeaded, HasThreeHeaders, IsFlagged, IsAnnounced, FrameRuns, Runs}
+use Rattle.plan_runs.specs.RightBytes.{IsHeader, IsNoHeader, IsFlaggedBy, IsEnsembleOf, IsHeadedBy, IsUnheaded, IsRight, BeginsNoPhase, IsOnePhase}
+use Rattle.plan_runs.specs.Headline.{IsAnnouncedIn, SwapsAt, KeepsCount}
+use Rattle.plan_runs.proofs.Tracked.{Airs}
+use Rattle.plan_runs.proofs.Right.{PageLaws, frame_right, ensemble_right, page_inside}
+use Rattle.plan_runs.proofs.VectorsOfRuns.{sub, with_sub, all_open, configuration_is, lower_configuration_is}
+
+-- FIG 0/0 is in every fourth frame of mode I, and in every frame of mode II
+abbrev plan : Mode → Plan
+plan mode = record { eid = 0xe1c5; mode = mode; period = 1; notice = 12; budget = 20 }
+
+-- a code that has ended, on the air with 128 kbit/s; 96 kbit/s come with the swap, where one is pending
+abbrev code : Mode → Program
+code mode = record { plan = plan mode; configurations = []; labels = []; lines = [] }
+
+abbrev on_air : Option ℕ → ℕ → State
+on_air left count =
+    record {
+      current = with_sub 128;
+      next = with_sub 96;
+      left = left;
+      pc = 0;
+      hold = Ended;
+      counters = replicate 8 0;
+      contacts = all_open;
+      count = count;
+      day = 0;
+      eid = 0xe1c5;
+      turn = 0;
+    }
+
+-- ---- FIGs
+
+a_header : IsHeader (Open 0 [])
+a_header = refl
+
+-- FIG 0/1
+no_header : IsHeader (Open 1 []) → ⊥
+no_header h = let e : 1 ≡ 0 = h in omega (arith, e)
+
+not_looked_into : IsHeader (Other []) → ⊥
+not_looked_into h = h
+
+other_extension : IsNoHeader (Open 1 [])
+other_extension = no_header
+
+is_one : IsNoHeader (Open 0 []) → ⊥
+is_one h = h a_header
+
+-- ---- the information of FIG 0/0, where a swap comes in 12 frames
+
+abbrev unflagged : ℕ → EnsembleInformation
+unflagged count = record { eid = 0xe1c5; change = 0; al = false; count = count; occurrence = None }
+
+-- the sub-channel organization changes
+abbrev flagged : ℕ → ℕ → EnsembleInformation
+flagged count low = record { eid = 0xe1c5; change = 1; al = false; count = count; occurrence = Some low }
+
+some_count : (a b : ℕ) → Some a ≡ Some b → a ≡ b
+some_count a b e = cc
+
+flagged_with_its_count : IsFlagged (with_sub 128) (with_sub 96) 1010 (flagged 998 10)
+flagged_with_its_count = (refl, refl)
+
+flagged_with_another : IsFlagged (with_sub 128) (with_sub 96) 1010 (flagged 998 11) → ⊥
+flagged_with_another h = let e : 11 ≡ 10 = some_count 11 10 h.1 in omega (arith, e)
+
+flagged_as_services : IsFlagged (with_sub 128) (with_sub 96) 1010 (record (flagged 998 10) { change = 2 }) → ⊥
+flagged_as_services h = let e : 2 ≡ 1 = h.0 in omega (arith, e)
+
+-- the count runs modulo 5000
+flagged_over_the_turn : IsFlaggedBy (on_air (Some 12) 4990) (Some 12) (flagged 4990 2)
+flagged_over_the_turn = (refl, refl)
+
+flagged_without_a_swap : IsFlaggedBy (on_air None 4990) None (flagged 4990 2) → ⊥
+flagged_without_a_swap h = h
+
+before_the_notice : IsEnsembleOf (plan I) (on_air (Some 13) 987) (unflagged 987)
+before_the_notice = ensemble_right (plan I) (on_air (Some 13) 987)
+
+in_the_notice : IsEnsembleOf (plan I) (on_air (Some 12) 988) (flagged 988 0)
+in_the_notice = ensemble_right (plan I) (on_air (Some 12) 988)
+
+unflagged_in_the_notice : IsEnsembleOf (plan I) (on_air (Some 12) 988) (unflagged 988) → ⊥
+unflagged_in_the_notice h = let e : 0 ≡ 1 = (h.flagged refl).0 in omega (arith, e)
+
+flagged_too_early : IsEnsembleOf (plan I) (on_air (Some 13) 987) (flagged 987 0) → ⊥
+flagged_too_early h = let e : 1 ≡ 0 = (h.unflagged refl).0 in omega (arith, e)
+
+-- ---- phases
+
+swap_first : IsOnePhase (code II) (on_air (Some 0) 7) (Frame ∷ Frame ∷ [])
+swap_first = (refl, tt)
+
+swap_second : IsOnePhase (code II) (on_air (Some 1) 7) (Frame ∷ Frame ∷ []) → ⊥
+swap_second h = let e : true ≡ false = h.0 in absurd cc
+
+neither_notice_nor_swap : BeginsNoPhase (code II) (on_air (Some 14) 7) (Frame ∷ [])
+neither_notice_nor_swap = (refl, tt)
+
+notice_begins : BeginsNoPhase (code II) (on_air (Some 13) 7) (Frame ∷ Frame ∷ []) → ⊥
+notice_begins h = let e : true ≡ false = h.1.0 in absurd cc
+
+-- ---- what is heard in the bytes of a frame: page 0 of the current configuration, with FIG 0/0 on a count of 8
+
+unflagged_is : (count : ℕ) → count < 5000 → IsEnsembleInformation (unflagged count)
+unflagged_is count below =
+    record { eid = omega arith; change = omega arith; count = below; flagged = (λ none. absurd cc, λ some. absurd (omega (arith, some))); occurrence = tt }
+
+flagged_is : (count low : ℕ) → count < 5000 → low < 256 → IsEnsembleInformation (flagged count low)
+flagged_is count low below last =
+    record { eid = omega arith; change = omega arith; count = below; flagged = (λ there. omega arith, λ some. refl); occurrence = last }
+
+abbrev IsSendableBy : Plan → State → Type 0
+IsSendableBy plan s = IsPageable (ensemble_sent plan s) (sent_entries plan s)
+
+with_header : IsSendableBy (plan I) (on_air None 8)
+with_header = page_sets_are_pageable (with_sub 128) None (Some (unflagged 8)) configuration_is tt (unflagged_is 8 (omega arith))
+
+without_header : IsSendableBy (plan I) (on_air None 9)
+without_header = page_sets_are_pageable (with_sub 128) None None configuration_is tt tt
+
+-- the bytes of page 0
+abbrev headed : List ℕ
+headed = shown_bytes (plan I) (on_air None 8)
+
+abbrev bare : List ℕ
+bare = shown_bytes (plan I) (on_air None 9)
+
+abbrev current_sub : Marked
+current_sub = marked false (sub_entry (sub 128))
+
+abbrev next_sub : Marked
+next_sub = marked true (sub_entry (sub 96))
+
+heard_in_headed : IsHeardInRow headed current_sub
+heard_in_headed =
+    (pages_are_heard I (ensemble_sent (plan I) (on_air None 8)) 0 (sent_entries (plan I) (on_air None 8)) with_header current_sub).1 (0, omega arith, refl)
+
+nothing_more : (m : Marked) → IsHeardInRow headed m → m ≡ current_sub
+nothing_more m h = one (page_inside I 0 (sent_entries (plan I) (on_air None 8)) m
+    ((pages_are_heard I (ensemble_sent (plan I) (on_air None 8)) 0 (sent_entries (plan I) (on_air None 8)) with_header m).0 h))
+  where
+    one : Contains (current_sub ∷ []) m → m ≡ current_sub
+    one (zero, lt, same) = sym same
+    one (suc n, lt, same) = absurd (omega (arith, lt))
+
+heard_in_some : IsHeardInSome (headed ∷ []) current_sub
+heard_in_some = (headed, (0, omega arith, refl), heard_in_headed)
+
+only_frame : (frame other : List ℕ) → Contains (frame ∷ []) other → frame ≡ other
+only_frame frame other (zero, lt, same) = same
+only_frame frame other (suc n, lt, same) = absurd (omega (arith, lt))
+
+not_of_the_next : IsHeardInSome (headed ∷ []) next_sub → ⊥
+not_of_the_next h =
+    let there : IsHeardInRow headed next_sub = subst (λ (frame : List ℕ). IsHeardInRow frame next_sub) (sym (only_frame headed h.0 h.1)) h.2 in
+    let same : true ≡ false = ap (λ (m : Marked). m.next) (nothing_more next_sub there) in
+    absurd cc
+
+whole_current : IsHeardWhole (with_sub 128) false (headed ∷ [])
+whole_current m (zero, lt, same) = subst (λ (x : Marked). IsHeardInSome (headed ∷ []) x) same heard_in_some
+whole_current m (suc n, lt, same) = absurd (omega (arith, lt))
+
+not_the_next : IsHeardWhole (with_sub 96) true (headed ∷ []) → ⊥
+not_the_next h = not_of_the_next (h next_sub (0, omega arith, refl))
+
+-- ---- FIG 0/0 in a frame
+
+its_header : IsEnsembleHeardInRow headed false (unflagged 8)
+its_header = (ensemble_is_heard I (ensemble_sent (plan I) (on_air None 8)) 0 (sent_entries (plan I) (on_air None 8)) with_header false (unflagged 8)).1 (refl, refl)
+
+has_header : HasHeader headed
+has_header = (false, unflagged 8, its_header)
+
+has_no_header : HasHeader bare → ⊥
+has_no_header h =
+    let said = (ensemble_is_heard I (ensemble_sent (plan I) (on_air None 9)) 0 (sent_entries (plan I) (on_air None 9)) without_header h.0 h.1).0 h.2 in
+    let e : None ≡ Some h.1 = said.1 in
+    absurd cc
+
+headed_second : IsHeaded (bare ∷ headed ∷ []) 1
+headed_second = (headed, refl, has_header)
+
+not_headed_first : IsHeaded (bare ∷ headed ∷ []) 0 → ⊥
+not_headed_first h =
+    let same : bare ≡ h.0 = some_frame bare h.0 h.1 in
+    has_no_header (subst (λ (frame : List ℕ). HasHeader frame) (sym same) h.2)
+  where
+    some_frame : (frame other : List ℕ) → Some frame ≡ Some other → frame ≡ other
+    some_frame frame other e = cc
+
+three_headers : HasThreeHeaders (headed ∷ bare ∷ headed ∷ headed ∷ [])
+three_headers = record {
+  first = 0;
+  second = 2;
+  third = 3;
+  before_second = omega arith;
+  before_third = omega arith;
+  in_first = (headed, refl, has_header);
+  in_second = (headed, refl, has_header);
+  in_third = (headed, refl, has_header);
+}
+
+two_headers : HasThreeHeaders (headed ∷ headed ∷ []) → ⊥
+two_headers h =
+    let within : h.third < 2 = slice_get_within (headed ∷ headed ∷ []) h.third h.in_third.0 h.in_third.1 in
+    omega (arith, within, h.before_second, h.before_third)
+
+-- ---- right frames
+
+laws : PageLaws
+laws = record { each = each_in_a_page; pageable = page_sets_are_pageable; valid = pages_are_valid; heard = pages_are_heard; ensemble = ensemble_is_heard }
+
+airs : (count : ℕ) → count < 5000 → Airs (plan I) (on_air None count)
+airs count below = record {
+  count = below;
+  eid = omega arith;
+  current = configuration_is;
+  next = lower_configuration_is;
+  ahead = tt;
+  on_air = record { sound = sound_told (with_sub 128) refl; within_period = omega arith };
+  committed = tt;
+  swaps = tt;
+  turn = omega arith;
+}
+
+frame_of_8 : IsRight (plan I) (on_air None 8) headed
+frame_of_8 = frame_right laws (plan I) (on_air None 8) (airs 8 (omega arith))
+
+frame_of_9 : IsRight (plan I) (on_air None 9) bare
+frame_of_9 = frame_right laws (plan I) (on_air None 9) (airs 9 (omega arith))
+
+begins_with_its_header : IsHeadedBy (plan I) (on_air None 8) (fib_at headed 0)
+begins_with_its_header = frame_of_8.headed refl
+
+no_header_at_all : IsUnheaded (fib_at bare 0)
+no_header_at_all = frame_of_9.unheaded (λ e. let one : 1 ≡ 0 = e in omega (arith, one))
+
+no_header_in_its_second : IsUnheaded (fib_at headed 1)
+no_header_in_its_second = frame_of_8.others_unheaded 1 (omega arith) (omega arith)
+
+-- what says FIG 0/0 is one
+says_header : (fig : Fig) (e : EnsembleInformation) → IsInFig fig (marked false (EnsembleOf e)) → IsHeader fig
+says_header (Open second es) e h = h.2.ext
+says_header (Other bytes) e h = h
+
+-- the same bytes don't begin with FIG 0/0 and go without it
+not_both : (plan : Plan) (s : State) (fib : List ℕ) → IsHeadedBy plan s fib → IsUnheaded fib → ⊥
+not_both plan s fib h u =
+    let same : u.0 ≡ h.header ∷ h.others = one_fib fib u.0 (h.header ∷ h.others) u.1 h.first in
+    let each : Each IsNoHeader (h.header ∷ h.others) = subst (λ (figs : List Fig). Each IsNoHeader figs) same u.2 in
+    each.0 (says_header h.header h.information h.says)
+
+headed_without_one : (s : State) → IsHeadedBy (plan I) s (fib_at bare 0) → ⊥
+headed_without_one s h = not_both (plan I) s (fib_at bare 0) h no_header_at_all
+
+unheaded_with_one : IsUnheaded (fib_at headed 0) → ⊥
+unheaded_with_one h = not_both (plan I) (on_air None 8) (fib_at headed 0) begins_with_its_header h
+
+-- its FIG 0/0 has another count
+not_for_count_12 : IsRight (plan I) (on_air None 12) headed → ⊥
+not_for_count_12 h =
+    let top = h.headed refl in
+    let heard : IsEnsembleHeardInRow headed false top.information = (0, (top.header ∷ top.others, top.header, top.first, (0, omega arith, refl), top.says)) in
+    let said = ((ensemble_is_heard I (ensemble_sent (plan I) (on_air None 8)) 0 (sent_entries (plan I) (on_air None 8)) with_header false top.information).0 heard).1 in
+    let same : unflagged 8 ≡ top.information = some_information (unflagged 8) top.information said in
+    let count : top.information.count ≡ 12 = top.right.count in
+    let eight : 8 ≡ top.information.count = ap (λ (e : EnsembleInformation). e.count) same in
+    omega (arith, count, eight)
+  where
+    some_information : (e other : EnsembleInformation) → Some e ≡ Some other → e ≡ other
+    some_information e other same = cc
+
+-- ---- a notice in mode II: the swap comes at count 10
+
+abbrev noticed : ℕ → ℕ → State
+noticed count left = on_air (Some left) count
+
+abbrev notice_frame : ℕ → ℕ → List ℕ
+notice_frame count left = shown_bytes (plan II) (noticed count left)
+
+-- what is sent in a frame of it: FIG 0/0 with the count of the swap, and the next sub-channel
+record IsNoticeFrame (count left : ℕ) : Type 0 where
+  sendable : IsSendableBy (plan II) (noticed count left)
+  header : ensemble_sent (plan II) (noticed count left) ≡ Some (flagged count 10)
+  next : Contains (page_entries II 0 (sent_entries (plan II) (noticed count left))) next_sub
+
+three_before : IsNoticeFrame 7 3
+three_before = record {
+  sendable = page_sets_are_pageable (with_sub 128) (Some (with_sub 96)) (Some (flagged 7 10)) configuration_is lower_configuration_is (flagged_is 7 10 (omega arith) (omega arith));
+  header = refl;
+  next = (1, omega arith, refl);
+}
+
+two_before : IsNoticeFrame 8 2
+two_before = record {
+  sendable = page_sets_are_pageable (with_sub 128) (Some (with_sub 96)) (Some (flagged 8 10)) configuration_is lower_configuration_is (flagged_is 8 10 (omega arith) (omega arith));
+  header = refl;
+  next = (1, omega arith, refl);
+}
+
+one_before : IsNoticeFrame 9 1
+one_before = record {
+  sendable = page_sets_are_pageable (with_sub 128) (Some (with_sub 96)) (Some (flagged 9 10)) configuration_is lower_configuration_is (flagged_is 9 10 (omega arith) (omega arith));
+  header = refl;
+  next = (1, omega arith, refl);
+}
+
+some_same : {T : Type 0} (o : Option T) (x y : T) → o ≡ Some x → o ≡ Some y → x ≡ y
+some_same o x y e f = let both : Some x ≡ Some y = sym e ∙ f in cc
+
+header_of : (count left : ℕ) → IsNoticeFrame count left → IsEnsembleHeardInRow (notice_frame count left) false (flagged count 10)
+header_of count left h =
+    (ensemble_is_heard II (ensemble_sent (plan II) (noticed count left)) 0 (sent_entries (plan II) (noticed count left)) h.sendable false (flagged count 10)).1
+    (refl, h.header)
+
+only_header : (count left : ℕ) → IsNoticeFrame count left → (next : Bool) (e : EnsembleInformation) → IsEnsembleHeardInRow (notice_frame count left) next e → flagged count 10 ≡ e
+only_header count left h next e heard =
+    let said = (ensemble_is_heard II (ensemble_sent (plan II) (noticed count left)) 0 (sent_entries (plan II) (noticed count left)) h.sendable next e).0 heard in
+    some_same _ _ _ h.header said.1
+
+has_its_header : (count left : ℕ) → IsNoticeFrame count left → HasHeader (notice_frame count left)
+has_its_header count left h = (false, flagged count 10, header_of count left h)
+
+next_in : (count left : ℕ) → IsNoticeFrame count left → IsHeardInSome (notice_frame count left ∷ []) next_sub
+next_in count left h = (
+  notice_frame count left,
+  (0, omega arith, refl),
+  (pages_are_heard II (ensemble_sent (plan II) (noticed count left)) 0 (sent_entries (plan II) (noticed count left)) h.sendable next_sub).1 h.next,
+)
+
+whole_next : (count left : ℕ) → IsNoticeFrame count left → IsHeardWhole (with_sub 96) true (notice_frame count left ∷ [])
+whole_next count left h m (zero, lt, same) = subst (λ (x : Marked). IsHeardInSome (notice_frame count left ∷ []) x) same (next_in count left h)
+whole_next count left h m (suc n, lt, same) = absurd (omega (arith, lt))
+
+abbrev notice : List (List ℕ)
+notice = notice_frame 7 3 ∷ notice_frame 8 2 ∷ notice_frame 9 1 ∷ []
+
+flagged_by : (count left : ℕ) → IsNoticeFrame count left → (next : Bool) (e : EnsembleInformation) (frame : List ℕ) → notice_frame count left ≡ frame
+    → IsEnsembleHeardInRow frame next e → IsFlagged (with_sub 128) (with_sub 96) 10 e
+flagged_by count left h next e frame here heard =
+    let there : IsEnsembleHeardInRow (notice_frame count left) next e = subst (λ (bytes : List ℕ). IsEnsembleHeardInRow bytes next e) (sym here) heard in
+    subst (λ (x : EnsembleInformation). IsFlagged (with_sub 128) (with_sub 96) 10 x) (only_header count left h next e there) (refl, refl)
+
+all_flagged : (frame : List ℕ) (next : Bool) (e : EnsembleInformation) → Contains notice frame → IsEnsembleHeardInRow frame next e → IsFlagged (with_sub 128) (with_sub 96) 10 e
+all_flagged frame next e (zero, lt, same) heard = flagged_by 7 3 three_before next e frame same heard
+all_flagged frame next e (suc zero, lt, same) heard = flagged_by 8 2 two_before next e frame same heard
+all_flagged frame next e (suc (suc zero), lt, same) heard = flagged_by 9 1 one_before next e frame same heard
+all_flagged frame next e (suc (suc (suc n)), lt, same) heard = absurd (omega (arith, lt))
+
+announced : IsAnnounced (with_sub 128) (with_sub 96) 10 notice
+announced = record {
+  first = notice_frame 7 3 ∷ [];
+  second = notice_frame 8 2 ∷ [];
+  third = notice_frame 9 1 ∷ [];
+  cut = refl;
+  whole_in_first = whole_next 7 3 three_before;
+  whole_in_second = whole_next 8 2 two_before;
+  whole_in_third = whole_next 9 1 one_before;
+  headers = record {
+    first = 0;
+    second = 1;
+    third = 2;
+    before_second = omega arith;
+    before_third = omega arith;
+    in_first = (notice_frame 7 3, refl, has_its_header 7 3 three_before);
+    in_second = (notice_frame 8 2, refl, has_its_header 8 2 two_before);
+    in_third = (notice_frame 9 1, refl, has_its_header 9 1 one_before);
+  };
+  flagged = all_flagged;
+}
+
+no_count : (a : ℕ) → None ≡ Some a → ⊥
+no_count a e = absurd cc
+
+-- the same frames don't announce a swap at the count after it
+announced_for_11 : IsAnnounced (with_sub 128) (with_sub 96) 11 notice → ⊥
+announced_for_11 h =
+    let same : 10 ≡ 11 = some_count 10 11 ((h.flagged (notice_frame 7 3) false (flagged 7 10) (0, omega arith, refl) (header_of 7 3 three_before)).1) in
+    omega (arith, same)
+
+-- and two of them announce none
+announced_by_two : IsAnnounced (with_sub 128) (with_sub 96) 10 (notice_frame 8 2 ∷ notice_frame 9 1 ∷ []) → ⊥
+announced_by_two h =
+    let within : h.headers.third < 2 = slice_get_within (notice_frame 8 2 ∷ notice_frame 9 1 ∷ []) h.headers.third h.headers.in_third.0 h.headers.in_third.1 in
+    omega (arith, within, h.headers.before_second, h.headers.before_third)
+
+-- ---- the count that a frame announces
+
+announces_10 : IsAnnouncedIn (notice_frame 9 1) 10
+announces_10 = (false, flagged 9 10, header_of 9 1 one_before, refl)
+
+only_10 : (low : ℕ) → IsAnnouncedIn (notice_frame 9 1) low → low ≡ 10
+only_10 low h =
+    some_count low 10 (sym (ap (λ (e : EnsembleInformation). e.occurrence) (only_header 9 1 one_before h.0 h.1 h.2) ∙ h.3))
+
+announces_11 : IsAnnouncedIn (notice_frame 9 1) 11 → ⊥
+announces_11 h = let e : 11 ≡ 10 = only_10 11 h in omega (arith, e)
+
+-- without a swap none is announced
+announces_nothing : (low : ℕ) → IsAnnouncedIn headed low → ⊥
+announces_nothing low h =
+    let said = (ensemble_is_heard I (ensemble_sent (plan I) (on_air None 8)) 0 (sent_entries (plan I) (on_air None 8)) with_header h.0 h.1).0 h.2 in
+    no_count low (ap (λ (e : EnsembleInformation). e.occurrence) (some_same (Some (unflagged 8)) (unflagged 8) h.1 refl said.1) ∙ h.3)
+
+swap_at_10 : SwapsAt 10 (code II) (on_air (Some 0) 10) (Frame ∷ [])
+swap_at_10 = refl
+
+no_swap_at_10 : SwapsAt 10 (code II) (on_air (Some 1) 10) (Frame ∷ []) → ⊥
+no_swap_at_10 h = let e : false ≡ true = h in absurd cc
+
+-- a swap comes in the frame after the one that announces it
+keeps_its_count : KeepsCount (code II) (noticed 9 1) (Frame ∷ Frame ∷ [])
+keeps_its_count = ((λ low h. at_10 low (only_10 low h)), ((λ low h. tt), tt))
+  where
+    at_10 : (low : ℕ) → low ≡ 10 → SwapsAt low (code II) (after_frame (code II) (noticed 9 1)) (Frame ∷ [])
+    at_10 low same = subst (λ (x : ℕ). SwapsAt x (code II) (after_frame (code II) (noticed 9 1)) (Frame ∷ [])) (sym same) refl
+
+-- a notice of 251 frames, which no plan has: its first frame would name the count of the second, without a swap
+abbrev too_long : Program
+too_long = record (code II) { plan = record (plan II) { notice = 251 } }
+
+first_of_251 : IsSendableBy too_long.plan (noticed 0 251)
+first_of_251 =
+    page_sets_are_pageable (with_sub 128) (Some (with_sub 96)) (Some (flagged 0 1)) configuration_is lower_configuration_is (flagged_is 0 1 (omega arith) (omega arith))
+
+names_the_second : IsAnnouncedIn (frame_bytes too_long (noticed 0 251)) 1
+names_the_second = (
+  false,
+  flagged 0 1,
+  (ensemble_is_heard II (ensemble_sent too_long.plan (noticed 0 251)) 0 (sent_entries too_long.plan (noticed 0 251)) first_of_251 false (flagged 0 1)).1 (refl, refl),
+  refl,
+)
+
+not_its_swap : KeepsCount too_long (noticed 0 251) (Frame ∷ Frame ∷ []) → ⊥
+not_its_swap h = let e : false ≡ true = h.0 1 names_the_second in absurd cc
+
+-- ---- the frame of a swap, which was announced
+
+abbrev swapping : State
+swapping = on_air (Some 0) 10
+
+swap_allowed : FrameIsAllowed (code II) swapping
+swap_allowed = record { steps = 0; within = omega arith; executes = (refl, refl); counted = refl }
+
+swap_was_announced : FrameRuns (code II) swapping notice
+swap_was_announced = record { allowed = swap_allowed; announced = λ due. announced }
+
+swap_was_not : FrameRuns (code II) swapping (notice_frame 8 2 ∷ notice_frame 9 1 ∷ []) → ⊥
+swap_was_not h = announced_by_two (h.announced refl)
+
+runs_over_the_swap : Runs (code II) swapping notice (Frame ∷ [])
+runs_over_the_swap = (swap_was_announced, tt)
+
+runs_without_notice : Runs (code II) swapping (notice_frame 8 2 ∷ notice_frame 9 1 ∷ []) (Frame ∷ []) → ⊥
+runs_without_notice h = swap_was_not h.0

@@ -1,0 +1,356 @@
+-- Runs of a code that waits for a frame and ends: each definition of runs where it holds, and where it fails.
+use Rattle.std.proofs.Common.{◌≡◌, ℕ, zero, suc, ◌<◌, ◌≤◌, Bool, true, false, cond, List, [], ◌∷◌, length, Some, None, ◌==◌, replicate, refl, sym, ap, subst, arith}
+use Rattle.mux_eep.specs.declared.sizes.EepSet.TheVariants.{A}
+use Rattle.mux_config.specs.declared.parts.Sub.{Sub}
+use Rattle.mux_config.specs.Configuration.{Configuration, IsPlaced, IsConfiguration}
+use Rattle.mux_config.specs.Facts.{Marked}
+use Rattle.fib_codec.specs.declared.modes.Mode.TheVariants.{I}
+use Rattle.fib_carousel.specs.Pages.{page_set}
+use Rattle.plan_code.specs.declared.plan.Plan.{Plan}
+use Rattle.plan_code.specs.declared.flags.Counters.{Counters}
+use Rattle.plan_code.specs.declared.flags.Contacts.{Contacts}
+use Rattle.plan_code.specs.declared.hold.Hold.TheVariants.{Waits}
+use Rattle.plan_code.specs.declared.label.Label.{Label}
+use Rattle.plan_code.specs.declared.label.Swap.TheVariants.{Idle}
+use Rattle.plan_code.specs.declared.instr.Instr.{Instr}
+use Rattle.plan_code.specs.declared.instr.Line.{Line}
+use Rattle.plan_code.specs.declared.instr.Instr.TheVariants.{Wait, Join, End}
+use Rattle.plan_code.specs.Program.{Program, IsProgram, IsPlan, IsLabel, IsLine, IsInstr}
+use Rattle.plan_code.specs.Machine.{State, IsAllowed}
+use Rattle.plan_verifier.specs.declared.cause.Cause.TheVariants.{JoinIdle}
+use Rattle.plan_verifier.proofs.OneVerdict.{typed_if, refused_if, codes_have_one_verdict}
+use Rattle.plan_runs.specs.declared.event.Event.TheVariants.{Contact, Frame}
+use Rattle.plan_runs.specs.declared.event.Start.{Start}
+use Rattle.plan_runs.specs.Frames.{Executes, FrameIsAllowed, after_burst, after_frame}
+use Rattle.plan_runs.specs.Runs.{IsInRange, IsEvent, IsStart, EventIsAllowed, RunIsAllowed, IsReached, run}
+use Rattle.plan_runs.specs.Settings.{Setting, IsSetting, AreAlike, AreAllAlike, last_of}
+use Rattle.plan_runs.specs.Phases.{SentBy}
+use Rattle.plan_runs.specs.TypedRuns.{IsPlayed, CanBeSent}
+use Rattle.plan_runs.specs.Announced.{IsJoined}
+use Rattle.plan_runs.proofs.Joined.{runs_join}
+use Rattle.plan_runs.proofs.Reached.{starts_are_reached, reached_is_kept}
+
+-- ---- values shared by these vectors: one sub-channel, at 128 kbit/s and at 96
+
+abbrev pub plan : Plan
+plan = record { eid = 0xe1c5; mode = I; period = 4; notice = 24; budget = 20 }
+
+abbrev pub sub : ℕ → Sub
+sub kbits = record { id = 1; start = 0; protection = record { set = A; level = 3 }; kbits = kbits }
+
+abbrev pub with_sub : ℕ → Configuration
+with_sub kbits = record { subs = sub kbits ∷ []; services = []; packets = [] }
+
+abbrev no_counters : Counters
+no_counters = record { 0 = 0 }
+
+abbrev pub all_open : Contacts
+all_open = record { 0 = 0 }
+
+abbrev label : Label
+label = record { pc = 0; cur = 0; next = 0; pending = Idle; counters = no_counters; cost = 1 }
+
+abbrev line : Instr → Line
+line i = record { number = 1; instr = i }
+
+abbrev code : List Line → Program
+code lines = record { plan = plan; configurations = with_sub 128 ∷ []; labels = label ∷ []; lines = lines }
+
+abbrev waits : Program
+waits = code (line (Wait 1) ∷ line End ∷ [])
+
+abbrev joins : Program
+joins = code (line Join ∷ [])
+
+abbrev start : Start
+start = record { eid = 0xe1c5; count = 0; day = 0; contacts = all_open }
+
+abbrev first : State
+first =
+    record {
+      current = with_sub 128;
+      next = with_sub 128;
+      left = None;
+      pc = 0;
+      hold = Waits 0;
+      counters = replicate 8 0;
+      contacts = all_open;
+      count = 0;
+      day = 0;
+      eid = 0xe1c5;
+      turn = 0;
+    }
+
+abbrev second : State
+second = after_frame waits first
+
+-- ---- starts and events
+
+in_range : IsInRange start
+in_range = record { eid = omega arith; count = omega arith; day = omega arith; contacts = omega arith }
+
+past_the_day : IsInRange (record start { day = 3600000 }) → ⊥
+past_the_day h = let e : 3600000 < 3600000 = h.day in omega (arith, e)
+
+last_contact : IsEvent (Contact 15 true)
+last_contact = omega arith
+
+no_such_contact : IsEvent (Contact 16 true) → ⊥
+no_such_contact h = let e : 16 < 16 = h in omega (arith, e)
+
+a_frame : IsEvent Frame
+a_frame = tt
+
+it_starts : IsStart waits start first
+it_starts = record {
+  label = label;
+  first = refl;
+  current = refl;
+  next = refl;
+  left = refl;
+  pc = refl;
+  hold = refl;
+  counters = refl;
+  contacts = refl;
+  count = refl;
+  day = refl;
+  eid = refl;
+  turn = refl;
+}
+
+some_left : (left : ℕ) → Some left ≡ None → ⊥
+some_left left e = absurd cc
+
+-- with a swap that no instruction committed
+not_with_a_swap : IsStart waits start (record first { left = Some 4 }) → ⊥
+not_with_a_swap h = some_left 4 h.left
+
+-- ---- events that meet no trap
+
+first_frame : FrameIsAllowed waits first
+first_frame = record {
+  steps = 1;
+  within = omega arith;
+  executes = (refl, record { instr = Wait 1; within = refl; allowed = tt }, (refl, refl));
+  counted = refl;
+}
+
+second_frame : FrameIsAllowed waits second
+second_frame = record {
+  steps = 1;
+  within = omega arith;
+  executes = (refl, record { instr = End; within = refl; allowed = tt }, (refl, refl));
+  counted = refl;
+}
+
+frame_is_allowed : EventIsAllowed waits first Frame
+frame_is_allowed = first_frame
+
+-- a contact closes, and then come two frames
+two_frames : RunIsAllowed waits first (Frame ∷ Contact 3 true ∷ Frame ∷ [])
+two_frames = (first_frame, (tt, (third, tt)))
+  where
+    third : FrameIsAllowed waits (run waits first (Frame ∷ Contact 3 true ∷ []))
+    third = record {
+      steps = 1;
+      within = omega arith;
+      executes = (refl, record { instr = End; within = refl; allowed = tt }, (refl, refl));
+      counted = refl;
+    }
+
+-- a join with nothing pending
+no_join : (c : Contacts) (i : Instr) → Some Join ≡ Some i → IsAllowed plan i (record first { contacts = c }) → ⊥
+no_join c i at allowed =
+    let same : Join ≡ i = cc in
+    let pending : IsAllowed plan Join (record first { contacts = c }) = subst (λ (j : Instr). IsAllowed plan j (record first { contacts = c })) (sym same) allowed in
+    let some : false ≡ true = pending in
+    absurd cc
+
+join_traps : (c : Contacts) (n : ℕ) (t : State) → Executes joins (record first { contacts = c }) n t → ⊥
+join_traps c zero t h = let e : true ≡ false = h.0 in absurd cc
+join_traps c (suc n) t h = no_join c h.1.instr h.1.within h.1.allowed
+
+frame_traps : EventIsAllowed joins first Frame → ⊥
+frame_traps h = join_traps all_open h.steps (after_burst joins first) h.executes
+
+abbrev third_closed : Contacts
+third_closed = record { 0 = 8 }
+
+run_traps : RunIsAllowed joins first (Contact 3 true ∷ Frame ∷ []) → ⊥
+run_traps h = join_traps third_closed h.1.0.steps _ h.1.0.executes
+
+-- ---- a run in two parts is one: this holds of every run
+
+frame_by_frame : IsJoined waits first [] (Frame ∷ []) (Contact 3 true ∷ Frame ∷ [])
+frame_by_frame = runs_join waits first [] (Frame ∷ []) (Contact 3 true ∷ Frame ∷ [])
+
+-- ---- states that a run comes to
+
+reached_by_a_frame : IsReached waits second
+reached_by_a_frame = reached_is_kept waits first (Frame ∷ []) (starts_are_reached waits start first in_range it_starts) (tt, tt)
+
+-- a code without a label at its first instruction has no start
+never_reached : IsReached (record waits { labels = [] }) first → ⊥
+never_reached h = let e : None ≡ Some h.started.label = h.started.first in absurd cc
+
+-- ---- typed codes in states that they come to
+
+sub_is : IsPlaced (sub 128)
+sub_is = record {
+  named = omega arith;
+  from_one = omega arith;
+  to_four = omega arith;
+  sized = record { positive = omega arith; multiple = refl; from_table = refl; within = omega arith };
+  ends = omega arith;
+}
+
+lower_is : IsPlaced (sub 96)
+lower_is = record {
+  named = omega arith;
+  from_one = omega arith;
+  to_four = omega arith;
+  sized = record { positive = omega arith; multiple = refl; from_table = refl; within = omega arith };
+  ends = omega arith;
+}
+
+one_sub_is : (kbits : ℕ) → IsPlaced (sub kbits) → IsConfiguration (with_sub kbits)
+one_sub_is kbits placed = record {
+  subs_ascend = (tt, tt);
+  services_ascend = tt;
+  packets_ascend = tt;
+  subs_placed = (placed, tt);
+  services_formed = tt;
+  packets_addressed = tt;
+  subs_few = omega arith;
+  services_few = omega arith;
+  packets_few = omega arith;
+}
+
+pub configuration_is : IsConfiguration (with_sub 128)
+configuration_is = one_sub_is 128 sub_is
+
+pub lower_configuration_is : IsConfiguration (with_sub 96)
+lower_configuration_is = one_sub_is 96 lower_is
+
+plan_is : IsPlan plan
+plan_is = record {
+  ensemble = omega arith;
+  period_from = omega arith;
+  period_to = omega arith;
+  notice_from = omega arith;
+  notice_to = omega arith;
+  budget_from = omega arith;
+  budget_to = omega arith;
+}
+
+label_is : IsLabel 1 label
+label_is = record {
+  place = omega arith;
+  current = omega arith;
+  following = omega arith;
+  bounds = tt;
+  set = omega arith;
+  cost_from = omega arith;
+  cost_to = omega arith;
+}
+
+line_is : (i : Instr) → IsInstr i → IsLine (line i)
+line_is i h = record { numbered = omega arith; formed = h }
+
+waits_is : IsProgram waits
+waits_is = record {
+  planned = plan_is;
+  configurations_from = omega arith;
+  configurations_to = omega arith;
+  configurations_formed = (configuration_is, tt);
+  labels_from = omega arith;
+  labels_to = omega arith;
+  labels_formed = (label_is, tt);
+  labels_ascend = (tt, tt);
+  lines_from = omega arith;
+  lines_to = omega arith;
+  lines_formed = (line_is (Wait 1) (omega arith, omega arith), (line_is End tt, tt));
+}
+
+joins_is : IsProgram joins
+joins_is = record {
+  planned = plan_is;
+  configurations_from = omega arith;
+  configurations_to = omega arith;
+  configurations_formed = (configuration_is, tt);
+  labels_from = omega arith;
+  labels_to = omega arith;
+  labels_formed = (label_is, tt);
+  labels_ascend = (tt, tt);
+  lines_from = omega arith;
+  lines_to = omega arith;
+  lines_formed = (line_is Join tt, tt);
+}
+
+played : IsPlayed waits second
+played = record { program = waits_is; typed = typed_if waits waits_is refl; reached = reached_by_a_frame }
+
+-- its verifier refuses the join
+not_played : (s : State) → IsPlayed joins s → ⊥
+not_played s h = (codes_have_one_verdict joins joins_is).never_both 0 JoinIdle h.typed (refused_if joins 0 JoinIdle joins_is refl)
+
+can_be_sent : CanBeSent plan first
+can_be_sent = record {
+  turn = omega arith;
+  current = configuration_is;
+  next = configuration_is;
+  count = omega arith;
+  ensemble = record { eid = omega arith; change = omega arith; count = omega arith; flagged = (λ none. absurd cc, λ some. absurd (omega (arith, some))); occurrence = tt };
+}
+
+-- all entries stand on page 0
+no_second_page : CanBeSent plan (record first { turn = 1 }) → ⊥
+no_second_page h = let e : 1 < 1 = h.turn in omega (arith, e)
+
+-- ---- what a phase sends, with a notice of 24 frames
+
+sent_by_itself : SentBy plan None (with_sub 128) (with_sub 96) (page_set (with_sub 128) None)
+sent_by_itself = refl
+
+sent_beside_the_next : SentBy plan (Some 23) (with_sub 128) (with_sub 96) (page_set (with_sub 128) (Some (with_sub 96)))
+sent_beside_the_next = ((λ lt. refl), λ le. let e : 24 ≤ 23 = le in absurd (omega (arith, e)))
+
+not_without_the_next : SentBy plan (Some 23) (with_sub 128) (with_sub 96) (page_set (with_sub 128) None) → ⊥
+not_without_the_next h =
+    let same : page_set (with_sub 128) (Some (with_sub 96)) ≡ page_set (with_sub 128) None = h.0 (omega arith) in
+    let two : 2 ≡ 1 = ap (λ (ms : List Marked). length ms) same in
+    omega (arith, two)
+
+-- ---- settings of contacts between two frames
+
+abbrev closes : ℕ → Setting
+closes contact = record { contact = contact; closed = true }
+
+abbrev opens : ℕ → Setting
+opens contact = record { contact = contact; closed = false }
+
+a_setting : IsSetting (closes 15)
+a_setting = omega arith
+
+no_setting : IsSetting (closes 16) → ⊥
+no_setting h = let e : 16 < 16 = h in omega (arith, e)
+
+-- contact 3 opens and closes
+last_counts : AreAlike (opens 3 ∷ closes 3 ∷ []) (closes 3 ∷ [])
+last_counts contact = by (3 == contact)
+  where
+    by : (b : Bool) → last_of (cond b (Some false) None) (last_of (cond b (Some true) None) None) ≡ last_of (cond b (Some true) None) None
+    by true = refl
+    by false = refl
+
+order_counts : AreAlike (closes 3 ∷ opens 3 ∷ []) (opens 3 ∷ closes 3 ∷ []) → ⊥
+order_counts h = let e : Some false ≡ Some true = h 3 in absurd cc
+
+frames_alike : AreAllAlike ((opens 3 ∷ closes 3 ∷ []) ∷ [] ∷ []) ((closes 3 ∷ []) ∷ [] ∷ [])
+frames_alike = (last_counts, ((λ contact. refl), tt))
+
+another_frame : AreAllAlike ((closes 3 ∷ []) ∷ [] ∷ []) ([] ∷ (closes 3 ∷ []) ∷ []) → ⊥
+another_frame h = let e : Some true ≡ None = h.0 3 in absurd cc
+
+more_frames : AreAllAlike ([] ∷ []) ([] ∷ [] ∷ []) → ⊥
+more_frames h = h.1
