@@ -49,7 +49,7 @@ fn day_after(day: u32) -> u32
 }
 
 /// The page after page k, where there are so many pages, at most 256: page 0 again after the last.
-fn page_after(pages: usize, page: u8) -> u8
+pub fn page_after(pages: usize, page: u8) -> u8
     requires { pages ≤ 256 }
     ensures { result ≡ page_after pages page }
 {

@@ -16,11 +16,11 @@ mod opening;
 mod sending;
 
 pub use burst::run;
-pub use counts::{advance, pass};
+pub use counts::{advance, page_after, pass};
 pub use instruction::carry_out;
 pub use machine::Machine;
 pub use opening::{begin, is_due};
-pub use sending::{begin_notice, ensemble, is_first_noticed, is_noticed, rounds};
+pub use sending::{begin_notice, ensemble, is_first_noticed, is_noticed, next_sent, rounds};
 
 #[cfg(test)]
 mod tests;

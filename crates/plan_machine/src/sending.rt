@@ -1,7 +1,7 @@
 //! What a frame says of its notice, and its FIG 0/0.
 
-ghost use Rattle.std.specs.Prelude.{◌≡◌, ◌≤◌, IfSome, if◌then◌else◌, Some, None};
-ghost use Rattle.std.specs.Option.{option_copied};
+ghost use Rattle.std.specs.Prelude.{◌≡◌, ◌≤◌, IfSome};
+ghost use Rattle.std.specs.Option.{option_map, option_copied};
 ghost use Rattle.fib_codec.specs.Ranges.{IsEnsembleInformation};
 ghost use Rattle.plan_runs.specs.Frames.{is_noticed, is_first_noticed, low_of_swap, announced_next, sent_rounds, ensemble_sent};
 ghost use Rattle.plan_machine.specs.Positions.{state_of, with_notice_begun};
@@ -45,11 +45,16 @@ pub fn begin_notice<S: Store>(plan: &Plan, machine: &mut Machine<S>) -> bool
     first
 }
 
-/// The next configuration, where it is sent too.
-fn next_if<'a, S: Store>(next: &'a S, wanted: bool) -> Option<&'a S>
-    ensures { option_copied result ≡ (if wanted then Some next.now else None) }
+/// The next configuration, where the frame sends it beside the current one: in a notice.
+pub fn next_sent<'a, S: Store>(plan: &Plan, machine: &'a Machine<S>) -> Option<&'a S>
+    ensures { option_map S.content (option_copied result) ≡
+        announced_next plan.now (state_of S.content machine.now) }
 {
-    if wanted { Some(next) } else { None }
+    if is_noticed(plan.notice, machine.left) {
+        Some(&machine.next)
+    } else {
+        None
+    }
 }
 
 /// How many pages the frame's page set takes: that of the current configuration, and in a notice of both.
@@ -57,8 +62,7 @@ pub fn rounds<S: Store>(plan: &Plan, machine: &Machine<S>) -> usize
     ensures value { result ≡ sent_rounds plan.now (state_of S.content machine.now) }
     ensures one { 1 ≤ result }
 {
-    let next = next_if(&machine.next, is_noticed(plan.notice, machine.left));
-    pages(plan.mode, &machine.current, next)
+    pages(plan.mode, &machine.current, next_sent(plan, machine))
 }
 
 /// The low part of the CIF count of a swap that comes after so many frames: the count modulo 250.

@@ -1,7 +1,6 @@
 //! One frame, from its swap to its counts.
 
-ghost use Rattle.std.specs.Prelude.{◌≡◌, ℕ, ◌<◌, ◌≤◌, List, if◌then◌else◌, true, false, Some, None};
-ghost use Rattle.std.specs.Option.{option_map, option_copied};
+ghost use Rattle.std.specs.Prelude.{◌≡◌, ℕ, ◌<◌, ◌≤◌, List, true, false};
 ghost use Rattle.mux_config.specs.Facts.{Marked};
 ghost use Rattle.fib_codec.specs.declared.modes.Mode.{Mode};
 ghost use Rattle.fib_carousel.specs.Pages.{page_after};
@@ -17,27 +16,7 @@ use fib_carousel::KeptPage;
 use fib_codec::FibFrame;
 use mux_config::{Ensemble, Store};
 use plan_code::{Code, Plan};
-use plan_machine::{Machine, begin, begin_notice, ensemble, is_noticed, pass, run};
-
-/// The next configuration, where it is sent too.
-fn next_if<'a, S: Store>(next: &'a S, wanted: bool) -> Option<&'a S>
-    ensures { option_map S.content (option_copied result) ≡
-        (if wanted then Some (S.content next.now) else None) }
-{
-    if wanted { Some(next) } else { None }
-}
-
-/// The page after this one, where there are so many pages: page 0 again after the last.
-fn page_after(pages: usize, page: u8) -> u8
-    requires { pages ≤ 256 }
-    ensures { result ≡ page_after pages page }
-{
-    if usize::from(page) + 1 < pages {
-        page + 1
-    } else {
-        0
-    }
-}
+use plan_machine::{Machine, begin, begin_notice, ensemble, next_sent, page_after, pass, run};
 
 /// The FIBs of a page, with this FIG 0/0 where there is one.
 fn with_ensemble(page: &KeptPage, ensemble: Option<Ensemble>) -> FibFrame
@@ -63,7 +42,7 @@ fn page_to_send<S: Store>(plan: &Plan, machine: &Machine<S>, pages: &mut PhasePa
     ensures made { machine.now.turn < pages.new.made }
     ensures count { pages.new.count ≡ sent_rounds plan.now (state_of S.content machine.now) }
 {
-    let next = next_if(&machine.next, is_noticed(plan.notice, machine.left));
+    let next = next_sent(plan, machine);
     page_in_turn(pages, plan.mode, machine.turn, &machine.current, next)
 }
 

@@ -1,6 +1,8 @@
 //! Typed codes, and starts.
 
-use super::parts::{SERVICE, add_audio, add_sub, commit_in, rate_sub, wait_contact};
+use super::parts::{
+    SERVICE, add_audio, add_sub, commit_in, rate_sub, test, until, wait, wait_contact,
+};
 use crate::{Player, Start};
 use mux_config::{Config, Edit, Store};
 use plan_code::{Code, Contacts, Counters, Instr, Label, Line, Mode, Plan, Swap};
@@ -68,6 +70,17 @@ pub fn typed(
 ) -> Result<Verified, Fail> {
     let mut configs = Vec::new(alloc);
     configs.push(config_of(opening)?)?;
+    typed_over(alloc, plan, configs, labels, instrs)
+}
+
+/// The same over these configurations.
+fn typed_over(
+    alloc: Global,
+    plan: Plan,
+    configs: Vec<Config>,
+    labels: &[Label],
+    instrs: &[Instr],
+) -> Result<Verified, Fail> {
     let mut table = Vec::new(alloc);
     for label in labels {
         table.push(*label)?;
@@ -106,7 +119,7 @@ pub fn first_swap(alloc: Global, plan: Plan, commit: Instr) -> Result<Verified, 
 }
 
 /// Lowers the rate of a programme as long as contact 3 is closed.
-pub fn by_contact(alloc: Global) -> Result<Verified, Fail> {
+pub fn by_contact(alloc: Global, plan: Plan) -> Result<Verified, Fail> {
     let instrs = [
         wait_contact(true),
         rate_sub(1, 96),
@@ -118,7 +131,44 @@ pub fn by_contact(alloc: Global) -> Result<Verified, Fail> {
         Instr::Join,
         Instr::Jump(0),
     ];
-    typed(alloc, PLAN, &programme(128), &[label(0, 1)], &instrs)
+    typed(alloc, plan, &programme(128), &[label(0, 1)], &instrs)
+}
+
+/// Two swaps; contact 3 is waited for in the notice of the first, and then `between` comes.
+pub fn settled(alloc: Global, plan: Plan, between: Instr) -> Result<Verified, Fail> {
+    let instrs = [
+        rate_sub(1, 64),
+        commit_in(24),
+        wait_contact(true),
+        between,
+        rate_sub(1, 96),
+        commit_in(24),
+        Instr::Settle,
+        Instr::End,
+    ];
+    typed(alloc, plan, &programme(128), &[label(0, 5)], &instrs)
+}
+
+/// One swap; an hour is waited for in its notice, and then one frame more where contact 1 is closed.
+pub fn settled_by_the_hour(alloc: Global, plan: Plan) -> Result<Verified, Fail> {
+    let mut configs = Vec::new(alloc);
+    configs.push(config_of(&programme(128))?)?;
+    configs.push(config_of(&programme(64))?)?;
+    let settling = Label {
+        next: 1,
+        pending: Swap::Perhaps(26),
+        ..label(5, 2)
+    };
+    let instrs = [
+        rate_sub(1, 64),
+        commit_in(24),
+        until(3_300_000),
+        test(1, 5),
+        wait(1),
+        Instr::Settle,
+        Instr::End,
+    ];
+    typed_over(alloc, plan, configs, &[label(0, 3), settling], &instrs)
 }
 
 /// Makes so many frames.

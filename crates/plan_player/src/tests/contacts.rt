@@ -1,6 +1,6 @@
 //! A code that waits for a contact, and swaps there and back.
 
-use super::codes::{by_contact, config_of, pass, programme, start_at};
+use super::codes::{PLAN, by_contact, config_of, pass, programme, start_at};
 use super::parts::third;
 use crate::{Event, Player, Writer, play};
 use mux_config::{Config, Store};
@@ -98,7 +98,7 @@ fn swaps<S: Store>(rt: &impl Abort, code: &Verified) -> Result<(), Fail> {
 
 #[test]
 fn a_contact_is_waited_for(rt: HostRuntime) -> Result<(), Fail> {
-    let code = by_contact(rt.alloc())?;
+    let code = by_contact(rt.alloc(), PLAN)?;
     swaps::<Config>(&rt, &code)?;
     swaps::<Tables>(&rt, &code)
 }
@@ -122,7 +122,7 @@ pub fn frame_by_frame<S: Store>(
 #[test]
 fn what_is_played_is_written(rt: HostRuntime) -> Result<(), Fail> {
     let alloc = rt.alloc();
-    let code = by_contact(alloc)?;
+    let code = by_contact(alloc, PLAN)?;
     let events = events(alloc)?;
     let mut player: Player<Config> = Player::new(&code, start_at(0))?;
     let bytes = frame_by_frame(alloc, &mut player, &events)?;

@@ -88,7 +88,7 @@ fn play_beside<S: Store>(rt: &impl Abort, code: &Verified, plan: Plan) -> Result
 fn frames_are_their_pages(rt: HostRuntime) -> Result<(), Fail> {
     let code = first_swap(rt.alloc(), PLAN, commit_in(24))?;
     play_beside::<Config>(&rt, &code, PLAN)?;
-    let code = by_contact(rt.alloc())?;
+    let code = by_contact(rt.alloc(), PLAN)?;
     play_beside::<Config>(&rt, &code, PLAN)
 }
 

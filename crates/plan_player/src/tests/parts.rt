@@ -87,6 +87,14 @@ pub fn commit_in(delay: u16) -> Instr {
     }
 }
 
+/// Goes on where the contact is closed, else at the target.
+pub fn test(contact: u8, target: u16) -> Instr {
+    match ContactId::new(contact) {
+        Some(contact) => Instr::Test { contact, target },
+        None => Instr::End,
+    }
+}
+
 pub fn set(counter: u8, times: u16) -> Instr {
     match (CounterId::new(counter), Times::new(times)) {
         (Some(counter), Some(times)) => Instr::Set { counter, times },

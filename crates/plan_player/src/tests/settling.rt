@@ -1,31 +1,15 @@
 //! Waiting for a contact during a notice, and settling.
 
-use super::codes::{PLAN, label, programme, start_at, typed};
-use super::parts::{commit_in, rate_sub, third, wait_contact};
+use super::codes::{PLAN, label, programme, settled, start_at, typed};
+use super::parts::third;
 use super::steps::steps;
 use crate::{Player, Start};
 use mux_config::{Config, Store};
 use mux_tables::Tables;
 use plan_code::{Contacts, Instr};
 use plan_verifier::Verified;
-use std::alloc::Global;
 use std::process::Abort;
 use std::test::Fail;
-
-/// Two swaps, and contact 3 is waited for in the notice of the first.
-fn settled(alloc: Global) -> Result<Verified, Fail> {
-    let instrs = [
-        rate_sub(1, 64),
-        commit_in(24),
-        wait_contact(true),
-        Instr::Settle,
-        rate_sub(1, 96),
-        commit_in(24),
-        Instr::Settle,
-        Instr::End,
-    ];
-    typed(alloc, PLAN, &programme(128), &[label(0, 5)], &instrs)
-}
 
 fn settles_in_the_notice<S: Store>(rt: &impl Abort, code: &Verified) -> Result<(), Fail> {
     let start = Start {
@@ -46,14 +30,14 @@ fn settles_in_the_notice<S: Store>(rt: &impl Abort, code: &Verified) -> Result<(
 
 #[test]
 fn a_contact_in_the_notice(rt: HostRuntime) -> Result<(), Fail> {
-    let code = settled(rt.alloc())?;
+    let code = settled(rt.alloc(), PLAN, Instr::Settle)?;
     settles_in_the_notice::<Config>(&rt, &code)?;
     settles_in_the_notice::<Tables>(&rt, &code)
 }
 
 #[test]
 fn a_contact_after_the_swap(rt: HostRuntime) -> Result<(), Fail> {
-    let code = settled(rt.alloc())?;
+    let code = settled(rt.alloc(), PLAN, Instr::Settle)?;
     let mut player: Player<Config> = Player::new(&code, start_at(0))?;
     let mut made = [9u8; 30];
     steps(&mut player, &mut made);

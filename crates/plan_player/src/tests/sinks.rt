@@ -102,7 +102,7 @@ fn a_sink_that_fails_within_a_frame(rt: HostRuntime) -> Result<(), Fail> {
 #[test]
 fn a_sink_that_takes_one_byte_a_call(rt: HostRuntime) -> Result<(), Fail> {
     let alloc = rt.alloc();
-    let code = by_contact(alloc)?;
+    let code = by_contact(alloc, PLAN)?;
     let events = events(alloc)?;
     let mut player: Player<Config> = Player::new(&code, start_at(0))?;
     let bytes = frame_by_frame(alloc, &mut player, &events)?;
