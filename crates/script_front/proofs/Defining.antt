@@ -9,17 +9,29 @@ use Rattle.script_front.specs.declared.tree.Header.{Header}
 use Rattle.script_front.specs.declared.tree.Item.{Item}
 use Rattle.script_front.specs.declared.tree.Statement.{Statement}
 use Rattle.script_front.specs.Block.{nothing, block_of, and_then}
-use Rattle.script_front.specs.Tree.{IsScript, IsHeader, IsItem, Fits, AllFit, IsName, counted, counted_in}
-use Rattle.script_front.specs.Parsing.{IsRead, IsBody, IsNamed, AreDefined, bodies}
+use Rattle.script_front.specs.Tree.{Tree, IsScript, IsHeader, IsItem, Fits, AllFit, IsName, counted, counted_in}
+use Rattle.script_front.specs.declared.keyword.Keyword.TheVariants as the
+use Rattle.script_front.specs.Words.{letters}
+use Rattle.script_front.specs.Reading.{Input, Passes, line_at, line_of}
+use Rattle.script_front.specs.Spelled.{Spelled, name_at, block_words, header_words, items_words, defined_words, begin_words, ItemsOn, BlockOn, DefinedOn}
+use Rattle.script_front.specs.Parsing.{IsRead, IsDefined, AreDefined, AreItems, IsSpelled, bodies}
+use Rattle.script_front.proofs.Definitions.{name_front, name_last, words_agree, on_agree, defined_agree, defined_on_agree, definition_words, one_definition, defined_more, defined_on_more}
 
-pub none_defined : (n : ℕ) (names : List (List ℕ)) → names ≡ [] → AreDefined names n n []
-none_defined n names is = rw (is) (record {
+append_nil : (xs : List (List ℕ)) → xs ++ [] ≡ xs
+append_nil [] = refl
+append_nil (x ∷ xs) = ap (λ (ys : List (List ℕ)). x ∷ ys) (append_nil xs)
+
+pub none_defined : (n : ℕ) (names : List (List ℕ)) (i : Input) → names ≡ [] → AreDefined names n n i i []
+none_defined n names i is = rw (is) (record {
   defined = refl;
   named = All-nil IsName;
   different = λ i j d lt within. absurd (omega arith);
   few = omega arith;
   fit = tt;
   counts = omega arith;
+  spells = refl;
+  lined = tt;
+  same = refl;
 })
 
 fit_more : (k : ℕ) (bs : List (List Statement)) (b : List Statement) → AllFit k bs → Fits (k + length bs) 15 (block_of [] b) → AllFit k (bs ++ b ∷ [])
@@ -40,18 +52,58 @@ bodies_length : (bs : List (Vec Statement Global)) → length (bodies bs) ≡ le
 bodies_length [] = refl
 bodies_length (x ∷ bs) = ap suc (bodies_length bs)
 
-pub define_more : (names more : List (List ℕ)) (old mid new : ℕ) (bs cs : List (Vec Statement Global)) (b : Vec Statement Global) → cs ≡ bs ++ b ∷ []
-    → length bs < 64 → IsNamed names more → IsBody (length names) 16 mid new (block_of [] b.items)
-    → AreDefined names old mid bs → AreDefined more old new cs
-define_more names more old mid new bs cs b is room named body h =
-    let fits : Fits (0 + length (bodies bs)) 15 (block_of [] b.items) = (let e : length names ≡ 0 + length (bodies bs) = (let l = bodies_length bs in let d = h.defined in omega (arith, l, d)) in subst (λ (n : ℕ). Fits n 15 (block_of [] b.items)) e body.fits) in
+-- the words of definitions, and of one more
+more_spelled : (names : List (List ℕ)) (name : List ℕ) (i j k m : Input) (bs : List (List Statement)) (b : List Statement) → length names ≡ length bs
+    → AllFit 0 bs → Fits (length names) 15 (block_of [] b) → i.words ≡ defined_words names 0 bs ++ j.words
+    → j.words ≡ letters the.Define ∷ name ∷ m.words → m.words ≡ letters the.OpenBrace ∷ (block_words names (block_of [] b) ++ letters the.CloseBrace ∷ k.words)
+    → (j.words ≡ definition_words (names ++ name ∷ []) (0 + length bs) b ++ k.words) × (i.words ≡ defined_words (names ++ name ∷ []) 0 (bs ++ b ∷ []) ++ k.words)
+more_spelled names name i j k m bs b len fit fits e f g =
+    let more : List (List ℕ) = names ++ name ∷ [] in
+    let agree = name_front names (name ∷ []) in
+    let number : 0 + length bs ≡ length names = omega (arith, len) in
+    let last : name_at more (0 + length bs) ≡ name = ap (name_at more) number ∙ name_last names name in
+    let body = words_agree (length names) 15 names more agree (block_of [] b) fits in
+    let here : j.words ≡ definition_words more (0 + length bs) b ++ k.words =
+    f ∙ ap (λ (ws : Spelled). letters the.Define ∷ name ∷ ws) (g ∙ ap (λ (ws : Spelled). letters the.OpenBrace ∷ (ws ++ letters the.CloseBrace ∷ k.words)) body)
+    ∙ ap (λ (n : List ℕ). letters the.Define ∷ n ∷ letters the.OpenBrace ∷ (block_words more (block_of [] b) ++ letters the.CloseBrace ∷ k.words)) (sym last)
+    ∙ sym (one_definition more (0 + length bs) b k.words) in (
+      here,
+      e ∙ ap (λ (ws : Spelled). ws ++ j.words) (defined_agree (length names) 0 names more agree bs (omega (arith, len)) fit)
+          ∙ ap (λ (ws : Spelled). defined_words more 0 bs ++ ws) here ∙ sym (defined_more more 0 bs b k.words),
+    )
+
+more_lined : (names : List (List ℕ)) (name : List ℕ) (lines : List ℕ) (j k : Input) (bs : List (List Statement)) (b : List Statement) → length names ≡ length bs
+    → AllFit 0 bs → Fits (length names) 15 (block_of [] b) → j.words ≡ definition_words (names ++ name ∷ []) (0 + length bs) b ++ k.words
+    → DefinedOn names lines 0 bs j.words → BlockOn names lines (block_of [] b) (letters the.CloseBrace ∷ k.words)
+    → DefinedOn (names ++ name ∷ []) lines 0 (bs ++ b ∷ []) k.words
+more_lined names name lines j k bs b len fit fits e h o =
+    let more : List (List ℕ) = names ++ name ∷ [] in
+    let agree = name_front names (name ∷ []) in
+    defined_on_more more lines 0 bs b k.words
+    (defined_on_agree (length names) 0 names more lines agree bs (definition_words more (0 + length bs) b ++ k.words) (omega (arith, len)) fit (subst (λ (ws : Spelled). DefinedOn names lines 0 bs ws) e h))
+    (on_agree (length names) 15 names more lines agree (block_of [] b) _ _ refl fits o)
+
+pub define_more : (names more : List (List ℕ)) (old mid new : ℕ) (i j k : Input) (bs cs : List (Vec Statement Global)) (b : Vec Statement Global) → cs ≡ bs ++ b ∷ []
+    → length bs < 64 → IsDefined names more mid new j k (block_of [] b.items)
+    → AreDefined names old mid i j bs → AreDefined more old new i k cs
+define_more names more old mid new i j k bs cs b is room d h =
+    let named = d.named in
+    let body = d.body in
+    let len : length names ≡ length (bodies bs) = (let l = bodies_length bs in let e = h.defined in omega (arith, l, e)) in
+    let fits : Fits (0 + length (bodies bs)) 15 (block_of [] b.items) = (let e : length names ≡ 0 + length (bodies bs) = omega (arith, len) in subst (λ (n : ℕ). Fits n 15 (block_of [] b.items)) e body.fits) in
+    let spelled = more_spelled names d.name i j k d.middle (bodies bs) b.items len h.fit body.fits h.spells d.begins.0 body.spells in
+    let on : BlockOn names i.lines (block_of [] b.items) (letters the.CloseBrace ∷ k.words) =
+    subst (λ (ls : List ℕ). BlockOn names ls (block_of [] b.items) (letters the.CloseBrace ∷ k.words)) (d.begins.1 ∙ h.same) body.lined in
     rw (is, named.more) (record {
-      defined = (let l = length-append names (named.name ∷ []) in let m = length-append bs (b ∷ []) in let d = h.defined in omega (arith, l, m, d));
-      named = All-push IsName names named.name h.named named.formed;
-      different = all_pairs_push (λ one other. one ≢ other) names named.name h.different named.absent;
+      defined = (let l = length-append names (d.name ∷ []) in let m = length-append bs (b ∷ []) in let e = h.defined in omega (arith, l, m, e));
+      named = All-push IsName names d.name h.named named.formed;
+      different = all_pairs_push (λ one other. one ≢ other) names d.name h.different named.absent;
       few = (let m = length-append bs (b ∷ []) in omega (arith, m));
       fit = rw (bodies_more bs b) (fit_more 0 (bodies bs) b.items h.fit fits);
       counts = (let c = counted_more (bodies bs) b.items in let x = body.counts in let y = h.counts in rw (bodies_more bs b) (omega (arith, c, x, y)));
+      spells = rw (bodies_more bs b) spelled.1;
+      lined = rw (bodies_more bs b) (more_lined names d.name i.lines j k (bodies bs) b.items len h.fit body.fits spelled.0 h.lined on);
+      same = body.same ∙ d.begins.1 ∙ h.same;
     })
 
 -- a name that stands nowhere is none of them
@@ -61,10 +113,10 @@ all_others (n ∷ names) name new zero d lt e = new 0 (ap Some e)
 all_others (n ∷ names) name new (suc k) d lt e = all_others names name (λ i. new (suc i)) k d (omega arith) e
 
 -- the parts of a script, each within its limits
-pub script_formed : (h : Header) (items : List Item) (names : List (List ℕ)) (blocks : List (Vec Statement Global)) (begin last : ℕ) (ss : List Statement) (a b c : ℕ)
-    → IsHeader h → All IsItem items → length items + a ≡ 8192 → AreDefined names a b blocks → IsRead (length names) 16 b c (and_then [] ss)
+pub script_formed : (h : Header) (items : List Item) (names : List (List ℕ)) (blocks : List (Vec Statement Global)) (begin last : ℕ) (ss : List Statement) (a b c : ℕ) (i j k l : Input)
+    → IsHeader h → All IsItem items → length items + a ≡ 8192 → AreDefined names a b i j blocks → IsRead names 16 b c k l (and_then [] ss)
     → IsScript (record { header = h; items = items; names = names; blocks = bodies blocks; begin_line = begin; statements = ss; last_line = last })
-script_formed h items names blocks begin last ss a b c head all counts d r =
+script_formed h items names blocks begin last ss a b c i j k l head all counts d r =
     let same : length names ≡ length (bodies blocks) = d.defined ∙ sym (bodies_length blocks) in
     record {
       headed = head;
@@ -76,4 +128,30 @@ script_formed h items names blocks begin last ss a b c head all counts d r =
       blocks_fit = d.fit;
       fits = subst (λ (n : ℕ). Fits n 16 (block_of [] ss)) same (r.fits nothing tt);
       few = (let x = d.counts in let y = r.counts nothing in omega (arith, x, y, counts));
+    }
+
+-- the parts of a script, in their order
+pub script_spelled : (h : Header) (items : List Item) (names : List (List ℕ)) (blocks : List (Vec Statement Global)) (begin last : ℕ) (ss : List Statement) (a b c : ℕ) (o i j k l m : Input)
+    → Passes (header_words h) o i → AreItems items i j → AreDefined names a b j k blocks → begin ≡ line_of k.lines k.words → Passes (letters the.Begin ∷ []) k l
+    → IsRead names 16 b c l m (and_then [] ss) → m.words ≡ [] → last ≡ line_at o.lines 1
+    → IsSpelled (record { header = h; items = items; names = names; blocks = bodies blocks; begin_line = begin; statements = ss; last_line = last }) o
+script_spelled h items names blocks begin last ss a b c o i j k l m head all d at p r end final =
+    let t : Tree = record { header = h; items = items; names = names; blocks = bodies blocks; begin_line = begin; statements = ss; last_line = last } in
+    let whole : l.words ≡ block_words names (block_of [] ss) = r.spells nothing [] end ∙ append_nil (block_words names (block_of [] ss)) in
+    let from : k.words ≡ begin_words t = p.0 ∙ ap (λ (ws : Spelled). letters the.Begin ∷ ws) whole in
+    let blocks_from : j.words ≡ defined_words names 0 (bodies blocks) ++ begin_words t = d.spells ∙ ap (λ (ws : Spelled). defined_words names 0 (bodies blocks) ++ ws) from in
+    let items_lines : i.lines ≡ o.lines = head.1 in
+    let blocks_lines : j.lines ≡ o.lines = all.spells.1 ∙ head.1 in
+    let begin_lines : k.lines ≡ o.lines = d.same ∙ blocks_lines in
+    let last_lines : l.lines ≡ o.lines = p.1 ∙ begin_lines in
+    let on : BlockOn names l.lines (block_of [] ss) [] = r.lined nothing [] end tt in
+    record {
+      spells = head.0 ∙ ap (λ (ws : Spelled). header_words h ++ ws) (all.spells.0 ∙ ap (λ (ws : Spelled). items_words items ++ ws) blocks_from);
+      lined = record {
+        items = subst (λ (ls : List ℕ). ItemsOn ls items (defined_words names 0 (bodies blocks) ++ begin_words t)) items_lines (subst (λ (ws : Spelled). ItemsOn i.lines items ws) blocks_from all.lined);
+        blocks = subst (λ (ls : List ℕ). DefinedOn names ls 0 (bodies blocks) (begin_words t)) blocks_lines (subst (λ (ws : Spelled). DefinedOn names j.lines 0 (bodies blocks) ws) from d.lined);
+        begin = at ∙ ap (λ (ls : List ℕ). line_of ls k.words) begin_lines ∙ ap (line_of o.lines) from;
+        statements = subst (λ (ls : List ℕ). BlockOn names ls (block_of [] ss) []) last_lines on;
+        last = final;
+      };
     }

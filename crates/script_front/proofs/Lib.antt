@@ -1,6 +1,9 @@
 mod Defining
+mod Definitions
+mod Denoting
 mod Digits
 mod Ending
+mod ItemLists
 mod Lexing
 mod Listing
 mod Naming

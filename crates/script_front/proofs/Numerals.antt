@@ -1,5 +1,5 @@
 -- Hexadecimal digits and times, and their numbers.
-use Rattle.std.proofs.Common.{◌≡◌, ℕ, ◌+◌, ◌-◌, ◌*◌, ◌/◌, ◌%◌, ◌<◌, ◌≤◌, List, [], ◌∷◌, ◌++◌, refl, ap, ◌∙◌, lt-ltb, le-ltb, arith}
+use Rattle.std.proofs.Common.{◌≡◌, ℕ, ◌+◌, ◌-◌, ◌*◌, ◌/◌, ◌%◌, ◌<◌, ◌≤◌, List, [], ◌∷◌, ◌++◌, length, get_or, refl, ap, ◌∙◌, lt-ltb, le-ltb, arith}
 use Rattle.script_front.specs.Spelling.{hex_digit, hex_byte, hex_word, hex_long, two_digits, time_word}
 
 pub low_digit : (b : ℕ) → 48 ≤ b → b ≤ 57 → b ≡ hex_digit (b - 48)
@@ -40,3 +40,17 @@ a_time a b c d e f hours minutes seconds h m s small less =
     let z : (hours * 3600 + minutes * 60 + seconds) % 60 ≡ seconds = omega arith in
     rw (x, y, z) (ap (λ (xs : List ℕ). xs ++ 58 ∷ c ∷ d ∷ 58 ∷ e ∷ f ∷ []) h ∙ ap (λ (xs : List ℕ). two_digits hours ++ 58 ∷ (xs ++ 58 ∷ e ∷ f ∷ [])) m
     ∙ ap (λ (xs : List ℕ). two_digits hours ++ 58 ∷ (two_digits minutes ++ 58 ∷ xs)) s)
+
+-- a list of eight, element by element
+pub eight_bytes : (xs : List ℕ) → 8 ≤ length xs → length xs < 9
+    → xs ≡ get_or xs 0 0 ∷ get_or xs 1 0 ∷ get_or xs 2 0 ∷ get_or xs 3 0 ∷ get_or xs 4 0 ∷ get_or xs 5 0 ∷ get_or xs 6 0 ∷ get_or xs 7 0 ∷ []
+eight_bytes (a ∷ b ∷ c ∷ d ∷ e ∷ f ∷ g ∷ h ∷ []) low high = refl
+eight_bytes [] low high = absurd (omega arith)
+eight_bytes (a ∷ []) low high = absurd (omega arith)
+eight_bytes (a ∷ b ∷ []) low high = absurd (omega arith)
+eight_bytes (a ∷ b ∷ c ∷ []) low high = absurd (omega arith)
+eight_bytes (a ∷ b ∷ c ∷ d ∷ []) low high = absurd (omega arith)
+eight_bytes (a ∷ b ∷ c ∷ d ∷ e ∷ []) low high = absurd (omega arith)
+eight_bytes (a ∷ b ∷ c ∷ d ∷ e ∷ f ∷ []) low high = absurd (omega arith)
+eight_bytes (a ∷ b ∷ c ∷ d ∷ e ∷ f ∷ g ∷ []) low high = absurd (omega arith)
+eight_bytes (a ∷ b ∷ c ∷ d ∷ e ∷ f ∷ g ∷ h ∷ i ∷ xs) low high = absurd (omega arith)

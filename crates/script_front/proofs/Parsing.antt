@@ -1,80 +1,192 @@
--- Statements that are read stay within their ranges, and are counted.
-use Rattle.std.proofs.Common.{◌≡◌, ℕ, ◌+◌, ◌-◌, ◌<◌, ◌≤◌, List, [], ◌∷◌, ◌++◌, refl, ap, subst, arith}
+-- Statements that are read stay within their ranges, are counted, and are those that the words spell.
+use Rattle.std.proofs.Common.{◌≡◌, ℕ, ◌+◌, ◌-◌, ◌<◌, ◌≤◌, List, [], ◌∷◌, ◌++◌, refl, sym, ap, ◌∙◌, subst, append_assoc, arith}
 use Rattle.script_front.specs.declared.tree.Act.{Act}
 use Rattle.script_front.specs.declared.tree.Statement.{Statement}
+use Rattle.script_front.specs.declared.keyword.Keyword.{Keyword}
+use Rattle.script_front.specs.declared.keyword.Keyword.TheVariants as the
+use Rattle.std.specs.Fmt.{decimal}
+use Rattle.script_front.specs.Words.{letters}
+use Rattle.script_front.specs.Reading.{Input, Passes, behind, line_of}
 use Rattle.script_front.specs.Block.{Block, Before, nothing, basic, stop, when, either, repeat, forever, apply, before, and_then, block_of}
+use Rattle.script_front.specs.Spelled.{Spelled, name_at, act_words, braced, block_words, BlockOn}
 use Rattle.script_front.specs.Tree.{IsAct}
-use Rattle.script_front.specs.Parsing.{IsRead, IsBody}
+use Rattle.script_front.specs.Parsing.{IsRead, IsBody, IsApplied}
 
-pub none_read : (known depth n : ℕ) → IsRead known depth n n (and_then [] [])
-none_read known depth n = record { fits = λ b h. h; counts = λ b. refl }
+pub none_read : (names : List (List ℕ)) (depth n : ℕ) (i : Input) → IsRead names depth n n i i (and_then [] [])
+none_read names depth n i = record { fits = λ b h. h; counts = λ b. refl; spells = λ b rest e. e; lined = λ b rest e h. h; same = refl }
 
 and_then_more : (ss : List Statement) (s : Statement) (b : Block) → and_then [] (ss ++ s ∷ []) b ≡ and_then [] ss (before [] s b)
 and_then_more [] s b = refl
 and_then_more (x ∷ ss) s b = ap (before [] x) (and_then_more ss s b)
 
-pub more_read : (known depth old mid new : ℕ) (ss ts : List Statement) (s : Statement) → ts ≡ ss ++ s ∷ []
-    → IsRead known depth old mid (and_then [] ss) → IsRead known depth mid new (before [] s) → IsRead known depth old new (and_then [] ts)
-more_read known depth old mid new ss ts s is h k = rw (is) (record {
-  fits = λ b f. rw (and_then_more ss s b) (h.fits (before [] s b) (k.fits b f));
-  counts = λ b. (let x = h.counts (before [] s b) in let y = k.counts b in rw (and_then_more ss s b) (omega (arith, x, y)));
+pub more_read : (names : List (List ℕ)) (depth old mid new : ℕ) (i j k : Input) (ss ts : List Statement) (s : Statement) → ts ≡ ss ++ s ∷ []
+    → IsRead names depth old mid i j (and_then [] ss) → IsRead names depth mid new j k (before [] s) → IsRead names depth old new i k (and_then [] ts)
+more_read names depth old mid new i j k ss ts s is h l = rw (is) (record {
+  fits = λ b f. rw (and_then_more ss s b) (h.fits (before [] s b) (l.fits b f));
+  counts = λ b. (let x = h.counts (before [] s b) in let y = l.counts b in rw (and_then_more ss s b) (omega (arith, x, y)));
+  spells = λ b rest e. rw (and_then_more ss s b) (h.spells (before [] s b) rest (l.spells b rest e));
+  lined = λ b rest e o. (
+      let here : BlockOn names j.lines b rest = subst (λ (ls : List ℕ). BlockOn names ls b rest) (sym h.same) o in
+      let more = subst (λ (ls : List ℕ). BlockOn names ls (before [] s b) rest) h.same (l.lined b rest e here) in
+      rw (and_then_more ss s b) (h.lined (before [] s b) rest (l.spells b rest e) more)
+      );
+  same = l.same ∙ h.same;
 })
 
-pub act_read : (known depth old line : ℕ) (act : Act) (added : Before) → ((b : Block) → added b ≡ basic line act b) → 1 ≤ old → IsAct act
-    → IsRead known depth old (old - 1) added
-act_read known depth old line act added is some formed = record {
+-- the input is the one before a word that was passed
+pub same_input : (i : Input) (ws : Spelled) (ls : List ℕ) → i.words ≡ ws → i.lines ≡ ls → i ≡ record { words = ws; lines = ls }
+same_input i ws ls e f = let step : i ≡ record { words = ws; lines = i.lines } = ap (λ (w : Spelled). (let r : Input = record { words = w; lines = i.lines } in r)) e in
+    step ∙ ap (λ (l : List ℕ). (let r : Input = record { words = ws; lines = l } in r)) f
+
+pub from_behind : (k : Keyword) (names : List (List ℕ)) (depth old new : ℕ) (i j l : Input) (added : Before) → i.words ≡ letters k ∷ j.words → j.lines ≡ i.lines
+    → IsRead names depth old new (behind k j) l added → IsRead names depth old new i l added
+from_behind k names depth old new i j l added e f h = subst (λ (x : Input). IsRead names depth old new x l added) (sym (same_input i (letters k ∷ j.words) j.lines e (sym f))) h
+
+act_spells : (names : List (List ℕ)) (line : ℕ) (act : Act) (i j : Input) (b : Block) (rest : Spelled) → i.words ≡ act_words act ++ j.words → j.words ≡ block_words names b ++ rest
+    → i.words ≡ block_words names (basic line act b) ++ rest
+act_spells names line act i j b rest p e = p ∙ ap (λ (ws : Spelled). act_words act ++ ws) e ∙ sym (append_assoc (act_words act) (block_words names b) rest)
+
+pub act_read : (names : List (List ℕ)) (depth old line : ℕ) (act : Act) (i j : Input) (added : Before) → ((b : Block) → added b ≡ basic line act b) → 1 ≤ old → IsAct act
+    → Passes (act_words act) i j → line ≡ line_of i.lines i.words → IsRead names depth old (old - 1) i j added
+act_read names depth old line act i j added is some formed p at = record {
   fits = λ b f. rw (is b) (formed, f);
   counts = λ b. rw (is b) (omega arith);
+  spells = λ b rest e. rw (is b) (act_spells names line act i j b rest p.0 e);
+  lined = λ b rest e o. rw (is b) (at ∙ ap (line_of i.lines) (act_spells names line act i j b rest p.0 e), o);
+  same = p.1;
 }
 
-pub stop_read : (known depth old line : ℕ) (added : Before) → ((b : Block) → added b ≡ stop line b) → 1 ≤ old → IsRead known depth old (old - 1) added
-stop_read known depth old line added is some = record {
+pub stop_read : (names : List (List ℕ)) (depth old line : ℕ) (i j : Input) (added : Before) → ((b : Block) → added b ≡ stop line b) → 1 ≤ old
+    → Passes (letters the.End ∷ []) i j → line ≡ line_of i.lines i.words → IsRead names depth old (old - 1) i j added
+stop_read names depth old line i j added is some p at = record {
   fits = λ b f. rw (is b) f;
   counts = λ b. rw (is b) (omega arith);
+  spells = λ b rest e. rw (is b) (p.0 ∙ ap (λ (ws : Spelled). letters the.End ∷ ws) e);
+  lined = λ b rest e o. rw (is b) (at ∙ ap (line_of i.lines) (p.0 ∙ ap (λ (ws : Spelled). letters the.End ∷ ws) e), o);
+  same = p.1;
 }
 
-pub apply_read : (known depth old line number : ℕ) (added : Before) → ((b : Block) → added b ≡ apply line number nothing b) → 1 ≤ old → number < known
-    → IsRead known depth old (old - 1) added
-apply_read known depth old line number added is some within = record {
-  fits = λ b f. rw (is b) (within, f);
-  counts = λ b. rw (is b) (omega arith);
+apply_spells : (names : List (List ℕ)) (line number : ℕ) (i j k : Input) (b : Block) (rest : Spelled) → i.words ≡ letters the.Apply ∷ j.words → j.words ≡ name_at names number ∷ k.words
+    → k.words ≡ block_words names b ++ rest → i.words ≡ block_words names (apply line number nothing b) ++ rest
+apply_spells names line number i j k b rest p q e = p ∙ ap (λ (ws : Spelled). letters the.Apply ∷ ws) (q ∙ ap (λ (ws : Spelled). name_at names number ∷ ws) e)
+
+pub apply_read : (names : List (List ℕ)) (depth old line : ℕ) (i j k : Input) (added : Before) → 1 ≤ old → Passes (letters the.Apply ∷ []) i j → IsApplied names line j k added
+    → line ≡ line_of i.lines i.words → IsRead names depth old (old - 1) i k added
+apply_read names depth old line i j k added some p a at = record {
+  fits = λ b f. rw (a.is b) (a.known, f);
+  counts = λ b. rw (a.is b) (omega arith);
+  spells = λ b rest e. rw (a.is b) (apply_spells names line a.number i j k b rest p.0 a.spells.0 e);
+  lined = λ b rest e o. rw (a.is b) (at ∙ ap (line_of i.lines) (apply_spells names line a.number i j k b rest p.0 a.spells.0 e), o);
+  same = a.spells.1 ∙ p.1;
 }
 
-pub when_read : (known depth old new line contact : ℕ) (first : Block) (added : Before) → ((b : Block) → added b ≡ when line contact first b) → contact < 16
-    → IsBody known depth old new first → IsRead known depth (old + 1) new added
-when_read known depth old new line contact first added is small h = record {
+-- ---- blocks in braces
+
+before_rest : (body tail rest ws : Spelled) → ws ≡ tail ++ rest → letters the.OpenBrace ∷ (body ++ letters the.CloseBrace ∷ ws) ≡ braced body tail ++ rest
+before_rest body tail rest ws e =
+    ap (λ (x : Spelled). letters the.OpenBrace ∷ (body ++ letters the.CloseBrace ∷ x)) e
+    ∙ ap (λ (x : Spelled). letters the.OpenBrace ∷ x) (sym (append_assoc body (letters the.CloseBrace ∷ tail) rest))
+
+body_on : (names : List (List ℕ)) (depth old new : ℕ) (i j : Input) (b : Block) (lines : List ℕ) (tail : Spelled) → IsBody names depth old new i j b → i.lines ≡ lines → j.words ≡ tail
+    → BlockOn names lines b (letters the.CloseBrace ∷ tail)
+body_on names depth old new i j b lines tail h f e =
+    subst (λ (ls : List ℕ). BlockOn names ls b (letters the.CloseBrace ∷ tail)) f (subst (λ (ws : Spelled). BlockOn names i.lines b (letters the.CloseBrace ∷ ws)) e h.lined)
+
+if_spells : (names : List (List ℕ)) (line contact : ℕ) (i j k : Input) (first b : Block) (rest : Spelled) → i.words ≡ letters the.Contact ∷ decimal contact ∷ j.words
+    → j.words ≡ letters the.OpenBrace ∷ (block_words names first ++ letters the.CloseBrace ∷ k.words) → k.words ≡ block_words names b ++ rest
+    → letters the.If ∷ i.words ≡ block_words names (when line contact first b) ++ rest
+if_spells names line contact i j k first b rest p q e =
+    ap (λ (ws : Spelled). letters the.If ∷ ws) (p ∙ ap (λ (ws : Spelled). letters the.Contact ∷ decimal contact ∷ ws) (q ∙ before_rest (block_words names first) (block_words names b) rest k.words e))
+
+pub when_read : (names : List (List ℕ)) (depth old new line contact : ℕ) (i j k : Input) (first : Block) (added : Before) → ((b : Block) → added b ≡ when line contact first b) → contact < 16
+    → Passes (letters the.Contact ∷ decimal contact ∷ []) i j → IsBody names depth old new j k first → line ≡ line_of i.lines (letters the.If ∷ i.words)
+    → IsRead names depth (old + 1) new (behind the.If i) k added
+when_read names depth old new line contact i j k first added is small p h at = record {
   fits = λ b f. rw (is b) (h.room, small, h.fits, f);
   counts = λ b. (let x = h.counts in rw (is b) (omega (arith, x)));
+  spells = λ b rest e. rw (is b) (if_spells names line contact i j k first b rest p.0 h.spells e);
+  lined = λ b rest e o. rw (is b) (at ∙ ap (line_of i.lines) (if_spells names line contact i j k first b rest p.0 h.spells e), body_on names depth old new j k first i.lines (block_words names b ++ rest) h p.1 e, o);
+  same = h.same ∙ p.1;
 }
 
-pub either_read : (known depth old mid new line contact : ℕ) (first second : Block) (added : Before) → ((b : Block) → added b ≡ either line contact first second b) → contact < 16
-    → IsBody known depth old mid first → IsBody known depth mid new second → IsRead known depth (old + 1) new added
-either_read known depth old mid new line contact first second added is small h k = record {
-  fits = λ b f. rw (is b) (h.room, small, h.fits, k.fits, f);
-  counts = λ b. (let x = h.counts in let y = k.counts in rw (is b) (omega (arith, x, y)));
+else_spells : (names : List (List ℕ)) (k l m : Input) (second b : Block) (rest : Spelled) → k.words ≡ letters the.Else ∷ l.words
+    → l.words ≡ letters the.OpenBrace ∷ (block_words names second ++ letters the.CloseBrace ∷ m.words) → m.words ≡ block_words names b ++ rest
+    → k.words ≡ (letters the.Else ∷ braced (block_words names second) (block_words names b)) ++ rest
+else_spells names k l m second b rest p q e = p ∙ ap (λ (ws : Spelled). letters the.Else ∷ ws) (q ∙ before_rest (block_words names second) (block_words names b) rest m.words e)
+
+either_spells : (names : List (List ℕ)) (line contact : ℕ) (i j k : Input) (first second b : Block) (rest : Spelled) → i.words ≡ letters the.Contact ∷ decimal contact ∷ j.words
+    → j.words ≡ letters the.OpenBrace ∷ (block_words names first ++ letters the.CloseBrace ∷ k.words) → k.words ≡ (letters the.Else ∷ braced (block_words names second) (block_words names b)) ++ rest
+    → letters the.If ∷ i.words ≡ block_words names (either line contact first second b) ++ rest
+either_spells names line contact i j k first second b rest p q e =
+    ap (λ (ws : Spelled). letters the.If ∷ ws) (p ∙ ap (λ (ws : Spelled). letters the.Contact ∷ decimal contact ∷ ws) (
+    q ∙ before_rest (block_words names first) (letters the.Else ∷ braced (block_words names second) (block_words names b)) rest k.words e))
+
+pub either_read : (names : List (List ℕ)) (depth old mid new line contact : ℕ) (i j k l m : Input) (first second : Block) (added : Before) → ((b : Block) → added b ≡ either line contact first second b) → contact < 16
+    → Passes (letters the.Contact ∷ decimal contact ∷ []) i j → IsBody names depth old mid j k first → Passes (letters the.Else ∷ []) k l → IsBody names depth mid new l m second
+    → line ≡ line_of i.lines (letters the.If ∷ i.words) → IsRead names depth (old + 1) new (behind the.If i) m added
+either_read names depth old mid new line contact i j k l m first second added is small p h q g at = record {
+  fits = λ b f. rw (is b) (h.room, small, h.fits, g.fits, f);
+  counts = λ b. (let x = h.counts in let y = g.counts in rw (is b) (omega (arith, x, y)));
+  spells = λ b rest e. rw (is b) (either_spells names line contact i j k first second b rest p.0 h.spells (else_spells names k l m second b rest q.0 g.spells e));
+  lined = λ b rest e o. (
+      let later = else_spells names k l m second b rest q.0 g.spells e in
+      rw (is b) (
+        at ∙ ap (line_of i.lines) (either_spells names line contact i j k first second b rest p.0 h.spells later),
+        body_on names depth old mid j k first i.lines (letters the.Else ∷ (braced (block_words names second) (block_words names b) ++ rest)) h p.1 later,
+        body_on names depth mid new l m second i.lines (block_words names b ++ rest) g (q.1 ∙ h.same ∙ p.1) e,
+        o,
+      )
+      );
+  same = g.same ∙ q.1 ∙ h.same ∙ p.1;
 }
 
-pub repeat_read : (known depth old new line times : ℕ) (body : Block) (added : Before) → ((b : Block) → added b ≡ repeat line times body b) → 1 ≤ times → times < 65536
-    → IsBody known depth old new body → IsRead known depth (old + 1) new added
-repeat_read known depth old new line times body added is some small h = record {
+repeat_spells : (names : List (List ℕ)) (line times : ℕ) (i j k : Input) (body b : Block) (rest : Spelled) → i.words ≡ decimal times ∷ j.words
+    → j.words ≡ letters the.OpenBrace ∷ (block_words names body ++ letters the.CloseBrace ∷ k.words) → k.words ≡ block_words names b ++ rest
+    → letters the.Repeat ∷ i.words ≡ block_words names (repeat line times body b) ++ rest
+repeat_spells names line times i j k body b rest p q e =
+    ap (λ (ws : Spelled). letters the.Repeat ∷ ws) (p ∙ ap (λ (ws : Spelled). decimal times ∷ ws) (q ∙ before_rest (block_words names body) (block_words names b) rest k.words e))
+
+pub repeat_read : (names : List (List ℕ)) (depth old new line times : ℕ) (i j k : Input) (body : Block) (added : Before) → ((b : Block) → added b ≡ repeat line times body b) → 1 ≤ times → times < 65536
+    → Passes (decimal times ∷ []) i j → IsBody names depth old new j k body → line ≡ line_of i.lines (letters the.Repeat ∷ i.words)
+    → IsRead names depth (old + 1) new (behind the.Repeat i) k added
+repeat_read names depth old new line times i j k body added is some small p h at = record {
   fits = λ b f. rw (is b) (h.room, some, small, h.fits, f);
   counts = λ b. (let x = h.counts in rw (is b) (omega (arith, x)));
+  spells = λ b rest e. rw (is b) (repeat_spells names line times i j k body b rest p.0 h.spells e);
+  lined = λ b rest e o. rw (is b) (at ∙ ap (line_of i.lines) (repeat_spells names line times i j k body b rest p.0 h.spells e), body_on names depth old new j k body i.lines (block_words names b ++ rest) h p.1 e, o);
+  same = h.same ∙ p.1;
 }
 
-pub forever_read : (known depth old new line : ℕ) (body : Block) (added : Before) → ((b : Block) → added b ≡ forever line body b)
-    → IsBody known depth old new body → IsRead known depth (old + 1) new added
-forever_read known depth old new line body added is h = record {
+forever_spells : (names : List (List ℕ)) (line : ℕ) (i k : Input) (body b : Block) (rest : Spelled)
+    → i.words ≡ letters the.OpenBrace ∷ (block_words names body ++ letters the.CloseBrace ∷ k.words) → k.words ≡ block_words names b ++ rest
+    → letters the.Forever ∷ i.words ≡ block_words names (forever line body b) ++ rest
+forever_spells names line i k body b rest q e = ap (λ (ws : Spelled). letters the.Forever ∷ ws) (q ∙ before_rest (block_words names body) (block_words names b) rest k.words e)
+
+pub forever_read : (names : List (List ℕ)) (depth old new line : ℕ) (i k : Input) (body : Block) (added : Before) → ((b : Block) → added b ≡ forever line body b)
+    → IsBody names depth old new i k body → line ≡ line_of i.lines (letters the.Forever ∷ i.words)
+    → IsRead names depth (old + 1) new (behind the.Forever i) k added
+forever_read names depth old new line i k body added is h at = record {
   fits = λ b f. rw (is b) (h.room, h.fits, f);
   counts = λ b. (let x = h.counts in rw (is b) (omega (arith, x)));
+  spells = λ b rest e. rw (is b) (forever_spells names line i k body b rest h.spells e);
+  lined = λ b rest e o. rw (is b) (at ∙ ap (line_of i.lines) (forever_spells names line i k body b rest h.spells e), body_on names depth old new i k body i.lines (block_words names b ++ rest) h refl e, o);
+  same = h.same;
 }
 
 -- one more may follow, and is taken
-pub taken_read : (known depth old new : ℕ) (added : Before) → 1 ≤ old → IsRead known depth (old - 1 + 1) new added → IsRead known depth old new added
-taken_read known depth old new added some h = let e : old - 1 + 1 ≡ old = omega arith in subst (λ (n : ℕ). IsRead known depth n new added) e h
+pub taken_read : (k : Keyword) (names : List (List ℕ)) (depth old new : ℕ) (i j l : Input) (added : Before) → 1 ≤ old → Passes (letters k ∷ []) i j
+    → IsRead names depth (old - 1 + 1) new (behind k j) l added → IsRead names depth old new i l added
+taken_read k names depth old new i j l added some p h =
+    let e : old - 1 + 1 ≡ old = omega arith in
+    from_behind k names depth old new i j l added p.0 p.1 (subst (λ (n : ℕ). IsRead names depth n new (behind k j) l added) e h)
 
-pub body_read : (known depth old new : ℕ) (ss : List Statement) → 1 ≤ depth → IsRead known (depth - 1) old new (and_then [] ss) → IsBody known depth old new (block_of [] ss)
-body_read known depth old new ss room h = record {
+pub body_read : (names : List (List ℕ)) (depth old new : ℕ) (i j k l : Input) (ss : List Statement) → 1 ≤ depth → Passes (letters the.OpenBrace ∷ []) i j
+    → IsRead names (depth - 1) old new j k (and_then [] ss) → Passes (letters the.CloseBrace ∷ []) k l → IsBody names depth old new i l (block_of [] ss)
+body_read names depth old new i j k l ss room p h q = record {
   room = room;
   fits = h.fits nothing tt;
   counts = (let x = h.counts nothing in omega (arith, x));
+  spells = p.0 ∙ ap (λ (ws : Spelled). letters the.OpenBrace ∷ ws) (h.spells nothing (letters the.CloseBrace ∷ l.words) q.0);
+  lined = subst (λ (ls : List ℕ). BlockOn names ls (block_of [] ss) (letters the.CloseBrace ∷ l.words)) p.1 (h.lined nothing (letters the.CloseBrace ∷ l.words) q.0 tt);
+  same = q.1 ∙ h.same ∙ p.1;
 }

@@ -1,8 +1,10 @@
 pub mod Block
 pub mod Bytes
+pub mod Denoting
 pub mod Lexing
 pub mod Parsing
 pub mod Reading
+pub mod Spelled
 pub mod Spelling
 pub mod Texts
 pub mod Times

@@ -1,39 +1,48 @@
--- The words of a text's tokens, with their lines.
-use Rattle.std.specs.Prelude.{◌≡◌, ℕ, ◌<◌, ◌≤◌, List, [], ◌∷◌, slice_range}
+-- The words of a text's tokens, and the lines that they stand on.
+use Rattle.std.specs.Prelude.{◌≡◌, ℕ, ◌-◌, ◌<◌, ◌≤◌, List, [], ◌∷◌, ◌++◌, map, length, slice_range, slice_index_or}
 use Rattle.script_front.specs.declared.token.Token.{Token}
+use Rattle.script_front.specs.declared.keyword.Keyword.{Keyword}
+use Rattle.script_front.specs.Words.{letters}
 
-pub record Lexeme : Type 0 where
-  pub bytes : List ℕ
-  pub line : ℕ
+abbrev pub words_of : List ℕ → List Token → List (List ℕ)
+words_of bytes [] = []
+words_of bytes (t ∷ ts) = slice_range bytes t.start t.end ∷ words_of bytes ts
 
-abbrev pub Input : Type 0
-Input = List Lexeme
+abbrev pub lines_of : List Token → List ℕ
+lines_of tokens = map (λ t. t.position.line) tokens
 
-abbrev pub lexeme_of : List ℕ → Token → Lexeme
-lexeme_of bytes t = record { bytes = slice_range bytes t.start t.end; line = t.position.line }
+-- what is left of a text: the words, and the lines of all of its tokens
+pub record Input : Type 0 where
+  pub words : List (List ℕ)
+  pub lines : List ℕ
 
-abbrev pub lexemes_of : List ℕ → List Token → Input
-lexemes_of bytes [] = []
-lexemes_of bytes (t ∷ ts) = lexeme_of bytes t ∷ lexemes_of bytes ts
+-- the line of the token from which on so many are left
+abbrev pub line_at : List ℕ → (left : ℕ) → ℕ
+line_at lines left = slice_index_or lines (length lines - left) 0
 
--- the words themselves
-abbrev pub words : Input → List (List ℕ)
-words [] = []
-words (l ∷ ls) = l.bytes ∷ words ls
+-- the line of the first of the last words
+abbrev pub line_of : List ℕ → List (List ℕ) → ℕ
+line_of lines words = line_at lines (length words)
 
--- the line of the last word
-abbrev pub last_line : Input → ℕ
-last_line [] = 0
-last_line (l ∷ []) = l.line
-last_line (l ∷ m ∷ ls) = last_line (m ∷ ls)
+-- these words are read from the front
+abbrev pub Passes : List (List ℕ) → (old new : Input) → Type 0
+Passes words old new = (old.words ≡ words ++ new.words) × (new.lines ≡ old.lines)
+
+-- the input before this word was passed
+abbrev pub behind : Keyword → Input → Input
+behind keyword input = record { words = letters keyword ∷ input.words; lines = input.lines }
 
 -- spans are not empty and within the text, and lines within the limit of a script
 abbrev pub AreWithin : ℕ → List Token → Type 0
 AreWithin n [] = Unit {0}
 AreWithin n (t ∷ ts) = (t.start < t.end) × (t.end ≤ n) × (t.position.line ≤ 65535) × AreWithin n ts
 
+-- these tokens are the last ones of all
+pub record AreLastOf (all tokens : List Token) : Type 0 where
+  pub front : List Token
+  pub whole : all ≡ front ++ tokens
+
 -- the next word has these bytes
-pub record BeginsWith (input : Input) (bytes : List ℕ) : Type 0 where
-  pub line : ℕ
-  pub rest : Input
-  pub begins : input ≡ record { bytes = bytes; line = line } ∷ rest
+pub record BeginsWith (words : List (List ℕ)) (bytes : List ℕ) : Type 0 where
+  pub rest : List (List ℕ)
+  pub begins : words ≡ bytes ∷ rest

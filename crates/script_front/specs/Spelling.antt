@@ -3,6 +3,8 @@ use Rattle.std.specs.Prelude.{ℕ, ◌+◌, ◌/◌, ◌%◌, List, [], ◌∷�
 use Rattle.mux_eep.specs.declared.sizes.EepSet.{EepSet}
 use Rattle.mux_eep.specs.declared.sizes.EepSet.TheVariants.{A, B}
 use Rattle.mux_eep.specs.Sizes.{Profile}
+use Rattle.mux_config.specs.declared.numbers.Sid.{Sid}
+use Rattle.mux_config.specs.declared.numbers.Sid.TheVariants.{Short, Long}
 
 -- a digit 0-9 or A-F
 abbrev pub hex_digit : ℕ → ℕ
@@ -32,3 +34,8 @@ two_digits n = (48 + n / 10) ∷ (48 + n % 10) ∷ []
 -- `HH:MM:SS`
 abbrev pub time_word : ℕ → List ℕ
 time_word second = two_digits (second / 3600) ++ 58 ∷ (two_digits (second / 60 % 60) ++ 58 ∷ two_digits (second % 60))
+
+-- four digits for a short SId, eight for a long one
+abbrev pub sid_word : Sid → List ℕ
+sid_word (Short n) = hex_word n
+sid_word (Long n) = hex_long n

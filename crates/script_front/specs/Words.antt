@@ -4,7 +4,7 @@ use Rattle.std.specs.Str.{bytes_eq}
 use Rattle.script_front.specs.declared.keyword.Keyword.{Keyword}
 use Rattle.script_front.specs.declared.keyword.Keyword.TheVariants.{Ensemble, Mode, Period, Notice, Budget, Define, Begin, Sub, At, Eep, Service, Audio, In, Data, Carry, Packet, Groups, Raw, TypeWord, Address, Drop, Component, Move, Rate, Wait, Contact, Closed, Open, Until, Commit, Join, Settle, End, If, Else, Repeat, Forever, Apply, OpenBrace, CloseBrace}
 
-abbrev pub letters : Keyword → List ℕ
+unfoldable pub letters : Keyword → List ℕ
 letters Ensemble = codes "ensemble"
 letters Mode = codes "mode"
 letters Period = codes "period"

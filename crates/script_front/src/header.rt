@@ -1,6 +1,11 @@
 //! Reading the header of a script.
 
-ghost use Rattle.std.specs.Prelude.{◌≡◌, ◌<◌, ◌≤◌, length, IfOk, OnOk};
+ghost use Rattle.std.specs.Prelude.{◌≡◌, ◌<◌, ◌≤◌, ◌∷◌, [], length, IfOk, OnOk};
+ghost use Rattle.std.specs.Fmt.{decimal};
+ghost use Rattle.script_front.specs.declared.keyword.Keyword.TheVariants as the;
+ghost use Rattle.script_front.specs.Words.{letters};
+ghost use Rattle.script_front.specs.Reading.{Passes, behind};
+ghost use Rattle.script_front.specs.Spelled.{mode_words, header_words};
 ghost use Rattle.script_front.specs.Tree.{IsHeader};
 
 use crate::fault::ScriptFault;
@@ -12,8 +17,9 @@ use fib_codec::Mode;
 
 /// A number from `low` to `high` behind this word.
 fn declared(reader: &mut Reader, keyword: Keyword, low: u8, high: u8) -> Result<u8, ScriptFault>
+    ensures spells { IfOk result (λ n. Passes (letters keyword ∷ decimal n ∷ []) reader.old reader.new) }
     ensures range { IfOk result (λ n. (low ≤ n) × (n ≤ high)) }
-    ensures shorter { OnOk result (length reader.new < length reader.old) }
+    ensures shorter { OnOk result (length reader.new.words < length reader.old.words) }
 {
     reader.expect(keyword)?;
     let value = decimal(reader, u32::from(low), u32::from(high))?;
@@ -22,7 +28,8 @@ fn declared(reader: &mut Reader, keyword: Keyword, low: u8, high: u8) -> Result<
 
 /// `mode MODE`, or mode I where no `mode` stands
 fn mode(reader: &mut Reader) -> Result<Mode, ScriptFault>
-    ensures shorter { OnOk result (length reader.new ≤ length reader.old) }
+    ensures spells { IfOk result (λ m. Passes (mode_words m) reader.old reader.new) }
+    ensures shorter { OnOk result (length reader.new.words ≤ length reader.old.words) }
 {
     match reader.keyword() {
         Some(Keyword::Mode) => {
@@ -35,7 +42,8 @@ fn mode(reader: &mut Reader) -> Result<Mode, ScriptFault>
 
 /// A mode from II to IV, as 2, 3 or 4
 fn later_mode(reader: &mut Reader) -> Result<Mode, ScriptFault>
-    ensures shorter { OnOk result (length reader.new < length reader.old) }
+    ensures spells { IfOk result (λ m. Passes (mode_words m) (behind the.Mode reader.old) reader.new) }
+    ensures shorter { OnOk result (length reader.new.words < length reader.old.words) }
 {
     let number = decimal(reader, 2, 4)?;
     match number {
@@ -47,8 +55,9 @@ fn later_mode(reader: &mut Reader) -> Result<Mode, ScriptFault>
 
 /// `ensemble EID [mode MODE] period P notice W budget B`
 pub fn header(reader: &mut Reader) -> Result<Header, ScriptFault>
+    ensures spells { IfOk result (λ h. Passes (header_words h) reader.old reader.new) }
     ensures range { IfOk result IsHeader }
-    ensures shorter { OnOk result (length reader.new < length reader.old) }
+    ensures shorter { OnOk result (length reader.new.words < length reader.old.words) }
 {
     reader.expect(Keyword::Ensemble)?;
     let eid = eid(reader)?;

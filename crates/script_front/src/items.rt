@@ -4,8 +4,14 @@ ghost use Rattle.std.specs.Prelude.{◌≡◌, ℕ, ◌+◌, ◌++◌, ◌∷◌
 ghost use Rattle.std.specs.List.{All};
 ghost use Rattle.mux_config.specs.Configuration.{IsSid, IsComponent};
 ghost use Rattle.plan_code.specs.Program.{IsEdit, IsNewSub, IsNewPacket, IsCarrier};
+ghost use Rattle.std.specs.Fmt.{decimal};
+ghost use Rattle.mux_config.specs.declared.edit.Edit.TheVariants.{AddSub, AddPacket};
+ghost use Rattle.script_front.specs.declared.keyword.Keyword.TheVariants as the;
+ghost use Rattle.script_front.specs.Words.{letters};
+ghost use Rattle.script_front.specs.Reading.{Passes, behind, line_of};
+ghost use Rattle.script_front.specs.Spelled.{in_words, groups_word, carried_words, carrier_words, edit_words, level_word, act_words, items_words};
 ghost use Rattle.script_front.specs.Tree.{IsAct, IsItem, Adds};
-ghost use Rattle.script_front.specs.Parsing.{IsOneMore};
+ghost use Rattle.script_front.specs.Parsing.{IsOneMore, AreItems};
 
 use crate::fault::ScriptFault;
 use crate::keyword::Keyword;
@@ -19,8 +25,9 @@ use std::alloc::Global;
 
 /// `sub ID`
 fn sub(reader: &mut Reader) -> Result<SubId, ScriptFault>
+    ensures spells { IfOk result (λ s. Passes (letters the.Sub ∷ decimal s ∷ []) reader.old reader.new) }
     ensures range { IfOk result (λ s. s < 64) }
-    ensures shorter { OnOk result (length reader.new < length reader.old) }
+    ensures shorter { OnOk result (length reader.new.words < length reader.old.words) }
 {
     reader.expect(Keyword::Sub)?;
     sub_id(reader)
@@ -28,8 +35,9 @@ fn sub(reader: &mut Reader) -> Result<SubId, ScriptFault>
 
 /// `in SID`
 fn in_service(reader: &mut Reader) -> Result<Sid, ScriptFault>
+    ensures spells { IfOk result (λ s. Passes (in_words s) reader.old reader.new) }
     ensures range { IfOk result IsSid }
-    ensures shorter { OnOk result (length reader.new < length reader.old) }
+    ensures shorter { OnOk result (length reader.new.words < length reader.old.words) }
 {
     reader.expect(Keyword::In)?;
     sid(reader)
@@ -37,8 +45,9 @@ fn in_service(reader: &mut Reader) -> Result<Sid, ScriptFault>
 
 /// `ID at START eep PROFILE RATE`
 fn new_sub(reader: &mut Reader) -> Result<NewSub, ScriptFault>
+    ensures spells { IfOk result (λ s. Passes (edit_words (AddSub s)) (behind the.Sub reader.old) reader.new) }
     ensures range { IfOk result IsNewSub }
-    ensures shorter { OnOk result (length reader.new < length reader.old) }
+    ensures shorter { OnOk result (length reader.new.words < length reader.old.words) }
 {
     let id = sub_id(reader)?;
     reader.expect(Keyword::At)?;
@@ -51,8 +60,9 @@ fn new_sub(reader: &mut Reader) -> Result<NewSub, ScriptFault>
 
 /// `SCID groups type TYPE sub ID address ADDR`, or `raw` in place of `groups`
 fn new_packet(reader: &mut Reader) -> Result<Packet, ScriptFault>
+    ensures spells { IfOk result (λ p. Passes (edit_words (AddPacket p)) (behind the.Packet reader.old) reader.new) }
     ensures range { IfOk result IsNewPacket }
-    ensures shorter { OnOk result (length reader.new < length reader.old) }
+    ensures shorter { OnOk result (length reader.new.words < length reader.old.words) }
 {
     let scid = sc_id(reader)?;
     let dg = data_groups(reader)?;
@@ -72,7 +82,8 @@ fn new_packet(reader: &mut Reader) -> Result<Packet, ScriptFault>
 
 /// `groups`, which is sent as 0, or `raw`, which is sent as 1
 fn data_groups(reader: &mut Reader) -> Result<bool, ScriptFault>
-    ensures shorter { OnOk result (length reader.new < length reader.old) }
+    ensures spells { IfOk result (λ b. Passes (groups_word b ∷ []) reader.old reader.new) }
+    ensures shorter { OnOk result (length reader.new.words < length reader.old.words) }
 {
     match reader.keyword() {
         Some(Keyword::Groups) => {
@@ -89,8 +100,9 @@ fn data_groups(reader: &mut Reader) -> Result<bool, ScriptFault>
 
 /// `TYPE sub ID`
 fn typed_sub(reader: &mut Reader) -> Result<(ScTy, SubId), ScriptFault>
+    ensures spells { IfOk result (λ p. Passes (decimal p.0 ∷ letters the.Sub ∷ decimal p.1 ∷ []) reader.old reader.new) }
     ensures range { IfOk result (λ p. (p.0 < 64) × (p.1 < 64)) }
-    ensures shorter { OnOk result (length reader.new < length reader.old) }
+    ensures shorter { OnOk result (length reader.new.words < length reader.old.words) }
 {
     let ty = sc_ty(reader)?;
     let sub = sub(reader)?;
@@ -99,9 +111,10 @@ fn typed_sub(reader: &mut Reader) -> Result<(ScTy, SubId), ScriptFault>
 
 /// `audio`, `data` or `carry` with what follows
 fn component(reader: &mut Reader, first: Keyword) -> Result<Edit, ScriptFault>
+    ensures spells { IfOk result (λ e. Passes (edit_words e) (behind first reader.old) reader.new) }
     ensures range { IfOk result IsEdit }
     ensures adds { IfOk result Adds }
-    ensures shorter { OnOk result (length reader.new < length reader.old) }
+    ensures shorter { OnOk result (length reader.new.words < length reader.old.words) }
 {
     let component = carried(reader, first)?;
     let sid = in_service(reader)?;
@@ -110,8 +123,9 @@ fn component(reader: &mut Reader, first: Keyword) -> Result<Edit, ScriptFault>
 
 /// What is carried, up to before `in`
 fn carried(reader: &mut Reader, first: Keyword) -> Result<Component, ScriptFault>
+    ensures spells { IfOk result (λ m. Passes (carried_words m) (behind first reader.old) reader.new) }
     ensures range { IfOk result IsComponent }
-    ensures shorter { OnOk result (length reader.new < length reader.old) }
+    ensures shorter { OnOk result (length reader.new.words < length reader.old.words) }
 {
     match first {
         Keyword::Audio => {
@@ -122,18 +136,20 @@ fn carried(reader: &mut Reader, first: Keyword) -> Result<Component, ScriptFault
             let (ty, sub) = typed_sub(reader)?;
             Ok(Component::Stream { ty, sub })
         }
-        _ => {
+        Keyword::Carry => {
             let scid = sc_id(reader)?;
             Ok(Component::Packet { scid })
         }
+        _ => Err(reader.expected()),
     }
 }
 
 /// An item after its first word.
 fn item(reader: &mut Reader, first: Keyword) -> Result<Edit, ScriptFault>
+    ensures spells { IfOk result (λ e. Passes (edit_words e) (behind first reader.old) reader.new) }
     ensures range { IfOk result IsEdit }
     ensures adds { IfOk result Adds }
-    ensures shorter { OnOk result (length reader.new < length reader.old) }
+    ensures shorter { OnOk result (length reader.new.words < length reader.old.words) }
 {
     match first {
         Keyword::Sub => {
@@ -154,8 +170,9 @@ fn item(reader: &mut Reader, first: Keyword) -> Result<Edit, ScriptFault>
 
 /// `sub ID` or `packet SCID`
 fn carrier(reader: &mut Reader) -> Result<Carrier, ScriptFault>
+    ensures spells { IfOk result (λ m. Passes (carrier_words m) reader.old reader.new) }
     ensures range { IfOk result IsCarrier }
-    ensures shorter { OnOk result (length reader.new < length reader.old) }
+    ensures shorter { OnOk result (length reader.new.words < length reader.old.words) }
 {
     match reader.keyword() {
         Some(Keyword::Sub) => {
@@ -174,8 +191,9 @@ fn carrier(reader: &mut Reader) -> Result<Carrier, ScriptFault>
 
 /// What follows `drop`
 fn dropped(reader: &mut Reader) -> Result<Edit, ScriptFault>
+    ensures spells { IfOk result (λ e. Passes (edit_words e) (behind the.Drop reader.old) reader.new) }
     ensures range { IfOk result IsEdit }
-    ensures shorter { OnOk result (length reader.new < length reader.old) }
+    ensures shorter { OnOk result (length reader.new.words < length reader.old.words) }
 {
     match reader.keyword() {
         Some(Keyword::Service) => {
@@ -195,8 +213,9 @@ fn dropped(reader: &mut Reader) -> Result<Edit, ScriptFault>
 
 /// `sub ID` or `packet SCID` after `drop`
 fn dropped_carrier(reader: &mut Reader) -> Result<Edit, ScriptFault>
+    ensures spells { IfOk result (λ e. Passes (edit_words e) (behind the.Drop reader.old) reader.new) }
     ensures range { IfOk result IsEdit }
-    ensures shorter { OnOk result (length reader.new < length reader.old) }
+    ensures shorter { OnOk result (length reader.new.words < length reader.old.words) }
 {
     match carrier(reader)? {
         Carrier::Sub(id) => Ok(Edit::DropSub(id)),
@@ -206,8 +225,9 @@ fn dropped_carrier(reader: &mut Reader) -> Result<Edit, ScriptFault>
 
 /// `sub ID at START` after `move`
 fn moved(reader: &mut Reader) -> Result<Edit, ScriptFault>
+    ensures spells { IfOk result (λ e. Passes (edit_words e) (behind the.Move reader.old) reader.new) }
     ensures range { IfOk result IsEdit }
-    ensures shorter { OnOk result (length reader.new < length reader.old) }
+    ensures shorter { OnOk result (length reader.new.words < length reader.old.words) }
 {
     let id = sub(reader)?;
     reader.expect(Keyword::At)?;
@@ -217,8 +237,9 @@ fn moved(reader: &mut Reader) -> Result<Edit, ScriptFault>
 
 /// `sub ID RATE` after `rate`
 fn rated(reader: &mut Reader) -> Result<Edit, ScriptFault>
+    ensures spells { IfOk result (λ e. Passes (edit_words e) (behind the.Rate reader.old) reader.new) }
     ensures range { IfOk result IsEdit }
-    ensures shorter { OnOk result (length reader.new < length reader.old) }
+    ensures shorter { OnOk result (length reader.new.words < length reader.old.words) }
 {
     let id = sub(reader)?;
     let kbits = word(reader)?;
@@ -227,8 +248,9 @@ fn rated(reader: &mut Reader) -> Result<Edit, ScriptFault>
 
 /// An edit after its first word.
 fn edit(reader: &mut Reader, first: Keyword) -> Result<Edit, ScriptFault>
+    ensures spells { IfOk result (λ e. Passes (edit_words e) (behind first reader.old) reader.new) }
     ensures range { IfOk result IsEdit }
-    ensures shorter { OnOk result (length reader.new < length reader.old) }
+    ensures shorter { OnOk result (length reader.new.words < length reader.old.words) }
 {
     match first {
         Keyword::Drop => dropped(reader),
@@ -240,8 +262,9 @@ fn edit(reader: &mut Reader, first: Keyword) -> Result<Edit, ScriptFault>
 
 /// What follows `wait`
 fn waiting(reader: &mut Reader) -> Result<Act, ScriptFault>
+    ensures spells { IfOk result (λ a. Passes (act_words a) (behind the.Wait reader.old) reader.new) }
     ensures range { IfOk result IsAct }
-    ensures shorter { OnOk result (length reader.new < length reader.old) }
+    ensures shorter { OnOk result (length reader.new.words < length reader.old.words) }
 {
     match reader.keyword() {
         Some(Keyword::Contact) => {
@@ -259,7 +282,8 @@ fn waiting(reader: &mut Reader) -> Result<Act, ScriptFault>
 
 /// `closed` or `open`
 fn level(reader: &mut Reader) -> Result<bool, ScriptFault>
-    ensures shorter { OnOk result (length reader.new < length reader.old) }
+    ensures spells { IfOk result (λ b. Passes (level_word b ∷ []) reader.old reader.new) }
+    ensures shorter { OnOk result (length reader.new.words < length reader.old.words) }
 {
     match reader.keyword() {
         Some(Keyword::Closed) => {
@@ -276,8 +300,9 @@ fn level(reader: &mut Reader) -> Result<bool, ScriptFault>
 
 /// `in K` or `at COUNT` after `commit`
 fn committing(reader: &mut Reader) -> Result<Act, ScriptFault>
+    ensures spells { IfOk result (λ a. Passes (act_words a) (behind the.Commit reader.old) reader.new) }
     ensures range { IfOk result IsAct }
-    ensures shorter { OnOk result (length reader.new < length reader.old) }
+    ensures shorter { OnOk result (length reader.new.words < length reader.old.words) }
 {
     match reader.keyword() {
         Some(Keyword::In) => {
@@ -296,8 +321,9 @@ fn committing(reader: &mut Reader) -> Result<Act, ScriptFault>
 
 /// A statement without a block, after its first word.
 pub fn act(reader: &mut Reader, first: Keyword) -> Result<Act, ScriptFault>
+    ensures spells { IfOk result (λ a. Passes (act_words a) (behind first reader.old) reader.new) }
     ensures range { IfOk result IsAct }
-    ensures shorter { OnOk result (length reader.new ≤ length reader.old) }
+    ensures shorter { OnOk result (length reader.new.words ≤ length reader.old.words) }
 {
     match first {
         Keyword::Wait => waiting(reader),
@@ -327,6 +353,7 @@ pub fn begins_item(reader: &Reader) -> bool {
 pub fn items(alloc: Global, reader: &mut Reader, left: &mut u16) -> Result<Vec<Item>, ScriptFault>
     ensures formed { IfOk result (λ v. All IsItem v.items) }
     ensures counts { IfOk result (λ v. length v.items + left.new ≡ left.old) }
+    ensures spells { IfOk result (λ v. AreItems v.items reader.old reader.new) }
 {
     let mut list = Vec::new(alloc);
     while begins_item(reader) {
@@ -341,8 +368,8 @@ pub fn items(alloc: Global, reader: &mut Reader, left: &mut u16) -> Result<Vec<I
 
 /// An item, at the end of a list.
 fn one_more(reader: &mut Reader, list: &mut Vec<Item>) -> Result<(), ScriptFault>
-    ensures formed { OnOk result (IsOneMore list.old.items list.new.items) }
-    ensures shorter { OnOk result (length reader.new < length reader.old) }
+    ensures formed { OnOk result (IsOneMore list.old.items list.new.items reader.old reader.new) }
+    ensures shorter { OnOk result (length reader.new.words < length reader.old.words) }
 {
     let Some(first) = reader.keyword() else {
         return Err(reader.expected());

@@ -91,6 +91,7 @@ impl Keyword {
     ghost use Rattle.script_front.specs.Words.{letters, IsNoKeyword};
 
     /// The word of these bytes; None where they are neither a word of the grammar nor a brace.
+    #[tactic(auto, unfolding(crate::specs::Words::letters))]
     pub fn of(bytes: &[u8]) -> Option<Keyword>
         ensures found { IfSome result (λ k. bytes.now ≡ letters k) }
         ensures none { result ≡ None → IsNoKeyword bytes.now }

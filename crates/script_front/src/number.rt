@@ -1,7 +1,7 @@
 //! The values of atoms: decimals, hexadecimal identifiers, profiles and times.
 
 ghost use Rattle.std.specs.Prelude.{◌≡◌, ◌≢◌, ℕ, ◌<◌, ◌≤◌, ◌++◌, ◌∷◌, [], IfSome, None};
-ghost use Rattle.script_front.specs.Spelling.{hex_digit, hex_byte, hex_word, hex_long, profile_word, two_digits, time_word};
+ghost use Rattle.script_front.specs.Spelling.{hex_digit, hex_byte, hex_word, hex_long, sid_word, profile_word, two_digits, time_word};
 ghost use Rattle.std.specs.Fmt.{decimal};
 ghost use Rattle.mux_config.specs.Configuration.{IsSid};
 
@@ -86,6 +86,7 @@ fn hex_long(front: &[u8], back: &[u8]) -> Option<u32>
 /// The SId of an atom: four digits 0-9 or A-F for a short one, eight for a long one; None where it is neither.
 pub fn sid(atom: &[u8]) -> Option<Sid>
     ensures range { IfSome result IsSid }
+    ensures spells { IfSome result (λ s. atom.now ≡ sid_word s) }
 {
     match atom {
         [_, _, _, _] => Some(Sid::Short(hex_word(atom)?)),

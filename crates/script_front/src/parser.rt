@@ -3,7 +3,11 @@
 ghost use Rattle.std.specs.Prelude.{◌≡◌, ◌≢◌, ℕ, ◌+◌, ◌++◌, ◌∷◌, [], ◌<◌, ◌≤◌, true, length, slice_get, Some, IfOk, OnOk, map};
 ghost use Rattle.std.specs.List.{All};
 ghost use Rattle.script_front.specs.Block.{block_of};
-ghost use Rattle.script_front.specs.Parsing.{IsBody, AreDefined, IsNamed};
+ghost use Rattle.script_front.specs.declared.keyword.Keyword.TheVariants as the;
+ghost use Rattle.script_front.specs.Words.{letters};
+ghost use Rattle.script_front.specs.Reading.{BeginsWith};
+ghost use Rattle.script_front.specs.Parsing.{AreDefined, IsDefined, IsSpelled};
+ghost use Rattle.script_front.specs.Denoting.{IsScriptOf};
 ghost use Rattle.script_front.specs.Tree.{IsItem, IsName};
 
 use crate::fault::ScriptFault;
@@ -36,7 +40,7 @@ fn definitions(
     left: &mut u16,
 ) -> Result<Vec<Vec<Statement>>, ScriptFault>
     requires { names.old ≡ [] }
-    ensures { IfOk result (λ v. AreDefined names.new left.old left.new v.items) }
+    ensures { IfOk result (λ v. AreDefined names.new left.old left.new reader.old reader.new v.items) }
 {
     let mut blocks = Vec::new(alloc);
     while is_next(reader, Keyword::Define) {
@@ -58,10 +62,10 @@ fn definition(
     names: &mut Names,
     left: &mut u16,
 ) -> Result<Vec<Statement>, ScriptFault>
-    requires { length names.old < 64 }
-    ensures named { OnOk result (IsNamed names.old names.new) }
-    ensures body { IfOk result (λ v. IsBody (length names.old) 16 left.old left.new (block_of [] v.items)) }
-    ensures shorter { OnOk result (length reader.new < length reader.old) }
+    requires few { length names.old < 64 }
+    requires begins { BeginsWith reader.old.words (letters the.Define) }
+    ensures defined { IfOk result (λ v. IsDefined names.old names.new left.old left.new reader.old reader.new (block_of [] v.items)) }
+    ensures shorter { OnOk result (length reader.new.words < length reader.old.words) }
 {
     reader.advance();
     let name = new_name(reader, names)?;
@@ -74,6 +78,7 @@ fn definition(
 /// A name that is not defined yet, and is not passed over
 fn new_name<'a>(reader: &Reader<'a>, names: &Names) -> Result<&'a str, ScriptFault>
     ensures formed { IfOk result (λ s. IsName s.now) }
+    ensures begins { IfOk result (λ s. BeginsWith reader.now.words s.now) }
     ensures new { IfOk result (λ s. (i : ℕ) → slice_get names.now i ≢ Some s.now) }
 {
     let name = name(reader)?;
@@ -85,7 +90,8 @@ fn new_name<'a>(reader: &Reader<'a>, names: &Names) -> Result<&'a str, ScriptFau
 
 /// Whether this word is next.
 fn is_next(reader: &Reader, keyword: Keyword) -> bool
-    ensures { result ≡ true → 0 < length reader.now }
+    ensures some { result ≡ true → 0 < length reader.now.words }
+    ensures begins { result ≡ true → BeginsWith reader.now.words (letters keyword) }
 {
     match reader.keyword() {
         None => false,
@@ -94,7 +100,9 @@ fn is_next(reader: &Reader, keyword: Keyword) -> bool
 }
 
 /// The end of the text.
-fn end(reader: &Reader) -> Result<(), ScriptFault> {
+fn end(reader: &Reader) -> Result<(), ScriptFault>
+    ensures { OnOk result (reader.now.words ≡ []) }
+{
     match reader.peek() {
         None => Ok(()),
         Some(_word) => Err(reader.expected()),
@@ -102,7 +110,9 @@ fn end(reader: &Reader) -> Result<(), ScriptFault> {
 }
 
 /// The words of a whole script.
-fn script(alloc: Global, reader: &mut Reader) -> Result<Script, ScriptFault> {
+fn script(alloc: Global, reader: &mut Reader) -> Result<Script, ScriptFault>
+    ensures { IfOk result (λ s. IsSpelled s reader.old) }
+{
     let last_line = reader.last_line();
     let header = header(reader)?;
     let mut left = MOST_STATEMENTS;
@@ -127,8 +137,11 @@ fn script(alloc: Global, reader: &mut Reader) -> Result<Script, ScriptFault> {
 /// deep, `NameUsed` for a second definition of a name, `NameUnknown` where a name is applied that was not defined
 /// before, `Limit` for a 65th definition, and for an item or statement past 8,192 in all; `Memory` where memory is
 /// refused. Each but `Memory` has the position of the token at fault, or just past the text.
-pub fn parse(alloc: Global, text: &str) -> Result<Script, ScriptFault> {
+pub fn parse(alloc: Global, text: &str) -> Result<Script, ScriptFault>
+    ensures script { IfOk result (λ s. IsScriptOf text.now s) }
+{
     let tokens = lex(alloc, text)?;
     let mut reader = Reader::new(text.as_bytes(), &tokens);
-    script(alloc, &mut reader)
+    let found = script(alloc, &mut reader)?;
+    Ok(found)
 }

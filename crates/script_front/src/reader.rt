@@ -9,31 +9,41 @@ use std::marker::Model;
 #[derive(Drop)]
 pub struct Reader<'a> {
     text: &'a [u8],
+    all: &'a [Token],
     tokens: &'a [Token],
 }
 
 impl<'a> Model for Reader<'a> {
     ghost use Rattle.std.specs.Prelude.{ℕ, List, length};
-    ghost use Rattle.script_front.specs.Reading.{Input, lexemes_of, AreWithin};
+    ghost use Rattle.script_front.specs.Reading.{Input, words_of, lines_of, AreWithin, AreLastOf};
 
     ghost Value = { Input };
 
-    ghost view = { λ r. lexemes_of r.text.now r.tokens.now };
+    ghost view = { λ r. record {
+      words = words_of r.text.now r.tokens.now;
+      lines = lines_of r.all.now;
+    } };
 
-    ghost invariant = { λ r. AreWithin (length r.text.now) r.tokens.now };
+    ghost invariant = { λ r. AreWithin (length r.text.now) r.tokens.now
+        × AreWithin (length r.text.now) r.all.now
+        × AreLastOf r.all.now r.tokens.now };
 }
 
 impl<'a> Reader<'a> {
-    ghost use Rattle.std.specs.Prelude.{◌≡◌, ℕ, ◌<◌, ◌≤◌, length, drop, List, [], ◌∷◌, MatchOption, IsSome, IfSome, IfOk, OnOk};
-    ghost use Rattle.script_front.specs.Reading.{lexemes_of, last_line, words, AreWithin, BeginsWith};
+    ghost use Rattle.std.specs.Prelude.{◌≡◌, ◌≢◌, ℕ, ◌<◌, ◌≤◌, length, drop, List, [], ◌∷◌, MatchOption, IsSome, IfSome, None, IfOk, OnOk};
+    ghost use Rattle.script_front.specs.Reading.{words_of, lines_of, line_at, line_of, AreWithin, BeginsWith, Passes};
     ghost use Rattle.script_front.specs.Words.{letters};
 
     /// The words of these tokens of a text.
     pub fn new(text: &'a [u8], tokens: &'a [Token]) -> Self
         requires { AreWithin (length text.now) tokens.now }
-        ensures { result ≡ lexemes_of text.now tokens.now }
+        ensures { result ≡ record { words = words_of text.now tokens.now; lines = lines_of tokens.now } }
     {
-        Reader { text, tokens }
+        Reader {
+            text,
+            all: tokens,
+            tokens,
+        }
     }
 
     /// The position of the next word, or just past the text.
@@ -45,18 +55,20 @@ impl<'a> Reader<'a> {
     }
 
     /// The line of the next word; 0 where none is left.
-    pub fn line(&self) -> u16 {
+    pub fn line(&self) -> u16
+        ensures { 0 < length self.now.words → result ≡ line_of self.now.lines self.now.words }
+    {
         match self.tokens.first() {
             None => 0,
             Some(first) => first.position.line as u16,
         }
     }
 
-    /// The line of the last word; 0 where none is left.
+    /// The line of the last word of the text; 0 where it has none.
     pub fn last_line(&self) -> u16
-        ensures { result ≡ last_line self.now }
+        ensures { result ≡ line_at self.now.lines 1 }
     {
-        match self.tokens.last() {
+        match self.all.last() {
             None => 0,
             Some(last) => last.position.line as u16,
         }
@@ -64,7 +76,7 @@ impl<'a> Reader<'a> {
 
     /// The bytes of the next word.
     pub fn peek(&self) -> Option<&'a [u8]>
-        ensures { MatchOption result (self.now ≡ []) (λ w. BeginsWith self.now w.now) }
+        ensures { MatchOption result (self.now.words ≡ []) (λ w. BeginsWith self.now.words w.now) }
     {
         match self.tokens.first() {
             None => None,
@@ -74,7 +86,9 @@ impl<'a> Reader<'a> {
 
     /// Passes over the next word.
     pub fn advance(&mut self)
-        ensures { self.new ≡ drop 1 self.old }
+        ensures words { self.new.words ≡ drop 1 self.old.words }
+        ensures lines { self.new.lines ≡ self.old.lines }
+        ensures passes { (word : List ℕ) → BeginsWith self.old.words word → Passes (word ∷ []) self.old self.new }
     {
         if let Some((_first, rest)) = self.tokens.split_first() {
             self.tokens = rest;
@@ -83,8 +97,8 @@ impl<'a> Reader<'a> {
 
     /// The next word, where it is one of the grammar.
     pub fn keyword(&self) -> Option<Keyword>
-        ensures some { IsSome result → 0 < length self.now }
-        ensures begins { IfSome result (λ k. BeginsWith self.now (letters k)) }
+        ensures some { IsSome result → 0 < length self.now.words }
+        ensures begins { IfSome result (λ k. BeginsWith self.now.words (letters k)) }
     {
         match self.peek() {
             None => None,
@@ -98,8 +112,8 @@ impl<'a> Reader<'a> {
     ///
     /// `Expected` where it is a brace, or no word is left.
     pub fn atom(&self) -> Result<&'a [u8], ScriptFault>
-        ensures some { OnOk result (0 < length self.now) }
-        ensures begins { IfOk result (λ w. BeginsWith self.now w.now) }
+        ensures some { OnOk result (0 < length self.now.words) }
+        ensures begins { IfOk result (λ w. BeginsWith self.now.words w.now) }
     {
         match self.peek() {
             None => Err(self.expected()),
@@ -123,8 +137,8 @@ impl<'a> Reader<'a> {
 
     /// Passes over this word.
     pub fn expect(&mut self, keyword: Keyword) -> Result<(), ScriptFault>
-        ensures spells { OnOk result (words self.old ≡ letters keyword ∷ words self.new) }
-        ensures shorter { OnOk result (length self.new < length self.old) }
+        ensures spells { OnOk result (Passes (letters keyword ∷ []) self.old self.new) }
+        ensures shorter { OnOk result (length self.new.words < length self.old.words) }
     {
         match self.keyword() {
             Some(found) => {

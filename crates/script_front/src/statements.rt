@@ -1,8 +1,11 @@
 //! Reading statements.
 
-ghost use Rattle.std.specs.Prelude.{◌≡◌, ℕ, ◌+◌, ◌<◌, ◌≤◌, [], length, IfOk, OnOk, IsSome};
-ghost use Rattle.script_front.specs.Block.{Block, nothing, apply, and_then, before, block_of};
-ghost use Rattle.script_front.specs.Parsing.{IsRead, IsBody};
+ghost use Rattle.std.specs.Prelude.{◌≡◌, ℕ, ◌+◌, ◌<◌, ◌≤◌, ◌∷◌, [], length, IfOk, OnOk, IsSome};
+ghost use Rattle.script_front.specs.Block.{and_then, before, block_of};
+ghost use Rattle.script_front.specs.declared.keyword.Keyword.TheVariants as the;
+ghost use Rattle.script_front.specs.Words.{letters};
+ghost use Rattle.script_front.specs.Reading.{Passes, behind, line_of};
+ghost use Rattle.script_front.specs.Parsing.{IsRead, IsBody, IsApplied};
 
 use crate::fault::ScriptFault;
 use crate::items::act;
@@ -25,8 +28,8 @@ fn statement(
     depth: u8,
 ) -> Result<Statement, ScriptFault>
     requires { length names.now ≤ 64 }
-    ensures read { IfOk result (λ s. IsRead (length names.now) depth left.old left.new (before [] s)) }
-    ensures shorter { OnOk result (length reader.new < length reader.old) }
+    ensures read { IfOk result (λ s. IsRead names.now depth left.old left.new reader.old reader.new (before [] s)) }
+    ensures shorter { OnOk result (length reader.new.words < length reader.old.words) }
 {
     let Some(first) = reader.keyword() else {
         return Err(reader.expected());
@@ -63,8 +66,8 @@ pub fn statements(
     depth: u8,
 ) -> Result<Vec<Statement>, ScriptFault>
     requires { length names.now ≤ 64 }
-    ensures read { IfOk result (λ v. IsRead (length names.now) depth left.old left.new (and_then [] v.items)) }
-    ensures shorter { OnOk result (length reader.new ≤ length reader.old) }
+    ensures read { IfOk result (λ v. IsRead names.now depth left.old left.new reader.old reader.new (and_then [] v.items)) }
+    ensures shorter { OnOk result (length reader.new.words ≤ length reader.old.words) }
 {
     let mut list = Vec::new(alloc);
     'statements: while !ends(reader) {
@@ -97,8 +100,8 @@ pub fn block(
     depth: u8,
 ) -> Result<Vec<Statement>, ScriptFault>
     requires { length names.now ≤ 64 }
-    ensures read { IfOk result (λ v. IsBody (length names.now) depth left.old left.new (block_of [] v.items)) }
-    ensures shorter { OnOk result (length reader.new < length reader.old) }
+    ensures read { IfOk result (λ v. IsBody names.now depth left.old left.new reader.old reader.new (block_of [] v.items)) }
+    ensures shorter { OnOk result (length reader.new.words < length reader.old.words) }
 {
     open(reader, depth)?;
     let body = statements(alloc, reader, names, left, depth - 1)?;
@@ -109,7 +112,8 @@ pub fn block(
 /// A brace that opens, where this many more may stand one inside another.
 fn open(reader: &mut Reader, depth: u8) -> Result<(), ScriptFault>
     ensures room { OnOk result (1 ≤ depth) }
-    ensures shorter { OnOk result (length reader.new < length reader.old) }
+    ensures spells { OnOk result (Passes (letters the.OpenBrace ∷ []) reader.old reader.new) }
+    ensures shorter { OnOk result (length reader.new.words < length reader.old.words) }
 {
     match reader.keyword() {
         Some(Keyword::OpenBrace) => {
@@ -133,9 +137,10 @@ fn choice(
     depth: u8,
     line: u16,
 ) -> Result<Statement, ScriptFault>
-    requires { length names.now ≤ 64 }
-    ensures read { IfOk result (λ s. IsRead (length names.now) depth (left.old + 1) left.new (before [] s)) }
-    ensures shorter { OnOk result (length reader.new ≤ length reader.old) }
+    requires known { length names.now ≤ 64 }
+    requires line { line ≡ line_of reader.old.lines (letters the.If ∷ reader.old.words) }
+    ensures read { IfOk result (λ s. IsRead names.now depth (left.old + 1) left.new (behind the.If reader.old) reader.new (before [] s)) }
+    ensures shorter { OnOk result (length reader.new.words ≤ length reader.old.words) }
 {
     reader.expect(Keyword::Contact)?;
     let contact = contact(reader)?;
@@ -160,9 +165,10 @@ fn repetition(
     depth: u8,
     line: u16,
 ) -> Result<Statement, ScriptFault>
-    requires { length names.now ≤ 64 }
-    ensures read { IfOk result (λ s. IsRead (length names.now) depth (left.old + 1) left.new (before [] s)) }
-    ensures shorter { OnOk result (length reader.new ≤ length reader.old) }
+    requires known { length names.now ≤ 64 }
+    requires line { line ≡ line_of reader.old.lines (letters the.Repeat ∷ reader.old.words) }
+    ensures read { IfOk result (λ s. IsRead names.now depth (left.old + 1) left.new (behind the.Repeat reader.old) reader.new (before [] s)) }
+    ensures shorter { OnOk result (length reader.new.words ≤ length reader.old.words) }
 {
     let times = times(reader)?;
     let body = block(alloc, reader, names, left, depth)?;
@@ -179,9 +185,10 @@ fn endless(
     depth: u8,
     line: u16,
 ) -> Result<Statement, ScriptFault>
-    requires { length names.now ≤ 64 }
-    ensures read { IfOk result (λ s. IsRead (length names.now) depth (left.old + 1) left.new (before [] s)) }
-    ensures shorter { OnOk result (length reader.new ≤ length reader.old) }
+    requires known { length names.now ≤ 64 }
+    requires line { line ≡ line_of reader.old.lines (letters the.Forever ∷ reader.old.words) }
+    ensures read { IfOk result (λ s. IsRead names.now depth (left.old + 1) left.new (behind the.Forever reader.old) reader.new (before [] s)) }
+    ensures shorter { OnOk result (length reader.new.words ≤ length reader.old.words) }
 {
     let body = block(alloc, reader, names, left, depth)?;
     Ok(looping(line, body))
@@ -190,8 +197,8 @@ fn endless(
 /// What follows `apply`.
 fn application(reader: &mut Reader, names: &Names, line: u16) -> Result<Statement, ScriptFault>
     requires { length names.now ≤ 64 }
-    ensures read { IfOk result (λ s. (block : ℕ) × (block < length names.now) × ((b : Block) → before [] s b ≡ apply line block nothing b)) }
-    ensures shorter { OnOk result (length reader.new ≤ length reader.old) }
+    ensures read { IfOk result (λ s. IsApplied names.now line reader.old reader.new (before [] s)) }
+    ensures shorter { OnOk result (length reader.new.words ≤ length reader.old.words) }
 {
     let name = name(reader)?;
     let Some(index) = names.find(name) else {

@@ -3,10 +3,10 @@
 //! Each call passes over what it reads. Where an atom stands that is no such value, the fault is `Number` at
 //! that atom; where a brace or the end stands, `Expected`.
 
-ghost use Rattle.std.specs.Prelude.{◌≡◌, ℕ, ◌∷◌, ◌<◌, ◌≤◌, length, IfOk, OnOk};
+ghost use Rattle.std.specs.Prelude.{◌≡◌, ℕ, ◌∷◌, ◌<◌, ◌≤◌, [], length, IfOk, OnOk};
 ghost use Rattle.std.specs.Fmt.{decimal};
-ghost use Rattle.script_front.specs.Reading.{words};
-ghost use Rattle.script_front.specs.Spelling.{hex_word, profile_word, time_word};
+ghost use Rattle.script_front.specs.Reading.{Passes, BeginsWith};
+ghost use Rattle.script_front.specs.Spelling.{hex_word, sid_word, profile_word, time_word};
 ghost use Rattle.mux_config.specs.Configuration.{IsSid};
 ghost use Rattle.std.specs.Prelude.{true};
 ghost use Rattle.std.specs.List.{list_all};
@@ -23,9 +23,9 @@ use plan_code::{ContactId, Delay, Frames, Times};
 
 /// A decimal from `low` to `high`.
 pub fn decimal(reader: &mut Reader, low: u32, high: u32) -> Result<u32, ScriptFault>
-    ensures spells { IfOk result (λ n. words reader.old ≡ decimal n ∷ words reader.new) }
+    ensures spells { IfOk result (λ n. Passes (decimal n ∷ []) reader.old reader.new) }
     ensures range { IfOk result (λ n. (low ≤ n) × (n ≤ high)) }
-    ensures shorter { OnOk result (length reader.new < length reader.old) }
+    ensures shorter { OnOk result (length reader.new.words < length reader.old.words) }
 {
     let atom = reader.atom()?;
     let Some(value) = number::decimal(atom) else {
@@ -43,8 +43,8 @@ pub fn decimal(reader: &mut Reader, low: u32, high: u32) -> Result<u32, ScriptFa
 
 /// A decimal from 0 to 65,535.
 pub fn word(reader: &mut Reader) -> Result<u16, ScriptFault>
-    ensures spells { IfOk result (λ n. words reader.old ≡ decimal n ∷ words reader.new) }
-    ensures shorter { OnOk result (length reader.new < length reader.old) }
+    ensures spells { IfOk result (λ n. Passes (decimal n ∷ []) reader.old reader.new) }
+    ensures shorter { OnOk result (length reader.new.words < length reader.old.words) }
 {
     let value = decimal(reader, 0, 65_535)?;
     Ok(value as u16)
@@ -52,9 +52,9 @@ pub fn word(reader: &mut Reader) -> Result<u16, ScriptFault>
 
 /// A SubChId, 0 to 63.
 pub fn sub_id(reader: &mut Reader) -> Result<SubId, ScriptFault>
-    ensures spells { IfOk result (λ n. words reader.old ≡ decimal n ∷ words reader.new) }
+    ensures spells { IfOk result (λ n. Passes (decimal n ∷ []) reader.old reader.new) }
     ensures range { IfOk result (λ s. s < 64) }
-    ensures shorter { OnOk result (length reader.new < length reader.old) }
+    ensures shorter { OnOk result (length reader.new.words < length reader.old.words) }
 {
     let value = decimal(reader, 0, 63)?;
     match SubId::new(value as u8) {
@@ -65,9 +65,9 @@ pub fn sub_id(reader: &mut Reader) -> Result<SubId, ScriptFault>
 
 /// A SCId, 0 to 4095.
 pub fn sc_id(reader: &mut Reader) -> Result<ScId, ScriptFault>
-    ensures spells { IfOk result (λ n. words reader.old ≡ decimal n ∷ words reader.new) }
+    ensures spells { IfOk result (λ n. Passes (decimal n ∷ []) reader.old reader.new) }
     ensures range { IfOk result (λ s. s < 4096) }
-    ensures shorter { OnOk result (length reader.new < length reader.old) }
+    ensures shorter { OnOk result (length reader.new.words < length reader.old.words) }
 {
     let value = decimal(reader, 0, 4095)?;
     match ScId::new(value as u16) {
@@ -78,9 +78,9 @@ pub fn sc_id(reader: &mut Reader) -> Result<ScId, ScriptFault>
 
 /// A type, 0 to 63.
 pub fn sc_ty(reader: &mut Reader) -> Result<ScTy, ScriptFault>
-    ensures spells { IfOk result (λ n. words reader.old ≡ decimal n ∷ words reader.new) }
+    ensures spells { IfOk result (λ n. Passes (decimal n ∷ []) reader.old reader.new) }
     ensures range { IfOk result (λ t. t < 64) }
-    ensures shorter { OnOk result (length reader.new < length reader.old) }
+    ensures shorter { OnOk result (length reader.new.words < length reader.old.words) }
 {
     let value = decimal(reader, 0, 63)?;
     match ScTy::new(value as u8) {
@@ -91,9 +91,9 @@ pub fn sc_ty(reader: &mut Reader) -> Result<ScTy, ScriptFault>
 
 /// A start address, 0 to 1023.
 pub fn start(reader: &mut Reader) -> Result<Start, ScriptFault>
-    ensures spells { IfOk result (λ n. words reader.old ≡ decimal n ∷ words reader.new) }
+    ensures spells { IfOk result (λ n. Passes (decimal n ∷ []) reader.old reader.new) }
     ensures range { IfOk result (λ s. s < 1024) }
-    ensures shorter { OnOk result (length reader.new < length reader.old) }
+    ensures shorter { OnOk result (length reader.new.words < length reader.old.words) }
 {
     let value = decimal(reader, 0, 1023)?;
     match Start::new(value as u16) {
@@ -104,9 +104,9 @@ pub fn start(reader: &mut Reader) -> Result<Start, ScriptFault>
 
 /// A contact, 0 to 15.
 pub fn contact(reader: &mut Reader) -> Result<ContactId, ScriptFault>
-    ensures spells { IfOk result (λ n. words reader.old ≡ decimal n ∷ words reader.new) }
+    ensures spells { IfOk result (λ n. Passes (decimal n ∷ []) reader.old reader.new) }
     ensures range { IfOk result (λ c. c < 16) }
-    ensures shorter { OnOk result (length reader.new < length reader.old) }
+    ensures shorter { OnOk result (length reader.new.words < length reader.old.words) }
 {
     let value = decimal(reader, 0, 15)?;
     match ContactId::new(value as u8) {
@@ -117,9 +117,9 @@ pub fn contact(reader: &mut Reader) -> Result<ContactId, ScriptFault>
 
 /// A number of frames to wait, 1 to 65,535.
 pub fn frames(reader: &mut Reader) -> Result<Frames, ScriptFault>
-    ensures spells { IfOk result (λ n. words reader.old ≡ decimal n ∷ words reader.new) }
+    ensures spells { IfOk result (λ n. Passes (decimal n ∷ []) reader.old reader.new) }
     ensures range { IfOk result (λ f. (1 ≤ f) × (f < 65536)) }
-    ensures shorter { OnOk result (length reader.new < length reader.old) }
+    ensures shorter { OnOk result (length reader.new.words < length reader.old.words) }
 {
     let value = decimal(reader, 1, 65_535)?;
     match Frames::new(value as u16) {
@@ -130,9 +130,9 @@ pub fn frames(reader: &mut Reader) -> Result<Frames, ScriptFault>
 
 /// A number of times, 1 to 65,535.
 pub fn times(reader: &mut Reader) -> Result<Times, ScriptFault>
-    ensures spells { IfOk result (λ n. words reader.old ≡ decimal n ∷ words reader.new) }
+    ensures spells { IfOk result (λ n. Passes (decimal n ∷ []) reader.old reader.new) }
     ensures range { IfOk result (λ t. (1 ≤ t) × (t < 65536)) }
-    ensures shorter { OnOk result (length reader.new < length reader.old) }
+    ensures shorter { OnOk result (length reader.new.words < length reader.old.words) }
 {
     let value = decimal(reader, 1, 65_535)?;
     match Times::new(value as u16) {
@@ -143,9 +143,9 @@ pub fn times(reader: &mut Reader) -> Result<Times, ScriptFault>
 
 /// A delay of a swap in frames, 1 to 60,000.
 pub fn delay(reader: &mut Reader) -> Result<Delay, ScriptFault>
-    ensures spells { IfOk result (λ n. words reader.old ≡ decimal n ∷ words reader.new) }
+    ensures spells { IfOk result (λ n. Passes (decimal n ∷ []) reader.old reader.new) }
     ensures range { IfOk result (λ d. (1 ≤ d) × (d ≤ 60000)) }
-    ensures shorter { OnOk result (length reader.new < length reader.old) }
+    ensures shorter { OnOk result (length reader.new.words < length reader.old.words) }
 {
     let value = decimal(reader, 1, 60_000)?;
     match Delay::new(value as u16) {
@@ -156,8 +156,8 @@ pub fn delay(reader: &mut Reader) -> Result<Delay, ScriptFault>
 
 /// An EId: four digits 0-9 or A-F.
 pub fn eid(reader: &mut Reader) -> Result<u16, ScriptFault>
-    ensures spells { IfOk result (λ n. words reader.old ≡ hex_word n ∷ words reader.new) }
-    ensures shorter { OnOk result (length reader.new < length reader.old) }
+    ensures spells { IfOk result (λ n. Passes (hex_word n ∷ []) reader.old reader.new) }
+    ensures shorter { OnOk result (length reader.new.words < length reader.old.words) }
 {
     let atom = reader.atom()?;
     match number::hex_word(atom) {
@@ -171,8 +171,9 @@ pub fn eid(reader: &mut Reader) -> Result<u16, ScriptFault>
 
 /// An SId: four digits 0-9 or A-F for a short one, eight for a long one.
 pub fn sid(reader: &mut Reader) -> Result<Sid, ScriptFault>
+    ensures spells { IfOk result (λ s. Passes (sid_word s ∷ []) reader.old reader.new) }
     ensures range { IfOk result IsSid }
-    ensures shorter { OnOk result (length reader.new < length reader.old) }
+    ensures shorter { OnOk result (length reader.new.words < length reader.old.words) }
 {
     let atom = reader.atom()?;
     match number::sid(atom) {
@@ -186,9 +187,9 @@ pub fn sid(reader: &mut Reader) -> Result<Sid, ScriptFault>
 
 /// A protection profile, `1-A` to `4-A` or `1-B` to `4-B`.
 pub fn profile(reader: &mut Reader) -> Result<Protection, ScriptFault>
-    ensures spells { IfOk result (λ p. words reader.old ≡ profile_word p ∷ words reader.new) }
+    ensures spells { IfOk result (λ p. Passes (profile_word p ∷ []) reader.old reader.new) }
     ensures range { IfOk result (λ p. (1 ≤ p.level) × (p.level ≤ 4)) }
-    ensures shorter { OnOk result (length reader.new < length reader.old) }
+    ensures shorter { OnOk result (length reader.new.words < length reader.old.words) }
 {
     let atom = reader.atom()?;
     match number::profile(atom) {
@@ -202,9 +203,9 @@ pub fn profile(reader: &mut Reader) -> Result<Protection, ScriptFault>
 
 /// A time of the day, 00:00:00 to 23:59:59.
 pub fn time(reader: &mut Reader) -> Result<TimeOfDay, ScriptFault>
-    ensures spells { IfOk result (λ t. words reader.old ≡ time_word t ∷ words reader.new) }
+    ensures spells { IfOk result (λ t. Passes (time_word t ∷ []) reader.old reader.new) }
     ensures range { IfOk result (λ t. t < 86400) }
-    ensures shorter { OnOk result (length reader.new < length reader.old) }
+    ensures shorter { OnOk result (length reader.new.words < length reader.old.words) }
 {
     let atom = reader.atom()?;
     match number::time(atom) {
@@ -223,7 +224,8 @@ pub fn time(reader: &mut Reader) -> Result<TimeOfDay, ScriptFault>
 /// `Expected` where no atom stands, one that is ill formed, or a word of the grammar.
 pub fn name<'a>(reader: &Reader<'a>) -> Result<&'a str, ScriptFault>
     ensures formed { IfOk result (λ s. IsName s.now) }
-    ensures some { OnOk result (0 < length reader.now) }
+    ensures begins { IfOk result (λ s. BeginsWith reader.now.words s.now) }
+    ensures some { OnOk result (0 < length reader.now.words) }
 {
     let atom = reader.atom()?;
     if !is_name(atom) {

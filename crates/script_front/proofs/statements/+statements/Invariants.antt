@@ -23,9 +23,9 @@ decreases-statements l = 5 * l.depth + 4
 
 abbrev pub invariant-statements-statements : goal.invariant-statements-statements
 invariant-statements-statements l = record {
-  read : IsRead (length l.names) l.depth l.fn.left l.left (and_then [] l.list.items);
-  shorter : length l.reader ≤ length l.fn.reader;
+  read : IsRead l.names l.depth l.fn.left l.left l.fn.reader l.reader (and_then [] l.list.items);
+  shorter : length l.reader.words ≤ length l.fn.reader.words;
 }
 
 abbrev pub decreases-statements-statements : goal.decreases-statements-statements
-decreases-statements-statements l = length l.reader
+decreases-statements-statements l = length l.reader.words
