@@ -16,7 +16,7 @@ abbrev pub read_on : ℕ → List ℕ → ℕ
 read_on n [] = n
 read_on n (c ∷ cs) = read_on (n * 10 + (c - 48)) cs
 
-own : IsNumeralModel (λ ds. all_ascii_digits ds ≡ true) (read_on 0)
+pub own : IsNumeralModel (λ ds. all_ascii_digits ds ≡ true) (read_on 0)
 own = numerals_by_fold _ (search rules) read_on (search rules)
 
 cut : (bs : List ℕ) (i : ℕ) → i < length bs → drop i bs ≡ get_or bs i 0 ∷ drop (i + 1) bs

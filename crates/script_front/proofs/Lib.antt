@@ -1,5 +1,6 @@
 mod Defining
 mod Definitions
+mod Denoted
 mod Denoting
 mod Digits
 mod Ending
@@ -11,4 +12,6 @@ mod Parsing
 mod Pieces
 pub mod Spans
 mod Numerals
+mod Printed
 mod Vectors
+mod Wording

@@ -4,7 +4,7 @@ use Rattle.script_front.specs.Bytes.{first_place}
 use Rattle.script_front.specs.Texts.{Piece, blank, comment, brace, atom, text_of, AreText, tokens_of, AllFit, script_limits, MOST_BYTES}
 use Rattle.script_front.specs.Reading.{lines_of}
 use Rattle.script_front.specs.Tree.{Tree}
-use Rattle.script_front.specs.Spelled.{tree_words, HasLines}
+use Rattle.script_front.specs.Spelled.{Spelled, tree_words, HasLines}
 
 -- the words among pieces: braces and atoms
 abbrev pub words_in : List Piece → List (List ℕ)
@@ -14,12 +14,16 @@ words_in (comment bs ∷ ps) = words_in ps
 words_in (brace b ∷ ps) = (b ∷ []) ∷ words_in ps
 words_in (atom bs ∷ ps) = bs ∷ words_in ps
 
--- the text denotes the tree, lines aside
-pub record Denotes (text : List ℕ) (t : Tree) : Type 0 where
+-- the text holds these words in their order
+pub record HasWords (text : List ℕ) (words : Spelled) : Type 0 where
   pub pieces : List Piece
   pub formed : AreText pieces
   pub whole : text_of pieces ≡ text
-  pub spelled : words_in pieces ≡ tree_words t
+  pub spelled : words_in pieces ≡ words
+
+-- the text denotes the tree, lines aside
+abbrev pub Denotes : List ℕ → Tree → Type 0
+Denotes text t = HasWords text (tree_words t)
 
 -- the text denotes the tree, which has the text's lines; and the text is within the limits of scripts
 pub record IsScriptOf (text : List ℕ) (t : Tree) : Type 0 where

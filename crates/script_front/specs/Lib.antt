@@ -3,6 +3,7 @@ pub mod Bytes
 pub mod Denoting
 pub mod Lexing
 pub mod Parsing
+pub mod Printing
 pub mod Reading
 pub mod Spelled
 pub mod Spelling

@@ -1,20 +1,29 @@
 //! Printing a script.
 
-ghost use Rattle.std.specs.Prelude.{◌≡◌, ℕ, ◌+◌, ◌-◌, ◌≤◌, [], length, OnOk};
+ghost use Rattle.std.specs.Prelude.{◌≡◌, ℕ, ◌+◌, ◌-◌, ◌<◌, ◌≤◌, ◌++◌, ◌∷◌, [], length, OnOk, IfOk, string_bytes};
+ghost use Rattle.std.specs.Fmt.{decimal};
+ghost use Rattle.script_front.specs.declared.keyword.Keyword.TheVariants as the;
+ghost use Rattle.script_front.specs.Words.{letters};
 ghost use Rattle.script_front.specs.Block.{before, nothing, block_of};
 ghost use Rattle.script_front.specs.Tree.{Fits, AllFit};
 ghost use Rattle.script_front.specs.Parsing.{bodies};
+ghost use Rattle.script_front.specs.Spelled.{act_words, edit_words, name_at};
+ghost use Rattle.script_front.specs.Printing.{IsPut, line, indent, line_text, text_of_lines, block_lines, items_lines, definition_lines, defined_lines, tree_lines};
+ghost use Rattle.script_front.specs.Denoting.{Denotes};
 
 use crate::names::Names;
 use crate::script::Script;
-use crate::tree::{BlockId, Item, Statement};
+use crate::tree::{Act, BlockId, Item, Statement};
 use crate::words::{put_act, put_edit, put_header};
 use plan_code::{ContactId, Times};
 use std::alloc::{AllocError, Global};
 use std::fmt::Write;
 
 /// Two blanks for each level.
-fn put_indent(out: &mut String, depth: u8) -> Result<(), AllocError> {
+#[tactic(auto, using(crate::proofs::Printed::indented))]
+fn put_indent(out: &mut String, depth: u8) -> Result<(), AllocError>
+    ensures { OnOk result (string_bytes out.new ≡ string_bytes out.old ++ indent depth) }
+{
     for _level in 0..depth {
         out.push_str("  ")?;
     }
@@ -22,26 +31,62 @@ fn put_indent(out: &mut String, depth: u8) -> Result<(), AllocError> {
 }
 
 /// A line of one item.
-fn put_item(out: &mut String, item: &Item) -> Result<(), AllocError> {
+fn put_item(out: &mut String, item: &Item) -> Result<(), AllocError>
+    ensures { OnOk result (string_bytes out.new ≡ string_bytes out.old ++ line_text (line 0 (edit_words item.now.edit))) }
+{
     put_edit(out, item.edit)?;
-    out.push_str("\n")
+    out.push_str("\n")?;
+    Ok(())
+}
+
+/// The items, each on a line.
+#[tactic(auto, using(crate::proofs::Printed::item_more, crate::proofs::Printed::items_all))]
+fn put_items(out: &mut String, items: &[Item]) -> Result<(), AllocError>
+    ensures { OnOk result (string_bytes out.new ≡ string_bytes out.old ++ text_of_lines (items_lines items.now)) }
+{
+    for item in items {
+        put_item(out, item)?;
+    }
+    Ok(())
 }
 
 /// A line of a text.
-fn put_line(out: &mut String, depth: u8, text: &str) -> Result<(), AllocError> {
+fn put_line(out: &mut String, depth: u8, text: &str) -> Result<(), AllocError>
+    ensures { OnOk result (string_bytes out.new ≡ string_bytes out.old ++ (indent depth ++ text.now)) }
+{
     put_indent(out, depth)?;
-    out.push_str(text)
+    out.push_str(text)?;
+    Ok(())
+}
+
+/// The line of a statement without a block.
+fn put_basic(out: &mut String, act: Act, depth: u8) -> Result<(), AllocError>
+    ensures { OnOk result (string_bytes out.new ≡ string_bytes out.old ++ line_text (line depth (act_words act))) }
+{
+    put_indent(out, depth)?;
+    put_act(out, act)?;
+    out.push_str("\n")?;
+    Ok(())
 }
 
 /// The line of `apply`.
-fn put_apply(out: &mut String, names: &Names, block: BlockId) -> Result<(), AllocError> {
-    out.push_str("apply ")?;
+#[tactic(auto, unfolding(crate::specs::Words::letters))]
+fn put_apply(out: &mut String, names: &Names, block: BlockId, depth: u8) -> Result<(), AllocError>
+    requires { block < length names.now }
+    ensures { OnOk result (string_bytes out.new ≡ string_bytes out.old ++ line_text (line depth (letters the.Apply ∷ name_at names.now block ∷ []))) }
+{
+    put_line(out, depth, "apply ")?;
     put_name(out, names, usize::from(block.get()))?;
-    out.push_str("\n")
+    out.push_str("\n")?;
+    Ok(())
 }
 
 /// The name of a block.
-fn put_name(out: &mut String, names: &Names, index: usize) -> Result<(), AllocError> {
+#[tactic(auto, using(crate::proofs::Printed::name_got, crate::proofs::Printed::name_there))]
+fn put_name(out: &mut String, names: &Names, index: usize) -> Result<(), AllocError>
+    requires { index < length names.now }
+    ensures { OnOk result (string_bytes out.new ≡ string_bytes out.old ++ name_at names.now index) }
+{
     match names.get(index) {
         Some(name) => out.push_str(name),
         None => Ok(()),
@@ -49,19 +94,30 @@ fn put_name(out: &mut String, names: &Names, index: usize) -> Result<(), AllocEr
 }
 
 /// The first line of `if`.
-fn put_if(out: &mut String, contact: ContactId) -> Result<(), AllocError> {
+#[tactic(auto, unfolding(crate::specs::Words::letters))]
+fn put_if(out: &mut String, contact: ContactId, depth: u8) -> Result<(), AllocError>
+    ensures { OnOk result (string_bytes out.new ≡ string_bytes out.old
+        ++ line_text (line depth (letters the.If ∷ letters the.Contact ∷ decimal contact ∷ letters the.OpenBrace ∷ []))) }
+{
     let contact = contact.get();
+    put_indent(out, depth)?;
     write!(out, "if contact {contact} {{\n")
 }
 
 /// The first line of `repeat`.
-fn put_repeat(out: &mut String, times: Times) -> Result<(), AllocError> {
+#[tactic(auto, unfolding(crate::specs::Words::letters))]
+fn put_repeat(out: &mut String, times: Times, depth: u8) -> Result<(), AllocError>
+    ensures { OnOk result (string_bytes out.new ≡ string_bytes out.old
+        ++ line_text (line depth (letters the.Repeat ∷ decimal times ∷ letters the.OpenBrace ∷ []))) }
+{
     let times = times.get();
+    put_indent(out, depth)?;
     write!(out, "repeat {times} {{\n")
 }
 
 /// A statement, at most so many braces deep.
 #[cycle(put_statements)]
+#[tactic(auto, using(crate::proofs::Printed::act_put, crate::proofs::Printed::stop_put, crate::proofs::Printed::when_put, crate::proofs::Printed::either_put, crate::proofs::Printed::repeat_put, crate::proofs::Printed::forever_put, crate::proofs::Printed::apply_put))]
 fn put_statement(
     out: &mut String,
     names: &Names,
@@ -71,18 +127,22 @@ fn put_statement(
 ) -> Result<(), AllocError>
     requires room { depth + left ≤ 16 }
     requires fits { Fits (length names.now) left (before [] statement.now nothing) }
+    ensures { OnOk result (IsPut names.now depth (before [] statement.now) (string_bytes out.old) (string_bytes out.new)) }
 {
-    put_indent(out, depth)?;
     match statement {
         Statement::Act { act, .. } => {
-            put_act(out, *act)?;
-            out.push_str("\n")
+            put_basic(out, *act, depth)?;
+            Ok(())
         }
-        Statement::End { .. } => out.push_str("end\n"),
+        Statement::End { .. } => {
+            put_line(out, depth, "end\n")?;
+            Ok(())
+        }
         Statement::If { contact, first, .. } => {
-            put_if(out, *contact)?;
-            put_block(out, names, first.as_slice(), depth, left)?;
-            out.push_str("}\n")
+            put_if(out, *contact, depth)?;
+            put_statements(out, names, first.as_slice(), depth + 1, left - 1)?;
+            put_line(out, depth, "}\n")?;
+            Ok(())
         }
         Statement::IfElse {
             contact,
@@ -90,45 +150,35 @@ fn put_statement(
             second,
             ..
         } => {
-            put_if(out, *contact)?;
-            put_block(out, names, first.as_slice(), depth, left)?;
-            out.push_str("} else {\n")?;
-            put_block(out, names, second.as_slice(), depth, left)?;
-            out.push_str("}\n")
+            put_if(out, *contact, depth)?;
+            put_statements(out, names, first.as_slice(), depth + 1, left - 1)?;
+            put_line(out, depth, "} else {\n")?;
+            put_statements(out, names, second.as_slice(), depth + 1, left - 1)?;
+            put_line(out, depth, "}\n")?;
+            Ok(())
         }
         Statement::Repeat { times, body, .. } => {
-            put_repeat(out, *times)?;
-            put_block(out, names, body.as_slice(), depth, left)?;
-            out.push_str("}\n")
+            put_repeat(out, *times, depth)?;
+            put_statements(out, names, body.as_slice(), depth + 1, left - 1)?;
+            put_line(out, depth, "}\n")?;
+            Ok(())
         }
         Statement::Forever { body, .. } => {
-            out.push_str("forever {\n")?;
-            put_block(out, names, body.as_slice(), depth, left)?;
-            out.push_str("}\n")
+            put_line(out, depth, "forever {\n")?;
+            put_statements(out, names, body.as_slice(), depth + 1, left - 1)?;
+            put_line(out, depth, "}\n")?;
+            Ok(())
         }
-        Statement::Apply { block, .. } => put_apply(out, names, *block),
+        Statement::Apply { block, .. } => {
+            put_apply(out, names, *block, depth)?;
+            Ok(())
+        }
     }
-}
-
-/// The statements in braces, and the indentation of the brace that closes.
-#[cycle(put_statements)]
-fn put_block(
-    out: &mut String,
-    names: &Names,
-    list: &[Statement],
-    depth: u8,
-    left: u8,
-) -> Result<(), AllocError>
-    requires room { depth + left ≤ 16 }
-    requires some { 1 ≤ left }
-    requires fits { Fits (length names.now) (left - 1) (block_of [] list.now) }
-{
-    put_statements(out, names, list, depth + 1, left - 1)?;
-    put_indent(out, depth)
 }
 
 /// Statements, at most so many braces deep.
 #[cycle(put_statements)]
+#[tactic(auto, using(crate::proofs::Printed::put_more, crate::proofs::Printed::all_put))]
 fn put_statements(
     out: &mut String,
     names: &Names,
@@ -138,10 +188,31 @@ fn put_statements(
 ) -> Result<(), AllocError>
     requires room { depth + left ≤ 16 }
     requires fits { Fits (length names.now) left (block_of [] list.now) }
+    ensures { OnOk result (string_bytes out.new ≡ string_bytes out.old ++ text_of_lines (block_lines names.now depth (block_of [] list.now))) }
 {
     for statement in list {
         put_statement(out, names, statement, depth, left)?;
     }
+    Ok(())
+}
+
+/// A definition.
+#[tactic(auto, using(crate::proofs::Printed::definition_put), unfolding(crate::specs::Words::letters))]
+fn put_definition(
+    out: &mut String,
+    names: &Names,
+    index: usize,
+    block: &[Statement],
+) -> Result<(), AllocError>
+    requires known { index < length names.now }
+    requires fits { Fits (length names.now) 15 (block_of [] block.now) }
+    ensures { OnOk result (string_bytes out.new ≡ string_bytes out.old ++ text_of_lines (definition_lines names.now index block.now)) }
+{
+    out.push_str("define ")?;
+    put_name(out, names, index)?;
+    out.push_str(" {\n")?;
+    put_statements(out, names, block, 1, 15)?;
+    out.push_str("}\n")?;
     Ok(())
 }
 
@@ -153,13 +224,10 @@ fn put_definitions(
 ) -> Result<(), AllocError>
     requires fit { AllFit 0 (bodies blocks.now) }
     requires few { length blocks.now ≤ length names.now }
+    ensures { OnOk result (string_bytes out.new ≡ string_bytes out.old ++ text_of_lines (defined_lines names.now 0 (bodies blocks.now))) }
 {
     for (index, block) in blocks.iter().enumerate() {
-        out.push_str("define ")?;
-        put_name(out, names, index)?;
-        out.push_str(" {\n")?;
-        put_statements(out, names, block.as_slice(), 1, 15)?;
-        out.push_str("}\n")?;
+        put_definition(out, names, index, block.as_slice())?;
     }
     Ok(())
 }
@@ -170,12 +238,13 @@ fn put_definitions(
 /// # Errors
 ///
 /// For want of memory.
-pub fn print(alloc: Global, script: &Script) -> Result<String, AllocError> {
+pub fn print(alloc: Global, script: &Script) -> Result<String, AllocError>
+    ensures layout { IfOk result (λ s. string_bytes s ≡ text_of_lines (tree_lines script.now)) }
+    ensures denotes { IfOk result (λ s. Denotes (string_bytes s) script.now) }
+{
     let mut out = String::new(alloc);
     put_header(&mut out, script.header())?;
-    for item in script.items() {
-        put_item(&mut out, item)?;
-    }
+    put_items(&mut out, script.items())?;
     put_definitions(&mut out, script.names(), script.blocks())?;
     out.push_str("begin\n")?;
     put_statements(&mut out, script.names(), script.statements(), 0, 16)?;

@@ -1,5 +1,14 @@
 //! Printing items and the statements without a block, each without its indentation and its line's end.
 
+ghost use Rattle.std.specs.Prelude.{◌≡◌, ◌++◌, ◌∷◌, [], ◌<◌, ◌≤◌, OnOk, string_bytes};
+ghost use Rattle.std.specs.Fmt.{decimal};
+ghost use Rattle.mux_config.specs.Configuration.{IsSid};
+ghost use Rattle.mux_config.specs.declared.edit.Edit.TheVariants.{AddSub, AddPacket, AddComponent, DropComponent};
+ghost use Rattle.script_front.specs.declared.tree.Act.TheVariants.{Until, WaitContact};
+ghost use Rattle.script_front.specs.Spelling.{hex_byte, hex_word, sid_word, profile_word, two_digits, time_word};
+ghost use Rattle.script_front.specs.Spelled.{carried_words, carrier_words, in_words, edit_words, act_words, mode_words};
+ghost use Rattle.script_front.specs.Printing.{spaced, each_behind, limits_line, header_lines, line_text, text_of_lines};
+
 use crate::time::TimeOfDay;
 use crate::tree::{Act, Header};
 use fib_codec::Mode;
@@ -9,16 +18,42 @@ use plan_code::ContactId;
 use std::alloc::AllocError;
 use std::fmt::Write;
 
+/// Two digits 0-9 or A-F.
+#[tactic(auto, using(crate::proofs::Printed::printed_byte))]
+fn put_byte(out: &mut String, byte: u8) -> Result<(), AllocError>
+    ensures { OnOk result (string_bytes out.new ≡ string_bytes out.old ++ hex_byte byte) }
+{
+    write!(out, "{byte:02X}")
+}
+
+/// Four digits 0-9 or A-F.
+fn put_word(out: &mut String, word: u16) -> Result<(), AllocError>
+    ensures { OnOk result (string_bytes out.new ≡ string_bytes out.old ++ hex_word word) }
+{
+    put_byte(out, (word / 256) as u8)?;
+    put_byte(out, (word % 256) as u8)?;
+    Ok(())
+}
+
 /// Four digits of a short SId, eight of a long one.
-fn put_sid(out: &mut String, sid: Sid) -> Result<(), AllocError> {
+fn put_sid(out: &mut String, sid: Sid) -> Result<(), AllocError>
+    ensures { OnOk result (string_bytes out.new ≡ string_bytes out.old ++ sid_word sid) }
+{
     match sid {
-        Sid::Short(number) => write!(out, "{number:04X}"),
-        Sid::Long(number) => write!(out, "{number:08X}"),
+        Sid::Short(number) => put_word(out, number),
+        Sid::Long(number) => {
+            put_word(out, (number / 65_536) as u16)?;
+            put_word(out, (number % 65_536) as u16)?;
+            Ok(())
+        }
     }
 }
 
 /// A protection profile, as `3-A`.
-fn put_profile(out: &mut String, protection: Protection) -> Result<(), AllocError> {
+#[tactic(auto, using(crate::proofs::Printed::digit))]
+fn put_profile(out: &mut String, protection: Protection) -> Result<(), AllocError>
+    ensures { OnOk result (string_bytes out.new ≡ string_bytes out.old ++ profile_word protection) }
+{
     let level = protection.level();
     match protection.set() {
         EepSet::A => write!(out, "{level}-A"),
@@ -27,7 +62,10 @@ fn put_profile(out: &mut String, protection: Protection) -> Result<(), AllocErro
 }
 
 /// A sub-channel that is added.
-fn put_new_sub(out: &mut String, sub: NewSub) -> Result<(), AllocError> {
+#[tactic(auto, unfolding(crate::specs::Words::letters))]
+fn put_new_sub(out: &mut String, sub: NewSub) -> Result<(), AllocError>
+    ensures { OnOk result (string_bytes out.new ≡ string_bytes out.old ++ spaced (edit_words (AddSub sub))) }
+{
     let sub = sub.get();
     let id = sub.id.get();
     let start = sub.start;
@@ -38,7 +76,10 @@ fn put_new_sub(out: &mut String, sub: NewSub) -> Result<(), AllocError> {
 }
 
 /// A packet component that is added.
-fn put_packet(out: &mut String, packet: Packet) -> Result<(), AllocError> {
+#[tactic(auto, unfolding(crate::specs::Words::letters))]
+fn put_packet(out: &mut String, packet: Packet) -> Result<(), AllocError>
+    ensures { OnOk result (string_bytes out.new ≡ string_bytes out.old ++ spaced (edit_words (AddPacket packet))) }
+{
     let scid = packet.scid.get();
     let ty = packet.ty.get();
     let sub = packet.sub.get();
@@ -56,51 +97,95 @@ fn put_packet(out: &mut String, packet: Packet) -> Result<(), AllocError> {
     }
 }
 
-/// A component and the sub-channel that carries it, up to the service.
-fn put_stream(out: &mut String, word: &str, ty: ScTy, sub: SubId) -> Result<(), AllocError> {
-    let ty = ty.get();
-    let sub = sub.get();
-    write!(out, "{word} {ty} sub {sub} in ")
-}
-
-/// A component that is added to a service.
-fn put_component(out: &mut String, sid: Sid, component: Component) -> Result<(), AllocError> {
+/// A component, up to the service.
+#[tactic(auto, unfolding(crate::specs::Words::letters))]
+fn put_carried(out: &mut String, component: Component) -> Result<(), AllocError>
+    ensures { OnOk result (string_bytes out.new ≡ string_bytes out.old ++ spaced (carried_words component)) }
+{
     match component {
-        Component::Sound { ty, sub } => put_stream(out, "audio", ty, sub)?,
-        Component::Stream { ty, sub } => put_stream(out, "data", ty, sub)?,
+        Component::Sound { ty, sub } => {
+            let ty = ty.get();
+            let sub = sub.get();
+            write!(out, "audio {ty} sub {sub}")
+        }
+        Component::Stream { ty, sub } => {
+            let ty = ty.get();
+            let sub = sub.get();
+            write!(out, "data {ty} sub {sub}")
+        }
         Component::Packet { scid } => {
             let scid = scid.get();
-            write!(out, "carry {scid} in ")?
+            write!(out, "carry {scid}")
         }
     }
-    put_sid(out, sid)
 }
 
 /// What a component names.
-fn put_carrier(out: &mut String, carrier: Carrier) -> Result<(), AllocError> {
+#[tactic(auto, unfolding(crate::specs::Words::letters))]
+fn put_carrier(out: &mut String, carrier: Carrier) -> Result<(), AllocError>
+    ensures { OnOk result (string_bytes out.new ≡ string_bytes out.old ++ each_behind (carrier_words carrier)) }
+{
     match carrier {
         Carrier::Sub(id) => {
             let id = id.get();
-            write!(out, "sub {id}")
+            write!(out, " sub {id}")
         }
         Carrier::Packet(scid) => {
             let scid = scid.get();
-            write!(out, "packet {scid}")
+            write!(out, " packet {scid}")
         }
     }
 }
 
-/// The component of a carrier, taken out of a service.
-fn put_dropped(out: &mut String, sid: Sid, carrier: Carrier) -> Result<(), AllocError> {
-    write!(out, "drop component ")?;
-    put_carrier(out, carrier)?;
-    write!(out, " in ")?;
-    put_sid(out, sid)
+/// The service of a component.
+#[tactic(auto, unfolding(crate::specs::Words::letters))]
+fn put_in(out: &mut String, sid: Sid) -> Result<(), AllocError>
+    ensures { OnOk result (string_bytes out.new ≡ string_bytes out.old ++ each_behind (in_words sid)) }
+{
+    out.push_str(" in ")?;
+    put_sid(out, sid)?;
+    Ok(())
 }
 
-/// An edit that changes or takes away.
-fn put_change(out: &mut String, edit: Edit) -> Result<(), AllocError> {
+/// A component that is added to a service.
+#[tactic(auto, using(crate::proofs::Printed::component_put))]
+fn put_component(out: &mut String, sid: Sid, component: Component) -> Result<(), AllocError>
+    ensures { OnOk result (string_bytes out.new ≡ string_bytes out.old ++ spaced (edit_words (AddComponent sid component))) }
+{
+    put_carried(out, component)?;
+    put_in(out, sid)?;
+    Ok(())
+}
+
+/// The component of a carrier, taken out of a service.
+fn put_dropped(out: &mut String, sid: Sid, carrier: Carrier) -> Result<(), AllocError>
+    ensures { OnOk result (string_bytes out.new ≡ string_bytes out.old ++ spaced (edit_words (DropComponent sid carrier))) }
+{
+    out.push_str("drop component")?;
+    put_carrier(out, carrier)?;
+    put_in(out, sid)?;
+    Ok(())
+}
+
+/// A service that is added or taken away, after its first words.
+fn put_after(out: &mut String, words: &str, sid: Sid) -> Result<(), AllocError>
+    ensures { OnOk result (string_bytes out.new ≡ string_bytes out.old ++ (words.now ++ sid_word sid)) }
+{
+    out.push_str(words)?;
+    put_sid(out, sid)?;
+    Ok(())
+}
+
+/// An edit.
+#[tactic(auto, unfolding(crate::specs::Words::letters))]
+pub fn put_edit(out: &mut String, edit: Edit) -> Result<(), AllocError>
+    ensures { OnOk result (string_bytes out.new ≡ string_bytes out.old ++ spaced (edit_words edit)) }
+{
     match edit {
+        Edit::AddSub(sub) => put_new_sub(out, sub),
+        Edit::AddService(sid) => put_after(out, "service ", sid),
+        Edit::AddComponent { sid, component } => put_component(out, sid, component),
+        Edit::AddPacket(packet) => put_packet(out, packet),
         Edit::DropSub(id) => {
             let id = id.get();
             write!(out, "drop sub {id}")
@@ -118,39 +203,50 @@ fn put_change(out: &mut String, edit: Edit) -> Result<(), AllocError> {
             let scid = scid.get();
             write!(out, "drop packet {scid}")
         }
-        Edit::DropService(sid) => {
-            write!(out, "drop service ")?;
-            put_sid(out, sid)
-        }
+        Edit::DropService(sid) => put_after(out, "drop service ", sid),
         Edit::DropComponent { sid, carrier } => put_dropped(out, sid, carrier),
-        _ => Ok(()),
     }
 }
 
-/// An edit.
-pub fn put_edit(out: &mut String, edit: Edit) -> Result<(), AllocError> {
-    match edit {
-        Edit::AddSub(sub) => put_new_sub(out, sub),
-        Edit::AddService(sid) => {
-            write!(out, "service ")?;
-            put_sid(out, sid)
-        }
-        Edit::AddComponent { sid, component } => put_component(out, sid, component),
-        Edit::AddPacket(packet) => put_packet(out, packet),
-        _ => put_change(out, edit),
-    }
+/// Two decimal digits.
+#[tactic(auto, using(crate::proofs::Printed::digit))]
+fn put_two(out: &mut String, number: u32) -> Result<(), AllocError>
+    requires { number < 100 }
+    ensures { OnOk result (string_bytes out.new ≡ string_bytes out.old ++ two_digits number) }
+{
+    let tens = number / 10;
+    let ones = number % 10;
+    write!(out, "{tens}{ones}")
 }
 
 /// A time of the day, `HH:MM:SS`.
-fn put_time(out: &mut String, time: TimeOfDay) -> Result<(), AllocError> {
-    let seconds = time.seconds() % 60;
-    let minutes = time.seconds() / 60 % 60;
-    let hours = time.seconds() / 3600;
-    write!(out, "until {hours:02}:{minutes:02}:{seconds:02}")
+fn put_time(out: &mut String, time: TimeOfDay) -> Result<(), AllocError>
+    ensures { OnOk result (string_bytes out.new ≡ string_bytes out.old ++ time_word time) }
+{
+    let seconds = time.seconds();
+    put_two(out, seconds / 3600)?;
+    out.push_str(":")?;
+    put_two(out, seconds / 60 % 60)?;
+    out.push_str(":")?;
+    put_two(out, seconds % 60)?;
+    Ok(())
+}
+
+/// Waiting for a time of the day.
+#[tactic(auto, unfolding(crate::specs::Words::letters))]
+fn put_until(out: &mut String, time: TimeOfDay) -> Result<(), AllocError>
+    ensures { OnOk result (string_bytes out.new ≡ string_bytes out.old ++ spaced (act_words (Until time))) }
+{
+    out.push_str("until ")?;
+    put_time(out, time)?;
+    Ok(())
 }
 
 /// Waiting for a contact.
-fn put_waiting(out: &mut String, contact: ContactId, closed: bool) -> Result<(), AllocError> {
+#[tactic(auto, unfolding(crate::specs::Words::letters))]
+fn put_waiting(out: &mut String, contact: ContactId, closed: bool) -> Result<(), AllocError>
+    ensures { OnOk result (string_bytes out.new ≡ string_bytes out.old ++ spaced (act_words (WaitContact contact closed))) }
+{
     let contact = contact.get();
     if closed {
         write!(out, "wait contact {contact} closed")
@@ -160,7 +256,10 @@ fn put_waiting(out: &mut String, contact: ContactId, closed: bool) -> Result<(),
 }
 
 /// A statement without a block.
-pub fn put_act(out: &mut String, act: Act) -> Result<(), AllocError> {
+#[tactic(auto, unfolding(crate::specs::Words::letters))]
+pub fn put_act(out: &mut String, act: Act) -> Result<(), AllocError>
+    ensures { OnOk result (string_bytes out.new ≡ string_bytes out.old ++ spaced (act_words act)) }
+{
     match act {
         Act::Edit(edit) => put_edit(out, edit),
         Act::Wait(frames) => {
@@ -168,34 +267,49 @@ pub fn put_act(out: &mut String, act: Act) -> Result<(), AllocError> {
             write!(out, "wait {frames}")
         }
         Act::WaitContact { contact, closed } => put_waiting(out, contact, closed),
-        Act::Until(time) => put_time(out, time),
+        Act::Until(time) => put_until(out, time),
         Act::CommitIn(delay) => {
             let delay = delay.get();
             write!(out, "commit in {delay}")
         }
         Act::CommitAt(count) => write!(out, "commit at {count}"),
-        Act::Join => write!(out, "join"),
-        Act::Settle => write!(out, "settle"),
+        Act::Join => out.push_str("join"),
+        Act::Settle => out.push_str("settle"),
     }
 }
 
 /// The mode, where it is not mode I.
-fn put_mode(out: &mut String, mode: Mode) -> Result<(), AllocError> {
+#[tactic(auto, unfolding(crate::specs::Words::letters), using(crate::proofs::Printed::digit))]
+fn put_mode(out: &mut String, mode: Mode) -> Result<(), AllocError>
+    ensures { OnOk result (string_bytes out.new ≡ string_bytes out.old ++ each_behind (mode_words mode)) }
+{
     match mode {
         Mode::I => Ok(()),
-        Mode::II => write!(out, " mode 2"),
-        Mode::III => write!(out, " mode 3"),
-        Mode::IV => write!(out, " mode 4"),
+        Mode::II => out.push_str(" mode 2"),
+        Mode::III => out.push_str(" mode 3"),
+        Mode::IV => out.push_str(" mode 4"),
     }
 }
 
-/// The two lines of a header.
-pub fn put_header(out: &mut String, header: Header) -> Result<(), AllocError> {
-    let eid = header.eid;
+/// The second line of a header.
+#[tactic(auto, unfolding(crate::specs::Words::letters))]
+fn put_limits(out: &mut String, header: Header) -> Result<(), AllocError>
+    ensures { OnOk result (string_bytes out.new ≡ string_bytes out.old ++ line_text (limits_line header)) }
+{
     let period = header.period;
     let notice = header.notice;
     let budget = header.budget;
-    write!(out, "ensemble {eid:04X}")?;
+    write!(out, "period {period} notice {notice} budget {budget}\n")
+}
+
+/// The two lines of a header.
+pub fn put_header(out: &mut String, header: Header) -> Result<(), AllocError>
+    ensures { OnOk result (string_bytes out.new ≡ string_bytes out.old ++ text_of_lines (header_lines header)) }
+{
+    out.push_str("ensemble ")?;
+    put_word(out, header.eid)?;
     put_mode(out, header.mode)?;
-    write!(out, "\nperiod {period} notice {notice} budget {budget}\n")
+    out.push_str("\n")?;
+    put_limits(out, header)?;
+    Ok(())
 }

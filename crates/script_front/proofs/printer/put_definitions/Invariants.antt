@@ -1,7 +1,11 @@
-use Rattle.std.proofs.Common.{drop}
+use Rattle.std.proofs.Common.{drop, string_bytes}
 use Rattle.script_front.specs.Tree.{AllFit}
 use Rattle.script_front.specs.Parsing.{bodies}
+use Rattle.script_front.proofs.Printed.{AllPrinted}
 use Rattle.script_front.proofs.printer.put_definitions.Given as goal
 
 abbrev pub invariant-loop-index : goal.invariant-loop-index
-invariant-loop-index l = AllFit l.index (bodies (drop l.index l.blocks))
+invariant-loop-index l = record {
+  so_far : AllPrinted l.names (string_bytes l.fn.out) (string_bytes l.out) l.blocks l.index;
+  fits : AllFit l.index (bodies (drop l.index l.blocks));
+}

@@ -1,0 +1,92 @@
+-- How a script is printed: in lines of words, each behind its indentation, with one blank between two words.
+use Rattle.std.specs.Prelude.{◌≡◌, ℕ, zero, suc, ◌+◌, List, [], ◌∷◌, ◌++◌}
+use Rattle.std.specs.Fmt.{decimal}
+use Rattle.script_front.specs.declared.tree.Header.{Header}
+use Rattle.script_front.specs.declared.tree.Item.{Item}
+use Rattle.script_front.specs.declared.tree.Statement.{Statement}
+use Rattle.script_front.specs.declared.keyword.Keyword.TheVariants as the
+use Rattle.script_front.specs.Words.{letters}
+use Rattle.script_front.specs.Spelling.{hex_word}
+use Rattle.script_front.specs.Block.{Block, Before, nothing, basic, stop, when, either, repeat, forever, apply, block_of}
+use Rattle.script_front.specs.Tree.{Tree}
+use Rattle.script_front.specs.Spelled.{Spelled, edit_words, act_words, name_at, mode_words}
+
+-- the words of a line, and how many braces it stands in
+pub record Line : Type 0 where
+  pub depth : ℕ
+  pub words : Spelled
+
+abbrev pub line : ℕ → Spelled → Line
+line depth words = record { depth = depth; words = words }
+
+-- two blanks for each depth
+abbrev pub indent : ℕ → List ℕ
+indent zero = []
+indent (suc d) = 32 ∷ 32 ∷ indent d
+
+abbrev pub each_behind : Spelled → List ℕ
+each_behind [] = []
+each_behind (w ∷ ws) = 32 ∷ (w ++ each_behind ws)
+
+-- words with a blank between each two
+abbrev pub spaced : Spelled → List ℕ
+spaced [] = []
+spaced (w ∷ ws) = w ++ each_behind ws
+
+abbrev pub line_text : Line → List ℕ
+line_text l = indent l.depth ++ (spaced l.words ++ 10 ∷ [])
+
+unfoldable pub text_of_lines : List Line → List ℕ
+text_of_lines [] = []
+text_of_lines (l ∷ ls) = line_text l ++ text_of_lines ls
+
+abbrev pub closing : ℕ → Line
+closing d = line d (letters the.CloseBrace ∷ [])
+
+abbrev pub block_lines : List (List ℕ) → ℕ → Block → List Line
+block_lines names d nothing = []
+block_lines names d (basic n act rest) = line d (act_words act) ∷ block_lines names d rest
+block_lines names d (stop n rest) = line d (letters the.End ∷ []) ∷ block_lines names d rest
+block_lines names d (when n contact first rest) =
+    line d (letters the.If ∷ letters the.Contact ∷ decimal contact ∷ letters the.OpenBrace ∷ [])
+    ∷ (block_lines names (d + 1) first ++ closing d ∷ block_lines names d rest)
+block_lines names d (either n contact first second rest) =
+    line d (letters the.If ∷ letters the.Contact ∷ decimal contact ∷ letters the.OpenBrace ∷ [])
+    ∷ (block_lines names (d + 1) first ++ line d (letters the.CloseBrace ∷ letters the.Else ∷ letters the.OpenBrace ∷ [])
+    ∷ (block_lines names (d + 1) second ++ closing d ∷ block_lines names d rest))
+block_lines names d (repeat n times body rest) =
+    line d (letters the.Repeat ∷ decimal times ∷ letters the.OpenBrace ∷ []) ∷ (block_lines names (d + 1) body ++ closing d ∷ block_lines names d rest)
+block_lines names d (forever n body rest) =
+    line d (letters the.Forever ∷ letters the.OpenBrace ∷ []) ∷ (block_lines names (d + 1) body ++ closing d ∷ block_lines names d rest)
+block_lines names d (apply n number named rest) = line d (letters the.Apply ∷ name_at names number ∷ []) ∷ block_lines names d rest
+
+abbrev pub limits_line : Header → Line
+limits_line h = line 0 (letters the.Period ∷ decimal h.period ∷ letters the.Notice ∷ decimal h.notice ∷ letters the.Budget ∷ decimal h.budget ∷ [])
+
+abbrev pub header_lines : Header → List Line
+header_lines h = line 0 (letters the.Ensemble ∷ hex_word h.eid ∷ mode_words h.mode) ∷ limits_line h ∷ []
+
+abbrev pub items_lines : List Item → List Line
+items_lines [] = []
+items_lines (i ∷ is) = line 0 (edit_words i.edit) ∷ items_lines is
+
+-- the definitions of these blocks, the first of which has this number
+abbrev pub defined_lines : List (List ℕ) → ℕ → List (List Statement) → List Line
+defined_lines names number [] = []
+defined_lines names number (b ∷ bs) =
+    line 0 (letters the.Define ∷ name_at names number ∷ letters the.OpenBrace ∷ [])
+    ∷ (block_lines names 1 (block_of [] b) ++ closing 0 ∷ defined_lines names (number + 1) bs)
+
+-- one definition
+abbrev pub definition_lines : List (List ℕ) → ℕ → List Statement → List Line
+definition_lines names number b =
+    line 0 (letters the.Define ∷ name_at names number ∷ letters the.OpenBrace ∷ []) ∷ (block_lines names 1 (block_of [] b) ++ closing 0 ∷ [])
+
+abbrev pub tree_lines : Tree → List Line
+tree_lines t =
+    header_lines t.header ++ (items_lines t.items ++ (defined_lines t.names 0 t.blocks
+    ++ line 0 (letters the.Begin ∷ []) ∷ block_lines t.names 0 (block_of [] t.statements)))
+
+-- what was added is the text of statements that are put before a block
+pub record IsPut (names : List (List ℕ)) (d : ℕ) (added : Before) (old new : List ℕ) : Type 0 where
+  pub before : (b : Block) → new ++ text_of_lines (block_lines names d b) ≡ old ++ text_of_lines (block_lines names d (added b))
