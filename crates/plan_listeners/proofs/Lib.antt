@@ -9,3 +9,4 @@ pub mod Waiting
 pub mod Windows
 pub mod Swaps
 mod Vectors
+mod VectorsOfListening
