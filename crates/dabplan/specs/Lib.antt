@@ -3,4 +3,4 @@ pub mod Frame
 pub mod Lines
 pub mod Printed
 pub mod Stream
-pub mod Verdict
+pub mod Transcript

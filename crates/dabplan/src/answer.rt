@@ -6,7 +6,7 @@ use crate::command_line::{self, Request, Unasked};
 use crate::ending::{Failure, Status};
 use crate::files::Files;
 use crate::output::Output;
-use crate::{frame, listen, play, verify};
+use crate::{debug, frame, listen, play, verify};
 use std::alloc::{AllocError, Global};
 use std::convert::AsStr;
 use std::io::{self, ErrorKind, Write};
@@ -68,6 +68,7 @@ fn obey<S: AsStr, F: Files, W: Write>(
         Ok(Request::Listen(path)) => told(listen::show_heard(alloc, path, files, out), out),
         Ok(Request::Verify(path)) => told(verify::show_verdict(alloc, path, files, out), out),
         Ok(Request::Play(request)) => told(play::show_play(alloc, &request, files, out), out),
+        Ok(Request::Debug(request)) => told(debug::show_debug(alloc, &request, files, out), out),
         Err(unasked) => explain(alloc, unasked, out),
     }
 }
@@ -95,7 +96,9 @@ fn explain<W: Write>(alloc: Global, unasked: Unasked<'_>, out: &mut W) -> io::Re
             "error: invalid value '{value}' for '{option}': four digits 0-9 A-F are wanted"
         ),
         Unasked::Nothing =>
-            "error: a command is wanted: frame, listen, verify, play or help".to_string(alloc),
+            "error: a command is wanted: frame, listen, verify, play, debug or help".to_string(
+                alloc,
+            ),
         Unasked::NoText => "error: a word of the command line is not UTF-8".to_string(alloc),
         Unasked::Memory => Err(AllocError),
     };

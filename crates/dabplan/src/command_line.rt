@@ -23,6 +23,8 @@ pub enum Request<'a> {
     Verify(&'a str),
     /// `play`.
     Play(PlayRequest<'a>),
+    /// `debug`.
+    Debug(DebugRequest<'a>),
 }
 
 /// The files and options of `play`.
@@ -34,6 +36,24 @@ pub struct PlayRequest<'a> {
     pub events: &'a str,
     /// The path of the file that the frames are written to.
     pub out: &'a str,
+    /// How it starts.
+    pub start: StartOptions,
+}
+
+/// The files and options of `debug`.
+#[derive(Clone, Copy)]
+pub struct DebugRequest<'a> {
+    /// The path of the code file.
+    pub code: &'a str,
+    /// The path of the command file.
+    pub commands: &'a str,
+    /// How it starts.
+    pub start: StartOptions,
+}
+
+/// How a code starts to be played, which the code does not say.
+#[derive(Clone, Copy)]
+pub struct StartOptions {
     /// The CIF count of the first frame.
     pub count: u16,
     /// The frame of the day of the first frame.
@@ -99,6 +119,7 @@ pub fn request_of<'a, S: AsStr>(alloc: Global, words: &'a [S]) -> Result<Request
         Some(("listen", options)) => listen_request(options),
         Some(("verify", options)) => verify_request(options),
         Some(("play", options)) => play_request(options),
+        Some(("debug", options)) => debug_request(options),
         _ => Err(Unasked::Nothing),
     }
 }
@@ -112,7 +133,8 @@ fn program<'a>(alloc: Global) -> Result<Command<'a>, AllocError> {
         .subcommand(frame(alloc)?)?
         .subcommand(listen(alloc)?)?
         .subcommand(verify(alloc)?)?
-        .subcommand(play(alloc)?)
+        .subcommand(play(alloc)?)?
+        .subcommand(debug(alloc)?)
 }
 
 fn frame<'a>(alloc: Global) -> Result<Command<'a>, AllocError> {
@@ -199,27 +221,6 @@ fn play<'a>(alloc: Global) -> Result<Command<'a>, AllocError> {
         .value_name("OUT")
         .required(true)
         .help("The file that the frames are written to");
-    let count = Arg::new(alloc, "count")
-        .long("count")
-        .value_name("N")
-        .default_value("0")
-        .allow_negative_numbers(true)
-        .value_parser(value_parser!(u16))
-        .help("The CIF count of the first frame, 0 to 4999");
-    let day = Arg::new(alloc, "day")
-        .long("day")
-        .value_name("N")
-        .default_value("0")
-        .allow_negative_numbers(true)
-        .value_parser(value_parser!(u32))
-        .help("The frame of the day of the first frame, 0 to 3599999, in frames of 24 ms");
-    let contacts = Arg::new(alloc, "contacts")
-        .long("contacts")
-        .value_name("HHHH")
-        .default_value("0000")
-        .help(
-            "The contacts that are closed at first: four hexadecimal digits, contact 0 the lowest bit",
-        );
     Command::new(alloc, "play")
         .about(help::PLAY)
         .long_about(help::LONG_PLAY)
@@ -228,9 +229,63 @@ fn play<'a>(alloc: Global) -> Result<Command<'a>, AllocError> {
         .arg(code)?
         .arg(events)?
         .arg(out)?
-        .arg(count)?
-        .arg(day)?
-        .arg(contacts)
+        .arg(count(alloc))?
+        .arg(day(alloc))?
+        .arg(contacts(alloc))
+}
+
+fn debug<'a>(alloc: Global) -> Result<Command<'a>, AllocError> {
+    let code = Arg::new(alloc, "code")
+        .value_name("CODE")
+        .required(true)
+        .help("The code file");
+    let commands = Arg::new(alloc, "commands")
+        .value_name("COMMANDS")
+        .required(true)
+        .help("The command file");
+    Command::new(alloc, "debug")
+        .about(help::DEBUG)
+        .long_about(help::LONG_DEBUG)
+        .after_long_help(help::AFTER_DEBUG)
+        .override_usage(help::DEBUG_USAGE)
+        .arg(code)?
+        .arg(commands)?
+        .arg(count(alloc))?
+        .arg(day(alloc))?
+        .arg(contacts(alloc))
+}
+
+/// The option of the first frame's count.
+fn count<'a>(alloc: Global) -> Arg<'a> {
+    Arg::new(alloc, "count")
+        .long("count")
+        .value_name("N")
+        .default_value("0")
+        .allow_negative_numbers(true)
+        .value_parser(value_parser!(u16))
+        .help("The CIF count of the first frame, 0 to 4999")
+}
+
+/// The option of the first frame's day frame.
+fn day<'a>(alloc: Global) -> Arg<'a> {
+    Arg::new(alloc, "day")
+        .long("day")
+        .value_name("N")
+        .default_value("0")
+        .allow_negative_numbers(true)
+        .value_parser(value_parser!(u32))
+        .help("The frame of the day of the first frame, 0 to 3599999, in frames of 24 ms")
+}
+
+/// The option of the contacts that are closed at first.
+fn contacts<'a>(alloc: Global) -> Arg<'a> {
+    Arg::new(alloc, "contacts")
+        .long("contacts")
+        .value_name("HHHH")
+        .default_value("0000")
+        .help(
+            "The contacts that are closed at first: four hexadecimal digits, contact 0 the lowest bit",
+        )
 }
 
 fn frame_request<'a>(options: &ArgMatches<'a>) -> Result<Request<'a>, Unasked<'a>> {
@@ -279,6 +334,30 @@ fn verify_request<'a>(options: &ArgMatches<'a>) -> Result<Request<'a>, Unasked<'
 }
 
 fn play_request<'a>(options: &ArgMatches<'a>) -> Result<Request<'a>, Unasked<'a>> {
+    let start = start_options(options)?;
+    let code = options.get_str("code").ok_or(Unasked::Nothing)?;
+    let events = options.get_str("events").ok_or(Unasked::Nothing)?;
+    let out = options.get_str("out").ok_or(Unasked::Nothing)?;
+    Ok(Request::Play(PlayRequest {
+        code,
+        events,
+        out,
+        start,
+    }))
+}
+
+fn debug_request<'a>(options: &ArgMatches<'a>) -> Result<Request<'a>, Unasked<'a>> {
+    let start = start_options(options)?;
+    let code = options.get_str("code").ok_or(Unasked::Nothing)?;
+    let commands = options.get_str("commands").ok_or(Unasked::Nothing)?;
+    Ok(Request::Debug(DebugRequest {
+        code,
+        commands,
+        start,
+    }))
+}
+
+fn start_options<'a>(options: &ArgMatches<'a>) -> Result<StartOptions, Unasked<'a>> {
     let digits = options.get_str("contacts").unwrap_or("");
     let Some(contacts) = hexadecimal::word_of(digits) else {
         return Err(Unasked::Digits {
@@ -286,17 +365,11 @@ fn play_request<'a>(options: &ArgMatches<'a>) -> Result<Request<'a>, Unasked<'a>
             value: digits,
         });
     };
-    let code = options.get_str("code").ok_or(Unasked::Nothing)?;
-    let events = options.get_str("events").ok_or(Unasked::Nothing)?;
-    let out = options.get_str("out").ok_or(Unasked::Nothing)?;
     let count = options.get_one::<u16>("count").ok_or(Unasked::Nothing)?;
     let day = options.get_one::<u32>("day").ok_or(Unasked::Nothing)?;
-    Ok(Request::Play(PlayRequest {
-        code,
-        events,
-        out,
+    Ok(StartOptions {
         count,
         day,
         contacts: Contacts(contacts),
-    }))
+    })
 }

@@ -2,8 +2,8 @@
 
 pub const PROGRAM: &str = "\
 Writes and hears what the Fast Information Channel of a DAB ensemble says of its multiplex:
-sub-channels, services and their components (EN 300 401, FIG 0/0 to 0/3), and verifies plans
-of its reconfigurations.";
+sub-channels, services and their components (EN 300 401, FIG 0/0 to 0/3), and verifies, plays
+and debugs plans of its reconfigurations.";
 
 pub const AFTER_PROGRAM: &str = "\
 What goes in and comes out:
@@ -15,6 +15,8 @@ What goes in and comes out:
           plan can be played without going wrong, or what is wrong with it and where.
   play    plays a plan over a file of events, frames and changes of contacts, and writes the
           FIBs of each frame to a file.
+  debug   plays a plan by a file of commands, up to a line or to the next instruction, and says
+          after each where the plan stands and which swaps were announced.
 'dabplan help COMMAND' tells more: each field, each line, an example.
 
 Example: sub-channel 1 of 128 kbit/s at 3-A, and service C221 with audio of type 63 on it
@@ -186,4 +188,53 @@ Example: a plan that lowers and raises a rate as contact 3 is closed and opened
 Exit status:
   0  all frames were written
   1  the plan, the start or the events are refused, or a file can't be read or written
+  2  the command line is wrong";
+
+pub const DEBUG: &str = "Plays a plan of reconfigurations by commands";
+
+pub const LONG_DEBUG: &str = "\
+Plays a plan of reconfigurations by commands.
+
+In go a code file, the binary form of a plan, and a text of commands. Each command is carried out
+and answered by a line: how many frames of 24 ms it played, and where the plan stands after it.";
+
+pub const DEBUG_USAGE: &str =
+    "dabplan debug <CODE> <COMMANDS> [--count <N>] [--day <N>] [--contacts <HHHH>]";
+
+pub const AFTER_DEBUG: &str = "\
+The commands, in order, with blanks, line ends and comments ('#' to the end of the line) between:
+  run N                frames are played, at most N, 1 to 3600000, up to one after which another
+                       instruction is next, which comes from the break line
+  next                 frames are played, at most 5000, up to one after which another instruction
+                       is next
+  break LINE           sets the one break line, 1 to 65535; a line of the script
+  clear                takes the break line away
+  contact C closed     contact C, 0 to 15, is closed
+  contact C open       it is opened
+  show                 lists the last 64 announcements
+
+The lines:
+  frames 2 steps 0 pc 4 line 12 count 3 remaining 25
+                       frames: those that this command played; steps: the instructions that ran
+                       in the last frame; pc and line: the next instruction, counted from 0, and
+                       its line; count: the CIF count of the next frame; remaining: the frames
+                       until the swap, or 'none'
+  break                the break line was met
+  announced 4 swap 28 change 1
+                       'show': at CIF count 4 change flags went out, for a swap at a count with
+                       the low part 28; change 1 is for the sub-channels, 2 for the services, 3
+                       for both
+  code: Magic          the bytes of CODE are no code file
+  refused at 3 line 10: Notice  the plan is refused, as 'dabplan verify' says
+  start: Count         --count is 5000 or more; 'start: Day': --day is 3600000 or more
+  commands 1:5: Number line 1, column 5 of COMMANDS has no number in range; 'Expected': another
+                       word has to stand there; 'Byte': no such byte may
+
+Example: a plan that lowers and raises a rate as contact 3 is closed and opened
+  printf 'break 9 run 100 contact 3 closed run 2 next show' > day.commands
+  dabplan debug docs/examples/contact_lowers_a_rate.code day.commands
+
+Exit status:
+  0  all commands were carried out
+  1  the plan, the start or the commands are refused, or a file can't be read
   2  the command line is wrong";

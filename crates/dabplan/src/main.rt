@@ -1,5 +1,5 @@
 //! The program `dabplan`: what the Fast Information Channel of a DAB ensemble says of its multiplex
-//! (EN 300 401), written and heard, and whether a plan of its reconfigurations can be played.
+//! (EN 300 401), written and heard, and plans of its reconfigurations, verified, played and debugged.
 //!
 //! `answer` is the whole program over its words, its files and its output. `command_line` reads the words,
 //! and each subcommand has a file of its own.
@@ -7,6 +7,7 @@
 
 mod answer;
 mod command_line;
+mod debug;
 mod ending;
 mod files;
 mod frame;

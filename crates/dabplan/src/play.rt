@@ -28,9 +28,7 @@ pub fn show_play<'a, F: Files, W: Write>(
     let text = files
         .read(alloc, request.events)
         .map_err(|fault| Failure::of_file(fault, request.events))?;
-    let Ok(events) = str::from_utf8(text.as_slice()) else {
-        return Err(Failure::Read(request.events));
-    };
+    let events = text_of(text.as_slice(), request.events)?;
     let file = files
         .create(request.out)
         .map_err(|fault| Failure::of_output(fault, request.out))?;
@@ -39,9 +37,9 @@ pub fn show_play<'a, F: Files, W: Write>(
         alloc,
         code.as_slice(),
         events,
-        request.count,
-        request.day,
-        request.contacts,
+        request.start.count,
+        request.start.day,
+        request.start.contacts,
         &mut sink,
     );
     match ended {
@@ -55,5 +53,13 @@ pub fn show_play<'a, F: Files, W: Write>(
             writeln!(out, "{fault}")?;
             Ok(Status::Refused)
         }
+    }
+}
+
+/// The text that the bytes of a file are; one that is not UTF-8 can't be read.
+pub fn text_of<'b, 'a>(bytes: &'b [u8], path: &'a str) -> Result<&'b str, Failure<'a>> {
+    match str::from_utf8(bytes) {
+        Ok(text) => Ok(text),
+        Err(_) => Err(Failure::Read(path)),
     }
 }

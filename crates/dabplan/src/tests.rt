@@ -1,4 +1,5 @@
 mod command_line;
+mod debug;
 mod fake;
 mod frame;
 mod listen;

@@ -1,16 +1,18 @@
 -- What the commands of a debugger mean: how many frames each plays, and what becomes of the debugger.
-use Rattle.std.specs.Prelude.{◌≡◌, ◌≢◌, ◌⊎◌, ℕ, zero, suc, ◌<◌, ◌≤◌, List, [], ◌∷◌, replicate, Option, Some, None}
+use Rattle.std.specs.Prelude.{◌≡◌, ◌≢◌, ◌↔◌, ◌⊎◌, ℕ, zero, suc, ◌<◌, ◌≤◌, List, [], ◌∷◌, ◌++◌, replicate, Option, Some, None, IsTrue}
+use Rattle.circular_buffer.specs.Buffer.{keep_last}
 use Rattle.plan_code.specs.Program.{Program, line_at}
 use Rattle.plan_code.specs.Machine.{State}
 use Rattle.plan_runs.specs.declared.event.Event.{Event}
 use Rattle.plan_runs.specs.declared.event.Event.TheVariants.{Contact as ContactEvent, Frame}
 use Rattle.plan_runs.specs.Frames.{frame_bytes}
 use Rattle.plan_runs.specs.Runs.{run}
-use Rattle.plan_player.specs.Playing.{Playing}
+use Rattle.plan_player.specs.Playing.{Playing, played}
 use Rattle.plan_debug.specs.declared.announcement.Announcement.{Announcement}
 use Rattle.plan_debug.specs.declared.report.Report.{Report}
-use Rattle.plan_debug.specs.declared.command.Command.{Command}
-use Rattle.plan_debug.specs.declared.command.Command.TheVariants.{Contact, Run, Next, Break, Clear, Show}
+use Rattle.plan_events.specs.declared.command.Command.{Command}
+use Rattle.plan_events.specs.declared.command.Command.TheVariants.{Contact, Run, Next, Break, Clear, Show}
+use Rattle.plan_debug.specs.Announcements.{announced}
 
 -- what a debugger stands for: its player, its break line, and the announcements that it keeps, oldest first
 pub record Debugging : Type 0 where
@@ -111,3 +113,20 @@ pub record IsView (p : Playing) (r : Report) : Type 0 where
   pub line : line_at p.code p.state.pc ≡ Some r.line
   pub count : r.count ≡ p.state.count
   pub remaining : r.remaining ≡ p.state.left
+
+-- ---- a command as a whole
+
+-- a debugger that begins with this player
+abbrev pub fresh : Playing → Debugging
+fresh p = record { player = p; stop = None; announcements = [] }
+
+-- what a command answers, and what it makes of the debugger
+pub record Answers (before : Debugging) (command : Command) (after : Debugging) (r : Report) : Type 0 where
+  pub count : IsCount before.player.code before.stop command before.player.state r.frames
+  pub broke : IsTrue r.broke ↔ IsBroken before.player.code before.stop command before.player.state r.frames
+  pub bytes : r.fibs ≡ last_bytes before.player.code before.player.state r.frames
+  pub player : after.player ≡ played before.player (events_of command r.frames)
+  pub views : IsView after.player r
+  pub stop : after.stop ≡ stop_after command before.stop
+  pub announcements : after.announcements ≡ keep_last 64
+      (before.announcements ++ announced before.player.code before.player.state (events_of command r.frames))

@@ -10,12 +10,12 @@ ghost use Rattle.plan_debug.specs.Announcements.{announced};
 ghost use Rattle.plan_debug.specs.Commands.{Ends, EndsAt, IsCount, IsBroken, IsView, events_of, most_frames, stop_after, last_bytes, frames};
 
 use crate::announcement::Announcement;
-use crate::command::Command;
 use crate::heard::announcement_in;
 use crate::log::Log;
 use crate::report::Report;
 use fib_codec::{FibFrame, Mode};
 use mux_config::Store;
+use plan_events::Command;
 use plan_player::Player;
 use std::alloc::Global;
 use std::marker::Model;

@@ -6,15 +6,14 @@
 #![tactic(auto)]
 
 pub mod announcement;
-pub mod command;
 pub mod debugger;
 mod heard;
 mod log;
 pub mod report;
 
 pub use announcement::Announcement;
-pub use command::Command;
 pub use debugger::Debugger;
+pub use plan_events::Command;
 pub use report::Report;
 
 #[cfg(test)]

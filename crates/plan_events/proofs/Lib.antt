@@ -1,1 +1,3 @@
+mod CommandWords
+mod Listed
 pub mod Spelled

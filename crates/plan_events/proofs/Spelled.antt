@@ -1,9 +1,7 @@
 -- The words of steps tell them apart.
-use Rattle.std.proofs.Common.{◌≡◌, ◌≢◌, ℕ, ◌+◌, ◌<◌, ◌≤◌, ◌++◌, Ok, Err, Bool, true, false, List, [], ◌∷◌, length, flat_map, refl, sym, ap, ◌∙◌, subst, append_assoc, arith}
+use Rattle.std.proofs.Common.{◌≡◌, ◌≢◌, ℕ, ◌+◌, ◌<◌, ◌≤◌, ◌++◌, Ok, Err, Bool, true, false, List, [], ◌∷◌, length, refl, sym, ap, ◌∙◌, subst, arith}
 use Rattle.std.specs.Fmt.{decimal}
-use Rattle.std.proofs.lemmas.List.{append-nil}
 use Rattle.std.proofs.lemmas.Fmt.{decimal_injective}
-use Rattle.mux_config.specs.Configuration.{Each}
 use Rattle.plan_events.specs.declared.step.Step.{Step}
 use Rattle.plan_events.specs.declared.step.Step.TheVariants.{Contact, Frames}
 use Rattle.plan_events.specs.Events.{IsStep, step_words, level_word, first_word, words_of, Holds, HoldsOneList}
@@ -15,14 +13,15 @@ use Rattle.script_front.specs.declared.fault.ScriptFault.{ScriptFault}
 use Rattle.script_front.specs.Bytes.{first_place}
 use Rattle.script_front.specs.Lexing.{lexed, InOrder}
 use Rattle.script_front.proofs.Spans.{cut_in_order}
+use Rattle.plan_events.proofs.Listed.{one_list}
 
-level_told : (b c : Bool) → level_word b ≡ level_word c → b ≡ c
+pub level_told : (b c : Bool) → level_word b ≡ level_word c → b ≡ c
 level_told true true e = refl
 level_told true false e = let n : 6 ≡ 4 = ap length e in absurd (omega (arith, n))
 level_told false true e = let n : 4 ≡ 6 = ap length e in absurd (omega (arith, n))
 level_told false false e = refl
 
-head_told : {T : Type 0} (x y : T) (xs ys : List T) → x ∷ xs ≡ y ∷ ys → (x ≡ y) × (xs ≡ ys)
+pub head_told : {T : Type 0} (x y : T) (xs ys : List T) → x ∷ xs ≡ y ∷ ys → (x ≡ y) × (xs ≡ ys)
 head_told x y xs ys e = (cc, cc)
 
 -- the words of a step at the front name it
@@ -49,71 +48,9 @@ one_step (Frames m) (Frames n) xs ys h k same =
     (cc, number.1)
 
 -- the words of a step are no empty list
-some_words : (s : Step) (xs : List (List ℕ)) → step_words s ++ xs ≢ []
+pub some_words : (s : Step) (xs : List (List ℕ)) → step_words s ++ xs ≢ []
 some_words (Contact c b) xs e = absurd (cc)
 some_words (Frames n) xs e = absurd (cc)
-
--- steps that are spelled alike are the same
-pub one_list : (ss ts : List Step) → Each IsStep ss → Each IsStep ts → flat_map step_words ss ≡ flat_map step_words ts → ss ≡ ts
-one_list [] [] h k e = refl
-one_list [] (t ∷ ts) h k e = absurd (some_words t (flat_map step_words ts) (sym e))
-one_list (s ∷ ss) [] h k e = absurd (some_words s (flat_map step_words ss) e)
-one_list (s ∷ ss) (t ∷ ts) h k e =
-    let both = one_step s t (flat_map step_words ss) (flat_map step_words ts) h.0 k.0 e in
-    let rest : ss ≡ ts = one_list ss ts h.1 k.1 both.1 in
-    let first = both.0 in
-    cc
-
--- ---- reading step by step
-
--- some steps were read and these words are left: every list of steps that the words spell begins with them, and the
--- words that are left spell its rest
-abbrev pub GoesOn : (words : List (List ℕ)) (done : List Step) (left : List (List ℕ)) → Type 0
-GoesOn words done left =
-    (all : List Step) → Each IsStep all → words ≡ flat_map step_words all
-    → (rest : List Step) × (all ≡ done ++ rest) × Each IsStep rest × (left ≡ flat_map step_words rest)
-
-pub goes_first : (words : List (List ℕ)) → GoesOn words [] words
-goes_first words = λ all h e. (all, refl, h, e)
-
-goes_by : (words : List (List ℕ)) (done : List Step) (left more : List (List ℕ)) (s : Step) (all rest : List Step) → IsStep s → left ≡ step_words s ++ more → all ≡ done ++ rest → Each IsStep rest → left ≡ flat_map step_words rest → (later : List Step) × (all ≡ (done ++ s ∷ []) ++ later) × Each IsStep later × (more ≡ flat_map step_words later)
-goes_by words done left more s all [] is read cut h spelled = absurd (some_words s more (sym read ∙ spelled))
-goes_by words done left more s all (t ∷ ts) is read cut h spelled =
-    let both = one_step s t more (flat_map step_words ts) is h.0 (sym read ∙ spelled) in
-    let same : t ∷ ts ≡ s ∷ ts = ap (λ (x : Step). x ∷ ts) (sym both.0) in
-    (ts, cut ∙ ap (λ (xs : List Step). done ++ xs) same ∙ sym (append_assoc done (s ∷ []) ts), h.1, both.1)
-
-pub goes_later : (words : List (List ℕ)) (done after : List Step) (left more : List (List ℕ)) (s : Step) → IsStep s → left ≡ step_words s ++ more → after ≡ done ++ s ∷ [] → GoesOn words done left → GoesOn words after more
-goes_later words done after left more s is read grown on =
-    subst (λ (xs : List Step). GoesOn words xs more) (sym grown)
-    (λ all h e. let o = on all h e in goes_by words done left more s all o.0 is read o.1 o.2 o.3)
-
-none_by : (left : List (List ℕ)) (rest : List Step) → left ≢ [] → ((s : Step) (xs : List (List ℕ)) → IsStep s → left ≢ step_words s ++ xs) → Each IsStep rest → left ≡ flat_map step_words rest → ⊥
-none_by left [] some none h e = some e
-none_by left (t ∷ ts) some none h e = none t (flat_map step_words ts) h.0 e
-
--- where words are left and no step stands at their front, the words spell no list of steps
-pub spells_none : (words : List (List ℕ)) (done : List Step) (left : List (List ℕ)) → left ≢ [] → ((s : Step) (xs : List (List ℕ)) → IsStep s → left ≢ step_words s ++ xs) → GoesOn words done left → (all : List Step) → Each IsStep all → words ≢ flat_map step_words all
-spells_none words done left some none on = λ all h e. let o = on all h e in none_by left o.0 some none o.2 o.3
-
--- what was read so far, and what is left
-flat_pushed : (done : List Step) (s : Step) → flat_map step_words (done ++ s ∷ []) ≡ flat_map step_words done ++ step_words s
-flat_pushed [] s = append-nil (step_words s)
-flat_pushed (d ∷ ds) s = ap (λ (xs : List (List ℕ)). step_words d ++ xs) (flat_pushed ds s) ∙ sym (append_assoc (step_words d) (flat_map step_words ds) (step_words s))
-
-pub spelled_more : (words : List (List ℕ)) (done after : List Step) (left more : List (List ℕ)) (s : Step) → left ≡ step_words s ++ more → after ≡ done ++ s ∷ [] → words ≡ flat_map step_words done ++ left → words ≡ flat_map step_words after ++ more
-spelled_more words done after left more s read grown so_far =
-    so_far ∙ ap (λ (xs : List (List ℕ)). flat_map step_words done ++ xs) read
-    ∙ sym (append_assoc (flat_map step_words done) (step_words s) more)
-    ∙ ap (λ (xs : List (List ℕ)). xs ++ more) (sym (flat_pushed done s))
-    ∙ ap (λ (xs : List Step). flat_map step_words xs ++ more) (sym grown)
-
-each_pushed : (done : List Step) (s : Step) → Each IsStep done → IsStep s → Each IsStep (done ++ s ∷ [])
-each_pushed [] s h is = (is, tt)
-each_pushed (d ∷ ds) s h is = (h.0, each_pushed ds s h.1 is)
-
-pub pushed_in_range : (done after : List Step) (s : Step) → after ≡ done ++ s ∷ [] → Each IsStep done → IsStep s → Each IsStep after
-pushed_in_range done after s grown h is = subst (Each IsStep) (sym grown) (each_pushed done s h is)
 
 -- ---- words
 
@@ -150,10 +87,10 @@ not_cut text fault steps e h = let cut = h.cut in absurd (cc)
 
 -- ---- the law
 
-same_tokens : (text : List ℕ) (ts us : List Token) → lexed NO_LIMITS Nothing first_place text ≡ Ok ts → lexed NO_LIMITS Nothing first_place text ≡ Ok us → ts ≡ us
+pub same_tokens : (text : List ℕ) (ts us : List Token) → lexed NO_LIMITS Nothing first_place text ≡ Ok ts → lexed NO_LIMITS Nothing first_place text ≡ Ok us → ts ≡ us
 same_tokens text ts us h k = cc
 
 pub holds_one_list : HoldsOneList
 holds_one_list text steps others h k =
     let same : h.tokens ≡ k.tokens = same_tokens text h.tokens k.tokens h.cut k.cut in
-    one_list steps others h.in_range k.in_range (sym h.spelled ∙ ap (words_of text) same ∙ k.spelled)
+    one_list step_words IsStep one_step some_words steps others h.in_range k.in_range (sym h.spelled ∙ ap (words_of text) same ∙ k.spelled)

@@ -1,2 +1,3 @@
+pub mod Commands
 pub mod Events
 pub mod Words

@@ -29,7 +29,7 @@ fn no_number(words: &Words, word: &[u8]) -> EventFault
 }
 
 /// A number from `low` to `high`.
-fn number(words: &mut Words, low: u32, high: u32) -> Result<u32, EventFault>
+pub(crate) fn number(words: &mut Words, low: u32, high: u32) -> Result<u32, EventFault>
     requires { high < 1000000000 }
     ensures read { IfOk result (λ n. words.old ≡ decimal n ∷ words.new) }
     ensures range { IfOk result (λ n. (low ≤ n) × (n ≤ high)) }
@@ -66,7 +66,7 @@ fn level_of(word: &[u8]) -> Option<bool>
 }
 
 /// The level of a contact: closed, or open.
-fn level(words: &mut Words) -> Result<bool, EventFault>
+pub(crate) fn level(words: &mut Words) -> Result<bool, EventFault>
     ensures read { IfOk result (λ closed. words.old ≡ level_word closed ∷ words.new) }
     ensures none { IfErr result (λ e. (closed : Bool) (rest : List (List ℕ))
         → words.old ≢ level_word closed ∷ rest) }

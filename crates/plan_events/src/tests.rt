@@ -1,5 +1,7 @@
 //! Event files: the steps of texts, and each fault at its place.
 
+mod commands;
+
 use crate::{EventFault, Step, read_events};
 use plan_code::ContactId;
 use script_front::Position;

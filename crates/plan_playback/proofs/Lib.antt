@@ -1,3 +1,3 @@
 mod Joining
-mod Requests
+pub mod Requests
 mod Steps

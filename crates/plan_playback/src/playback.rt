@@ -2,55 +2,20 @@
 
 ghost use Rattle.std.specs.Prelude.{◌≡◌, ℕ, List, true, false, Some, IfOk, IfErr, OnOk};
 ghost use Rattle.std.specs.Io.KnownBytes.{Appends};
-ghost use Rattle.plan_code.specs.declared.fault.CodeFault.TheVariants.{Memory as NoMemoryForCode};
-ghost use Rattle.plan_playback.specs.declared.fault.RunFault.TheVariants.{Code as OfCode};
-ghost use Rattle.plan_code.specs.Program.{Program, IsProgram, line_at};
+ghost use Rattle.plan_code.specs.Program.{Program};
 ghost use Rattle.plan_player.specs.Playing.{Playing};
 ghost use Rattle.plan_events.specs.declared.step.Step.{Step};
 ghost use Rattle.plan_events.specs.Events.{events_of};
-ghost use Rattle.plan_playback.specs.Parts.{IsCodeFault};
-ghost use Rattle.plan_playback.specs.Playback.{asked, IsPlayback, IsTypedFileOf, Delivers, IsFault, is_write, IsSilent, or_zero};
+ghost use Rattle.plan_playback.specs.Playback.{asked, IsPlayback, Delivers, IsFault, is_write, IsSilent};
 
+use crate::code_file::typed_code;
 use crate::fault::RunFault;
 use crate::playing::play_steps;
 use mux_tables::Tables;
-use plan_code::{Code, Contacts, decode};
+use plan_code::Contacts;
 use plan_events::{laws, read_events};
 use plan_player::{Player, Sink, Start};
-use plan_verifier::{Verified, verify};
 use std::alloc::Global;
-
-/// The line that the instruction at a place of the code comes from; 0 where none stands there.
-fn line_of(code: &Code, pc: u16) -> u16
-    ensures { result ≡ or_zero (line_at code.now pc) }
-{
-    match code.line_at(pc) {
-        Some(line) => line,
-        None => 0,
-    }
-}
-
-/// The typed code that these bytes are the file of.
-fn typed_code(alloc: Global, bytes: &[u8]) -> Result<Verified, RunFault>
-    ensures found { IfOk result (λ v. IsTypedFileOf v bytes.now) }
-    ensures only { (code : Program) → IsTypedFileOf code bytes.now → IfOk result (λ v. v ≡ code) }
-    ensures fault { IfErr result (λ e. IsCodeFault bytes.now e) }
-    ensures memory { (code : Program) → IsTypedFileOf code bytes.now
-        → IfErr result (λ e. e ≡ OfCode NoMemoryForCode) }
-{
-    let code = match decode(alloc, bytes) {
-        Ok(code) => code,
-        Err(fault) => return Err(RunFault::Code(fault)),
-    };
-    match verify::<Tables>(code) {
-        Ok(verified) => Ok(verified),
-        Err(refused) => Err(RunFault::Refused {
-            pc: refused.pc,
-            line: line_of(&refused.code, refused.pc),
-            cause: refused.cause,
-        }),
-    }
-}
 
 /// Plays the code in a file over the events of a text: the player starts at this CIF count and frame of the day, with
 /// these contacts closed, and each frame is put into the sink, which must not have failed. How many frames were made is

@@ -10,7 +10,7 @@ fn wrong_command_lines(rt: HostRuntime) -> Result<(), Fail> {
     for (line, wanted) in [
         (
             "",
-            "error: a command is wanted: frame, listen, verify, play or help\n",
+            "error: a command is wanted: frame, listen, verify, play, debug or help\n",
         ),
         (
             "fram",

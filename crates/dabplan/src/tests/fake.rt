@@ -61,6 +61,18 @@ pub struct PlayFiles<'a> {
     pub created: u32,
 }
 
+impl<'a> PlayFiles<'a> {
+    /// These files, of which none is made yet; `None`: none can be made.
+    pub fn new(code: &'a [u8], events: &'a [u8], calls: Option<u32>) -> Self {
+        PlayFiles {
+            code,
+            events,
+            calls,
+            created: 0,
+        }
+    }
+}
+
 impl Files for PlayFiles<'_> {
     type Out = Failing;
 

@@ -21,12 +21,7 @@ fn played(
     options: &str,
 ) -> Result<(u8, String), Fail> {
     let bytes = bytes_of(alloc, code)?;
-    let mut files = PlayFiles {
-        code: bytes.as_slice(),
-        events: events.as_bytes(),
-        calls: Some(calls),
-        created: 0,
-    };
+    let mut files = PlayFiles::new(bytes.as_slice(), events.as_bytes(), Some(calls));
     let line = format!(in alloc; "play x.code x.events x.fib {options}")?;
     Ok(run(alloc, line.as_str(), &mut files)?)
 }
@@ -117,12 +112,7 @@ fn files_that_cannot_be_had(rt: HostRuntime) -> Result<(), Fail> {
         ),
     ];
     for (line, events, wanted, created) in rows {
-        let mut files = PlayFiles {
-            code: b"DABP",
-            events,
-            calls: None,
-            created: 0,
-        };
+        let mut files = PlayFiles::new(b"DABP", events, None);
         let (status, printed) = run(rt.alloc(), line, &mut files)?;
         assert_eq!(rt; printed.as_str(), wanted);
         assert_eq!(rt; status, 1);

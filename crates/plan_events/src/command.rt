@@ -1,4 +1,4 @@
-//! What a debugger is told to do.
+//! The commands of a command file.
 
 use plan_code::ContactId;
 
