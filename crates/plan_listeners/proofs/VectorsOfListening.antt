@@ -25,6 +25,11 @@ use Rattle.fib_codec.specs.declared.modes.Mode.TheVariants.{I, II}
 use Rattle.fib_codec.proofs.Uniqueness.{one_fib}
 use Rattle.fib_carousel.proofs.Hearing.{pages_are_valid, pages_are_heard, ensemble_is_heard, page_sets_are_pageable}
 use Rattle.fib_carousel.proofs.Pieces.{each_in_a_page, page_is_fibs}
+use Rattle.fib_reader.specs.declared.fault.FibFault.TheVariants.{Entry}
+use Rattle.fib_reader.specs.Faults.{IsFault}
+use Rattle.fib_codec.specs.Crc.{IsChecked}
+use Rattle.fib_reader.specs.FirstFault.{entries_fault, figs_fault}
+use Rattle.fib_reader.proofs.FigFaults.{found_is_fault, no_fault}
 use Rattle.fib_reader.specs.Laws.{EnsembleIsHeard}
 use Rattle.plan_code.specs.declared.plan.Plan.{Plan}
 use Rattle.plan_code.specs.declared.flags.Counters.{Counters}
@@ -370,3 +375,20 @@ never_known h =
     shows_one_of_two
     (h [] (Frame ∷ []) (Frame ∷ []) 1 knows_one (inr refl) (refl, tt, refl) (refl, tt) (omega arith)
     (knows_both, hears_the_notice, (knows_both, nothing_in_the_second, (knows_both, nothing_in_the_third, (knows_one, hears_the_swap, refl)))))
+
+-- ---- a count that FIG 0/0 can't hold: its high part has 20 values
+
+abbrev past_the_counts : State
+past_the_counts = record announces { next = with_sub 128; left = None; count = 5000 }
+
+abbrev unheard_frame : List ℕ
+unheard_frame = frame_bytes ended past_the_counts
+
+its_fault : IsChecked (fib_at unheard_frame 0) → IsFault (fib_at unheard_frame 0) (Entry 2)
+unfolding figs_fault entries_fault
+its_fault checked = found_is_fault (fib_at unheard_frame 0) (Entry 2) checked refl
+
+not_heard : IsNeverFull ended past_the_counts → ⊥
+not_heard h =
+    let fib = (h (Frame ∷ [])).1.1 in
+    no_fault (fib_at unheard_frame 0) fib.0 (Entry 2) fib.1 (its_fault fib.1.0)

@@ -23,3 +23,4 @@ pub mod Periods
 pub mod Headline
 mod VectorsOfRuns
 mod VectorsOfBytes
+mod VectorsOfPromises

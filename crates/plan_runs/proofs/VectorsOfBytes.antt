@@ -22,9 +22,9 @@ use Rattle.plan_code.specs.Program.{Program}
 use Rattle.plan_code.specs.Machine.{State}
 use Rattle.plan_runs.specs.declared.event.Event.TheVariants.{Frame}
 use Rattle.plan_runs.specs.Frames.{FrameIsAllowed, sent_entries, ensemble_sent, shown_bytes, after_frame, frame_bytes}
-use Rattle.plan_runs.specs.Announced.{IsHeardInSome, IsHeardWhole, HasHeader, IsHeaded, HasThreeHeaders, IsFlagged, IsAnnounced, FrameRuns, Runs}
+use Rattle.plan_runs.specs.Announced.{IsHeardInSome, IsHeardWhole, HasHeader, IsHeaded, HasThreeHeaders, IsFlagged, IsAnnounced, FrameRuns, EventRuns, Runs}
 use Rattle.plan_runs.specs.RightBytes.{IsHeader, IsNoHeader, IsFlaggedBy, IsEnsembleOf, IsHeadedBy, IsUnheaded, IsRight, BeginsNoPhase, IsOnePhase}
-use Rattle.plan_runs.specs.Headline.{IsAnnouncedIn, SwapsAt, KeepsCount}
+use Rattle.plan_runs.specs.Headline.{IsAnnouncedIn, AnnouncesOnly, SwapsAt, KeepsCount}
 use Rattle.plan_runs.proofs.Tracked.{Airs}
 use Rattle.plan_runs.proofs.Right.{PageLaws, frame_right, ensemble_right, page_inside}
 use Rattle.plan_runs.proofs.VectorsOfRuns.{sub, with_sub, all_open, configuration_is, lower_configuration_is}
@@ -233,7 +233,7 @@ two_headers h =
 
 -- ---- right frames
 
-laws : PageLaws
+pub laws : PageLaws
 laws = record { each = each_in_a_page; pageable = page_sets_are_pageable; valid = pages_are_valid; heard = pages_are_heard; ensemble = ensemble_is_heard }
 
 airs : (count : ℕ) → count < 5000 → Airs (plan I) (on_air None count)
@@ -419,6 +419,12 @@ only_10 : (low : ℕ) → IsAnnouncedIn (notice_frame 9 1) low → low ≡ 10
 only_10 low h =
     some_count low 10 (sym (ap (λ (e : EnsembleInformation). e.occurrence) (only_header 9 1 one_before h.0 h.1 h.2) ∙ h.3))
 
+announces_only_10 : AnnouncesOnly 10 (notice_frame 9 1)
+announces_only_10 = only_10
+
+announces_only_11 : AnnouncesOnly 11 (notice_frame 9 1) → ⊥
+announces_only_11 h = let e : 10 ≡ 11 = h 10 announces_10 in omega (arith, e)
+
 announces_11 : IsAnnouncedIn (notice_frame 9 1) 11 → ⊥
 announces_11 h = let e : 11 ≡ 10 = only_10 11 h in omega (arith, e)
 
@@ -473,6 +479,12 @@ swap_was_announced = record { allowed = swap_allowed; announced = λ due. announ
 
 swap_was_not : FrameRuns (code II) swapping (notice_frame 8 2 ∷ notice_frame 9 1 ∷ []) → ⊥
 swap_was_not h = announced_by_two (h.announced refl)
+
+frame_runs : EventRuns (code II) swapping notice Frame
+frame_runs = swap_was_announced
+
+frame_does_not_run : EventRuns (code II) swapping (notice_frame 8 2 ∷ notice_frame 9 1 ∷ []) Frame → ⊥
+frame_does_not_run h = swap_was_not h
 
 runs_over_the_swap : Runs (code II) swapping notice (Frame ∷ [])
 runs_over_the_swap = (swap_was_announced, tt)

@@ -1,5 +1,6 @@
 -- Runs of a code that waits for a frame and ends: each definition of runs where it holds, and where it fails.
 use Rattle.std.proofs.Common.{◌≡◌, ℕ, zero, suc, ◌<◌, ◌≤◌, Bool, true, false, cond, List, [], ◌∷◌, length, Some, None, ◌==◌, replicate, refl, sym, ap, subst, arith}
+use Rattle.std.proofs.lemmas.Bool.{false≢true}
 use Rattle.mux_eep.specs.declared.sizes.EepSet.TheVariants.{A}
 use Rattle.mux_config.specs.declared.parts.Sub.{Sub}
 use Rattle.mux_config.specs.Configuration.{Configuration, IsPlaced, IsConfiguration}
@@ -21,7 +22,7 @@ use Rattle.plan_verifier.specs.declared.cause.Cause.TheVariants.{JoinIdle}
 use Rattle.plan_verifier.proofs.OneVerdict.{typed_if, refused_if, codes_have_one_verdict}
 use Rattle.plan_runs.specs.declared.event.Event.TheVariants.{Contact, Frame}
 use Rattle.plan_runs.specs.declared.event.Start.{Start}
-use Rattle.plan_runs.specs.Frames.{Executes, FrameIsAllowed, after_burst, after_frame}
+use Rattle.plan_runs.specs.Frames.{ready, Executes, FrameIsAllowed, after_burst, after_frame}
 use Rattle.plan_runs.specs.Runs.{IsInRange, IsEvent, IsStart, EventIsAllowed, RunIsAllowed, IsReached, run}
 use Rattle.plan_runs.specs.Settings.{Setting, IsSetting, AreAlike, AreAllAlike, last_of}
 use Rattle.plan_runs.specs.Phases.{SentBy}
@@ -56,16 +57,16 @@ line i = record { number = 1; instr = i }
 abbrev code : List Line → Program
 code lines = record { plan = plan; configurations = with_sub 128 ∷ []; labels = label ∷ []; lines = lines }
 
-abbrev waits : Program
+abbrev pub waits : Program
 waits = code (line (Wait 1) ∷ line End ∷ [])
 
-abbrev joins : Program
+abbrev pub joins : Program
 joins = code (line Join ∷ [])
 
 abbrev start : Start
 start = record { eid = 0xe1c5; count = 0; day = 0; contacts = all_open }
 
-abbrev first : State
+abbrev pub first : State
 first =
     record {
       current = with_sub 128;
@@ -81,7 +82,7 @@ first =
       turn = 0;
     }
 
-abbrev second : State
+abbrev pub second : State
 second = after_frame waits first
 
 -- ---- starts and events
@@ -127,13 +128,14 @@ not_with_a_swap h = some_left 4 h.left
 
 -- ---- events that meet no trap
 
+pub one_instruction : Executes waits (ready first) 1 (after_burst waits first)
+one_instruction = (refl, record { instr = Wait 1; within = refl; allowed = tt }, (refl, refl))
+
+not_two : Executes waits (ready first) 2 (after_burst waits first) → ⊥
+not_two h = let e : false ≡ true = h.2.0 in absurd (false≢true e)
+
 first_frame : FrameIsAllowed waits first
-first_frame = record {
-  steps = 1;
-  within = omega arith;
-  executes = (refl, record { instr = Wait 1; within = refl; allowed = tt }, (refl, refl));
-  counted = refl;
-}
+first_frame = record { steps = 1; within = omega arith; executes = one_instruction; counted = refl }
 
 second_frame : FrameIsAllowed waits second
 second_frame = record {
@@ -170,7 +172,7 @@ join_traps : (c : Contacts) (n : ℕ) (t : State) → Executes joins (record fir
 join_traps c zero t h = let e : true ≡ false = h.0 in absurd cc
 join_traps c (suc n) t h = no_join c h.1.instr h.1.within h.1.allowed
 
-frame_traps : EventIsAllowed joins first Frame → ⊥
+pub frame_traps : EventIsAllowed joins first Frame → ⊥
 frame_traps h = join_traps all_open h.steps (after_burst joins first) h.executes
 
 abbrev third_closed : Contacts
@@ -287,7 +289,7 @@ joins_is = record {
   lines_formed = (line_is Join tt, tt);
 }
 
-played : IsPlayed waits second
+pub played : IsPlayed waits second
 played = record { program = waits_is; typed = typed_if waits waits_is refl; reached = reached_by_a_frame }
 
 -- its verifier refuses the join

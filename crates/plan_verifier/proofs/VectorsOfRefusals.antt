@@ -1,5 +1,5 @@
 -- Why small codes are refused: each definition of refusals where it holds, and where it fails.
-use Rattle.std.proofs.Common.{◌≡◌, ◌≢◌, ℕ, zero, suc, ◌<◌, ◌≤◌, List, [], ◌∷◌, length, slice_get, Contains, Some, None, inl, inr, refl, ap, subst, arith}
+use Rattle.std.proofs.Common.{◌≡◌, ◌≢◌, ℕ, zero, suc, ◌<◌, ◌≤◌, List, [], ◌∷◌, length, slice_get, Contains, Some, None, inl, inr, refl, sym, ap, subst, arith}
 use Rattle.std.proofs.lemmas.Bool.{false≢true}
 use Rattle.mux_config.specs.Configuration.{IsConfiguration, Each, IsAscending, nothing}
 use Rattle.mux_config.specs.declared.edit.Edit.TheVariants.{AddSub, DropSub}
@@ -12,12 +12,12 @@ use Rattle.plan_code.specs.declared.instr.Instr.TheVariants.{CommitIn, Join, End
 use Rattle.plan_code.specs.Program.{Program, IsProgram, IsPlan, IsLabel, IsLine, IsInstr, instr_at, label_at, label_key}
 use Rattle.plan_verifier.specs.declared.cause.Cause.{Cause}
 use Rattle.plan_verifier.specs.declared.cause.Cause.TheVariants.{Target, Table, Edit as OfEdit, Pending, Notice, JoinIdle, Mismatch, Cost, FallsOff}
-use Rattle.plan_verifier.specs.Typing.{Known, Declares, IsPlaced, IsAfter, IsSafe}
-use Rattle.plan_verifier.specs.Refusals.{Where, WhereSome, ◌orelse◌, CommitRefused, FitsLabel, EntryRefused, JumpRefused, InstrRefused, KnownRefused, TakenRefused, LabelRefused, PlaceRefused, OpenedRefused, OpeningRefused, IsSafeBelow, IsTypingBelow, InstructionRefused, IsFirstPast, IsRefusedAt, IsRefused}
+use Rattle.plan_verifier.specs.Typing.{Known, Declares, HasOpening, IsPlaced, IsAfter, IsSafe}
+use Rattle.plan_verifier.specs.Refusals.{Where, WhereSome, ◌orelse◌, CommitRefused, FitsLabel, EntryRefused, JumpRefused, InstrRefused, KnownRefused, TakenRefused, LabelRefused, PlaceRefused, OpenedRefused, OpeningRefused, IsSafeBelow, IsTypingBelow, InstructionRefused, IsFirstPast, IsRefusedAt, IsRefused, HasOneVerdict}
 use Rattle.plan_verifier.proofs.Tabled.{IsTabled, tabled, declared_once}
 use Rattle.plan_verifier.proofs.Causes.{decides_label, entry_computes, known_computes}
 use Rattle.plan_verifier.proofs.Entries.{whole_computes}
-use Rattle.plan_verifier.proofs.OneVerdict.{refused_if}
+use Rattle.plan_verifier.proofs.OneVerdict.{refused_if, codes_have_one_verdict}
 use Rattle.plan_verifier.proofs.VectorsOfTyping.{plan, sub, label, line, code, joins, opened, edited, committed, its_label_declares, opened_fits, a_first_sub_channel, opens_empty}
 
 -- adds a sub-channel, and then waits for a swap that nothing has committed
@@ -169,17 +169,14 @@ jumps_to_no_label = refl
 joins_a_swap : (cause : Cause) → InstrRefused joins Join committed cause → ⊥
 joins_a_swap cause h = h.0 tt
 
--- no swap is pending at the last instruction, which goes on
-abbrev here : ℕ → Instr → Known → Cause → Type 0
-here pc i t cause = KnownRefused joins pc i t cause
-
-falls_off : here 3 Join committed FallsOff
+-- the last instruction, where it goes on
+falls_off : KnownRefused joins 3 Join committed FallsOff
 falls_off = (known_computes joins 3 Join committed joins_tabled).told FallsOff refl
 
-joins_nothing_first : here 3 Join opened FallsOff → ⊥
+joins_nothing_first : KnownRefused joins 3 Join opened FallsOff → ⊥
 joins_nothing_first h = let e : Some JoinIdle ≡ Some FallsOff = (known_computes joins 3 Join opened joins_tabled).found FallsOff h in absurd cc
 
-spent_all_first : here 3 Join (record opened { allowance = 0 }) Cost
+spent_all_first : KnownRefused joins 3 Join (record opened { allowance = 0 }) Cost
 spent_all_first = (known_computes joins 3 Join (record opened { allowance = 0 }) joins_tabled).told Cost refl
 
 -- ---- where the machine comes to an instruction
@@ -325,3 +322,30 @@ labels_past_is =
 
 labels_past_refused : IsRefused labels_past 7 Table
 labels_past_refused = refused_if labels_past 7 Table labels_past_is refl
+
+-- ---- one verdict
+
+unjoined_has_one : HasOneVerdict unjoined
+unjoined_has_one = codes_have_one_verdict unjoined unjoined_is
+
+-- a label names a configuration that the table has not: no file gives such a code
+abbrev astray : Program
+astray = code (record (label 0 3) { cur = 1 } ∷ []) (line End ∷ [])
+
+declares_nothing : (t : Known) → Declares astray (record (label 0 3) { cur = 1 }) t → ⊥
+declares_nothing t h = let e : None ≡ Some t.current = h.current in absurd cc
+
+no_opening : HasOpening astray → ⊥
+no_opening h =
+    let same : record (label 0 3) { cur = 1 } ≡ h.label = cc_label h.label h.first in
+    declares_nothing h.known (subst (λ (l : Label). Declares astray l h.known) (sym same) h.declares)
+  where
+    cc_label : (l : Label) → label_at astray 0 ≡ Some l → record (label 0 3) { cur = 1 } ≡ l
+    cc_label l e = cc
+
+never_refused : (pc : ℕ) (cause : Cause) → IsRefused astray pc cause → ⊥
+never_refused zero cause r = declares_nothing r.1.1.0 r.1.1.1
+never_refused (suc pc) cause r = no_opening (r.1.0.opening (omega arith))
+
+no_verdict : HasOneVerdict astray → ⊥
+no_verdict h = elim h.either [ inl typed ↦ no_opening typed.1.opening | inr refused ↦ never_refused refused.0 refused.1 refused.2 ]

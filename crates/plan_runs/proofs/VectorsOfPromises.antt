@@ -1,0 +1,94 @@
+-- What typed codes promise: where it holds of a small code, and where a code without a type, or a state that no run comes
+-- to, breaks it.
+use Rattle.std.proofs.Common.{◌≡◌, ◌<◌, true, false, List, [], ◌∷◌, refl, arith}
+use Rattle.mux_config.specs.Facts.{marked, sub_entry}
+use Rattle.mux_config.specs.Entries.{EnsembleInformation}
+use Rattle.mux_config.specs.declared.entry.Entry.TheVariants.{Ensemble as EnsembleOf}
+use Rattle.fib_codec.specs.Grammar.{Fig, Open, Other}
+use Rattle.fib_codec.specs.Heard.{IsInFig}
+use Rattle.plan_code.specs.Machine.{State}
+use Rattle.plan_runs.specs.declared.event.Event.{Event}
+use Rattle.plan_runs.specs.declared.event.Event.TheVariants.{Contact, Frame}
+use Rattle.plan_runs.specs.Frames.{IsOneBurst, ready, after_burst}
+use Rattle.plan_runs.specs.TypedRuns.{RunsWell}
+use Rattle.plan_runs.specs.Announced.{AlwaysRuns, IsHeardInSome}
+use Rattle.plan_runs.specs.RightBytes.{FrameIsRight, FramesAreRight, IsHeardEachPeriod}
+use Rattle.plan_runs.specs.Headline.{KeepsItsWord}
+use Rattle.plan_runs.proofs.Bursts.{bursts_are_one}
+use Rattle.plan_runs.proofs.TypedRuns.{typed_code_runs}
+use Rattle.plan_runs.proofs.Announcing.{swaps_are_announced}
+use Rattle.plan_runs.proofs.Periods.{periods_are_whole}
+use Rattle.plan_runs.proofs.Headline.{frames_are_right, headline_holds}
+use Rattle.plan_runs.proofs.VectorsOfRuns.{plan, sub, waits, joins, first, second, played, frame_traps, one_instruction}
+use Rattle.plan_runs.proofs.VectorsOfBytes.{laws}
+
+-- a frame, a contact that closes, and a frame
+abbrev events : List Event
+events = Frame ∷ Contact 3 true ∷ Frame ∷ []
+
+-- ---- the instructions of a frame
+
+one_wait : IsOneBurst waits (ready first) 1 (after_burst waits first)
+one_wait = bursts_are_one waits (ready first) 1 (after_burst waits first) one_instruction
+
+not_none : IsOneBurst waits (ready first) 0 (ready first) → ⊥
+not_none h = let e : 1 ≡ 0 = (h.only 1 (after_burst waits first) one_instruction).0 in omega (arith, e)
+
+-- ---- no trap
+
+runs_well : RunsWell waits second events
+runs_well = typed_code_runs waits second events played
+
+traps : RunsWell joins first events → ⊥
+traps h = frame_traps h.allowed.0
+
+always_runs : AlwaysRuns waits second
+always_runs more = swaps_are_announced laws waits second more played
+
+not_always : AlwaysRuns joins first → ⊥
+not_always h = frame_traps (h events).0.allowed
+
+-- ---- right bytes
+
+frame_right : FrameIsRight waits second
+frame_right = frames_are_right laws waits second played
+
+-- an EId has 16 bits
+abbrev other_ensemble : State
+other_ensemble = record first { eid = 65536 }
+
+eid_within : (fig : Fig) (e : EnsembleInformation) → IsInFig fig (marked false (EnsembleOf e)) → e.eid < 65536
+eid_within (Open byte es) e h = h.2.within.eid
+eid_within (Other bytes) e h = absurd h
+
+wrong_frame : FrameIsRight waits other_ensemble → ⊥
+wrong_frame h =
+    let top = h.headed refl in
+    let low : top.information.eid < 65536 = eid_within top.header top.information top.says in
+    let same : top.information.eid ≡ 65536 = top.right.eid in
+    omega (arith, low, same)
+
+frames_right : FramesAreRight waits second events
+frames_right = (headline_holds laws waits second events played).right
+
+wrong_frames : FramesAreRight waits other_ensemble events → ⊥
+wrong_frames h = wrong_frame h.0
+
+-- ---- each period
+
+heard_each_period : IsHeardEachPeriod waits second
+heard_each_period = periods_are_whole laws waits second played
+
+-- in a period of no frames nothing is heard
+no_period : IsHeardEachPeriod (record waits { plan = record plan { period = 0 } }) first → ⊥
+no_period h =
+    let heard : IsHeardInSome [] (marked false (sub_entry (sub 128))) = h [] [] tt refl (marked false (sub_entry (sub 128))) (0, omega arith, refl) in
+    omega (arith, heard.1.1)
+
+-- ---- all of it
+
+keeps_its_word : KeepsItsWord waits second events
+keeps_its_word = headline_holds laws waits second events played
+
+breaks_it : KeepsItsWord joins first events → ⊥
+breaks_it h = frame_traps h.runs.0.allowed
