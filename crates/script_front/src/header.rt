@@ -17,7 +17,8 @@ use fib_codec::Mode;
 
 /// A number from `low` to `high` behind this word.
 fn declared(reader: &mut Reader, keyword: Keyword, low: u8, high: u8) -> Result<u8, ScriptFault>
-    ensures spells { IfOk result (λ n. Passes (letters keyword ∷ decimal n ∷ []) reader.old reader.new) }
+    ensures spells { IfOk result (λ n. Passes (letters keyword ∷ decimal n ∷ []) reader.old
+        reader.new) }
     ensures range { IfOk result (λ n. (low ≤ n) × (n ≤ high)) }
     ensures shorter { OnOk result (length reader.new.words < length reader.old.words) }
 {
@@ -42,7 +43,8 @@ fn mode(reader: &mut Reader) -> Result<Mode, ScriptFault>
 
 /// A mode from II to IV, as 2, 3 or 4
 fn later_mode(reader: &mut Reader) -> Result<Mode, ScriptFault>
-    ensures spells { IfOk result (λ m. Passes (mode_words m) (behind the.Mode reader.old) reader.new) }
+    ensures spells { IfOk result (λ m. Passes (mode_words m) (behind the.Mode reader.old)
+        reader.new) }
     ensures shorter { OnOk result (length reader.new.words < length reader.old.words) }
 {
     let number = decimal(reader, 2, 4)?;

@@ -25,7 +25,8 @@ use std::alloc::Global;
 
 /// `sub ID`
 fn sub(reader: &mut Reader) -> Result<SubId, ScriptFault>
-    ensures spells { IfOk result (λ s. Passes (letters the.Sub ∷ decimal s ∷ []) reader.old reader.new) }
+    ensures spells { IfOk result (λ s. Passes (letters the.Sub ∷ decimal s ∷ []) reader.old
+        reader.new) }
     ensures range { IfOk result (λ s. s < 64) }
     ensures shorter { OnOk result (length reader.new.words < length reader.old.words) }
 {
@@ -45,7 +46,8 @@ fn in_service(reader: &mut Reader) -> Result<Sid, ScriptFault>
 
 /// `ID at START eep PROFILE RATE`
 fn new_sub(reader: &mut Reader) -> Result<NewSub, ScriptFault>
-    ensures spells { IfOk result (λ s. Passes (edit_words (AddSub s)) (behind the.Sub reader.old) reader.new) }
+    ensures spells { IfOk result (λ s. Passes (edit_words (AddSub s)) (behind the.Sub reader.old)
+        reader.new) }
     ensures range { IfOk result IsNewSub }
     ensures shorter { OnOk result (length reader.new.words < length reader.old.words) }
 {
@@ -60,7 +62,8 @@ fn new_sub(reader: &mut Reader) -> Result<NewSub, ScriptFault>
 
 /// `SCID groups type TYPE sub ID address ADDR`, or `raw` in place of `groups`
 fn new_packet(reader: &mut Reader) -> Result<Packet, ScriptFault>
-    ensures spells { IfOk result (λ p. Passes (edit_words (AddPacket p)) (behind the.Packet reader.old) reader.new) }
+    ensures spells { IfOk result (λ p. Passes (edit_words (AddPacket p)) (behind the.Packet
+        reader.old) reader.new) }
     ensures range { IfOk result IsNewPacket }
     ensures shorter { OnOk result (length reader.new.words < length reader.old.words) }
 {
@@ -100,7 +103,8 @@ fn data_groups(reader: &mut Reader) -> Result<bool, ScriptFault>
 
 /// `TYPE sub ID`
 fn typed_sub(reader: &mut Reader) -> Result<(ScTy, SubId), ScriptFault>
-    ensures spells { IfOk result (λ p. Passes (decimal p.0 ∷ letters the.Sub ∷ decimal p.1 ∷ []) reader.old reader.new) }
+    ensures spells { IfOk result (λ p. Passes (decimal p.0 ∷ letters the.Sub ∷ decimal p.1 ∷ [])
+        reader.old reader.new) }
     ensures range { IfOk result (λ p. (p.0 < 64) × (p.1 < 64)) }
     ensures shorter { OnOk result (length reader.new.words < length reader.old.words) }
 {
@@ -123,7 +127,8 @@ fn component(reader: &mut Reader, first: Keyword) -> Result<Edit, ScriptFault>
 
 /// What is carried, up to before `in`
 fn carried(reader: &mut Reader, first: Keyword) -> Result<Component, ScriptFault>
-    ensures spells { IfOk result (λ m. Passes (carried_words m) (behind first reader.old) reader.new) }
+    ensures spells { IfOk result (λ m. Passes (carried_words m) (behind first reader.old)
+        reader.new) }
     ensures range { IfOk result IsComponent }
     ensures shorter { OnOk result (length reader.new.words < length reader.old.words) }
 {
@@ -191,7 +196,8 @@ fn carrier(reader: &mut Reader) -> Result<Carrier, ScriptFault>
 
 /// What follows `drop`
 fn dropped(reader: &mut Reader) -> Result<Edit, ScriptFault>
-    ensures spells { IfOk result (λ e. Passes (edit_words e) (behind the.Drop reader.old) reader.new) }
+    ensures spells { IfOk result (λ e. Passes (edit_words e) (behind the.Drop reader.old)
+        reader.new) }
     ensures range { IfOk result IsEdit }
     ensures shorter { OnOk result (length reader.new.words < length reader.old.words) }
 {
@@ -213,7 +219,8 @@ fn dropped(reader: &mut Reader) -> Result<Edit, ScriptFault>
 
 /// `sub ID` or `packet SCID` after `drop`
 fn dropped_carrier(reader: &mut Reader) -> Result<Edit, ScriptFault>
-    ensures spells { IfOk result (λ e. Passes (edit_words e) (behind the.Drop reader.old) reader.new) }
+    ensures spells { IfOk result (λ e. Passes (edit_words e) (behind the.Drop reader.old)
+        reader.new) }
     ensures range { IfOk result IsEdit }
     ensures shorter { OnOk result (length reader.new.words < length reader.old.words) }
 {
@@ -225,7 +232,8 @@ fn dropped_carrier(reader: &mut Reader) -> Result<Edit, ScriptFault>
 
 /// `sub ID at START` after `move`
 fn moved(reader: &mut Reader) -> Result<Edit, ScriptFault>
-    ensures spells { IfOk result (λ e. Passes (edit_words e) (behind the.Move reader.old) reader.new) }
+    ensures spells { IfOk result (λ e. Passes (edit_words e) (behind the.Move reader.old)
+        reader.new) }
     ensures range { IfOk result IsEdit }
     ensures shorter { OnOk result (length reader.new.words < length reader.old.words) }
 {
@@ -237,7 +245,8 @@ fn moved(reader: &mut Reader) -> Result<Edit, ScriptFault>
 
 /// `sub ID RATE` after `rate`
 fn rated(reader: &mut Reader) -> Result<Edit, ScriptFault>
-    ensures spells { IfOk result (λ e. Passes (edit_words e) (behind the.Rate reader.old) reader.new) }
+    ensures spells { IfOk result (λ e. Passes (edit_words e) (behind the.Rate reader.old)
+        reader.new) }
     ensures range { IfOk result IsEdit }
     ensures shorter { OnOk result (length reader.new.words < length reader.old.words) }
 {
@@ -262,7 +271,8 @@ fn edit(reader: &mut Reader, first: Keyword) -> Result<Edit, ScriptFault>
 
 /// What follows `wait`
 fn waiting(reader: &mut Reader) -> Result<Act, ScriptFault>
-    ensures spells { IfOk result (λ a. Passes (act_words a) (behind the.Wait reader.old) reader.new) }
+    ensures spells { IfOk result (λ a. Passes (act_words a) (behind the.Wait reader.old)
+        reader.new) }
     ensures range { IfOk result IsAct }
     ensures shorter { OnOk result (length reader.new.words < length reader.old.words) }
 {
@@ -300,7 +310,8 @@ fn level(reader: &mut Reader) -> Result<bool, ScriptFault>
 
 /// `in K` or `at COUNT` after `commit`
 fn committing(reader: &mut Reader) -> Result<Act, ScriptFault>
-    ensures spells { IfOk result (λ a. Passes (act_words a) (behind the.Commit reader.old) reader.new) }
+    ensures spells { IfOk result (λ a. Passes (act_words a) (behind the.Commit reader.old)
+        reader.new) }
     ensures range { IfOk result IsAct }
     ensures shorter { OnOk result (length reader.new.words < length reader.old.words) }
 {

@@ -79,7 +79,8 @@ fn place_after(place: Place, kind: Kind) -> Place
 /// token past a limit; `Memory` where memory is refused.
 pub fn cut(alloc: Global, text: &str, limits: Limits) -> Result<Vec<Token>, ScriptFault>
     ensures tokens { IfOk result (λ v. lexed limits Nothing first_place text.now ≡ Ok v.items) }
-    ensures fault { IfErr result (λ e. e ≢ Memory → lexed limits Nothing first_place text.now ≡ Err e) }
+    ensures fault { IfErr result (λ e. e ≢ Memory → lexed limits Nothing first_place text.now ≡ Err
+        e) }
 {
     let mut tokens = Vec::new(alloc);
     let mut inside = Inside::Nothing;
@@ -175,7 +176,8 @@ fn fits(limits: Limits, token: Token) -> bool
 #[tactic(auto, using(crate::proofs::Spans::within, crate::proofs::Pieces::cut_into, crate::proofs::Pieces::not_cut))]
 pub fn lex(alloc: Global, text: &str) -> Result<Vec<Token>, ScriptFault>
     ensures tokens { IfOk result (λ v. AreTokens text.now v.items) }
-    ensures none { IfErr result (λ e. e ≢ Memory → (tokens : List Token) → AreTokens text.now tokens → ⊥) }
+    ensures none { IfErr result (λ e. e ≢ Memory → (tokens : List Token) → AreTokens text.now
+        tokens → ⊥) }
     ensures fault { IfErr result (λ e. e ≢ Memory → IsFirstFault text.now e) }
     ensures within { IfOk result (λ v. AreWithin (length text.now) v.items) }
 {

@@ -39,7 +39,8 @@ pub fn choosing(
     first: Vec<Statement>,
     second: Vec<Statement>,
 ) -> Statement
-    ensures { (b : Block) → before [] result b ≡ either line contact (block_of [] first.items) (block_of [] second.items) b }
+    ensures { (b : Block) → before [] result b ≡ either line contact (block_of [] first.items)
+        (block_of [] second.items) b }
 {
     Statement::IfElse {
         line,

@@ -40,7 +40,8 @@ fn definitions(
     left: &mut u16,
 ) -> Result<Vec<Vec<Statement>>, ScriptFault>
     requires { names.old ≡ [] }
-    ensures { IfOk result (λ v. AreDefined names.new left.old left.new reader.old reader.new v.items) }
+    ensures { IfOk result (λ v. AreDefined names.new left.old left.new reader.old reader.new
+        v.items) }
 {
     let mut blocks = Vec::new(alloc);
     while is_next(reader, Keyword::Define) {
@@ -64,7 +65,8 @@ fn definition(
 ) -> Result<Vec<Statement>, ScriptFault>
     requires few { length names.old < 64 }
     requires begins { BeginsWith reader.old.words (letters the.Define) }
-    ensures defined { IfOk result (λ v. IsDefined names.old names.new left.old left.new reader.old reader.new (block_of [] v.items)) }
+    ensures defined { IfOk result (λ v. IsDefined names.old names.new left.old left.new reader.old
+        reader.new (block_of [] v.items)) }
     ensures shorter { OnOk result (length reader.new.words < length reader.old.words) }
 {
     reader.advance();

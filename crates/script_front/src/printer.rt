@@ -32,7 +32,8 @@ fn put_indent(out: &mut String, depth: u8) -> Result<(), AllocError>
 
 /// A line of one item.
 fn put_item(out: &mut String, item: &Item) -> Result<(), AllocError>
-    ensures { OnOk result (string_bytes out.new ≡ string_bytes out.old ++ line_text (line 0 (edit_words item.now.edit))) }
+    ensures { OnOk result (string_bytes out.new ≡ string_bytes out.old ++ line_text (line 0
+        (edit_words item.now.edit))) }
 {
     put_edit(out, item.edit)?;
     out.push_str("\n")?;
@@ -42,7 +43,8 @@ fn put_item(out: &mut String, item: &Item) -> Result<(), AllocError>
 /// The items, each on a line.
 #[tactic(auto, using(crate::proofs::Printed::item_more, crate::proofs::Printed::items_all))]
 fn put_items(out: &mut String, items: &[Item]) -> Result<(), AllocError>
-    ensures { OnOk result (string_bytes out.new ≡ string_bytes out.old ++ text_of_lines (items_lines items.now)) }
+    ensures { OnOk result (string_bytes out.new ≡ string_bytes out.old ++ text_of_lines
+        (items_lines items.now)) }
 {
     for item in items {
         put_item(out, item)?;
@@ -52,7 +54,8 @@ fn put_items(out: &mut String, items: &[Item]) -> Result<(), AllocError>
 
 /// A line of a text.
 fn put_line(out: &mut String, depth: u8, text: &str) -> Result<(), AllocError>
-    ensures { OnOk result (string_bytes out.new ≡ string_bytes out.old ++ (indent depth ++ text.now)) }
+    ensures { OnOk result (string_bytes out.new ≡ string_bytes out.old ++ (indent depth ++
+        text.now)) }
 {
     put_indent(out, depth)?;
     out.push_str(text)?;
@@ -61,7 +64,8 @@ fn put_line(out: &mut String, depth: u8, text: &str) -> Result<(), AllocError>
 
 /// The line of a statement without a block.
 fn put_basic(out: &mut String, act: Act, depth: u8) -> Result<(), AllocError>
-    ensures { OnOk result (string_bytes out.new ≡ string_bytes out.old ++ line_text (line depth (act_words act))) }
+    ensures { OnOk result (string_bytes out.new ≡ string_bytes out.old ++ line_text (line depth
+        (act_words act))) }
 {
     put_indent(out, depth)?;
     put_act(out, act)?;
@@ -73,7 +77,8 @@ fn put_basic(out: &mut String, act: Act, depth: u8) -> Result<(), AllocError>
 #[tactic(auto, unfolding(crate::specs::Words::letters))]
 fn put_apply(out: &mut String, names: &Names, block: BlockId, depth: u8) -> Result<(), AllocError>
     requires { block < length names.now }
-    ensures { OnOk result (string_bytes out.new ≡ string_bytes out.old ++ line_text (line depth (letters the.Apply ∷ name_at names.now block ∷ []))) }
+    ensures { OnOk result (string_bytes out.new ≡ string_bytes out.old ++ line_text (line depth
+        (letters the.Apply ∷ name_at names.now block ∷ []))) }
 {
     put_line(out, depth, "apply ")?;
     put_name(out, names, usize::from(block.get()))?;
@@ -97,7 +102,8 @@ fn put_name(out: &mut String, names: &Names, index: usize) -> Result<(), AllocEr
 #[tactic(auto, unfolding(crate::specs::Words::letters))]
 fn put_if(out: &mut String, contact: ContactId, depth: u8) -> Result<(), AllocError>
     ensures { OnOk result (string_bytes out.new ≡ string_bytes out.old
-        ++ line_text (line depth (letters the.If ∷ letters the.Contact ∷ decimal contact ∷ letters the.OpenBrace ∷ []))) }
+        ++ line_text (line depth (letters the.If ∷ letters the.Contact ∷ decimal contact ∷ letters
+        the.OpenBrace ∷ []))) }
 {
     let contact = contact.get();
     put_indent(out, depth)?;
@@ -108,7 +114,8 @@ fn put_if(out: &mut String, contact: ContactId, depth: u8) -> Result<(), AllocEr
 #[tactic(auto, unfolding(crate::specs::Words::letters))]
 fn put_repeat(out: &mut String, times: Times, depth: u8) -> Result<(), AllocError>
     ensures { OnOk result (string_bytes out.new ≡ string_bytes out.old
-        ++ line_text (line depth (letters the.Repeat ∷ decimal times ∷ letters the.OpenBrace ∷ []))) }
+        ++ line_text (line depth (letters the.Repeat ∷ decimal times ∷ letters the.OpenBrace ∷
+        []))) }
 {
     let times = times.get();
     put_indent(out, depth)?;
@@ -127,7 +134,8 @@ fn put_statement(
 ) -> Result<(), AllocError>
     requires room { depth + left ≤ 16 }
     requires fits { Fits (length names.now) left (before [] statement.now nothing) }
-    ensures { OnOk result (IsPut names.now depth (before [] statement.now) (string_bytes out.old) (string_bytes out.new)) }
+    ensures { OnOk result (IsPut names.now depth (before [] statement.now) (string_bytes out.old)
+        (string_bytes out.new)) }
 {
     match statement {
         Statement::Act { act, .. } => {
@@ -188,7 +196,8 @@ fn put_statements(
 ) -> Result<(), AllocError>
     requires room { depth + left ≤ 16 }
     requires fits { Fits (length names.now) left (block_of [] list.now) }
-    ensures { OnOk result (string_bytes out.new ≡ string_bytes out.old ++ text_of_lines (block_lines names.now depth (block_of [] list.now))) }
+    ensures { OnOk result (string_bytes out.new ≡ string_bytes out.old ++ text_of_lines
+        (block_lines names.now depth (block_of [] list.now))) }
 {
     for statement in list {
         put_statement(out, names, statement, depth, left)?;
@@ -206,7 +215,8 @@ fn put_definition(
 ) -> Result<(), AllocError>
     requires known { index < length names.now }
     requires fits { Fits (length names.now) 15 (block_of [] block.now) }
-    ensures { OnOk result (string_bytes out.new ≡ string_bytes out.old ++ text_of_lines (definition_lines names.now index block.now)) }
+    ensures { OnOk result (string_bytes out.new ≡ string_bytes out.old ++ text_of_lines
+        (definition_lines names.now index block.now)) }
 {
     out.push_str("define ")?;
     put_name(out, names, index)?;
@@ -224,7 +234,8 @@ fn put_definitions(
 ) -> Result<(), AllocError>
     requires fit { AllFit 0 (bodies blocks.now) }
     requires few { length blocks.now ≤ length names.now }
-    ensures { OnOk result (string_bytes out.new ≡ string_bytes out.old ++ text_of_lines (defined_lines names.now 0 (bodies blocks.now))) }
+    ensures { OnOk result (string_bytes out.new ≡ string_bytes out.old ++ text_of_lines
+        (defined_lines names.now 0 (bodies blocks.now))) }
 {
     for (index, block) in blocks.iter().enumerate() {
         put_definition(out, names, index, block.as_slice())?;

@@ -37,7 +37,11 @@ impl<'a> Reader<'a> {
     /// The words of these tokens of a text.
     pub fn new(text: &'a [u8], tokens: &'a [Token]) -> Self
         requires { AreWithin (length text.now) tokens.now }
-        ensures { result ≡ record { words = words_of text.now tokens.now; lines = lines_of tokens.now } }
+        ensures { result ≡ record {
+          words = words_of text.now tokens.now;
+          lines = lines_of
+              tokens.now;
+        } }
     {
         Reader {
             text,
@@ -88,7 +92,8 @@ impl<'a> Reader<'a> {
     pub fn advance(&mut self)
         ensures words { self.new.words ≡ drop 1 self.old.words }
         ensures lines { self.new.lines ≡ self.old.lines }
-        ensures passes { (word : List ℕ) → BeginsWith self.old.words word → Passes (word ∷ []) self.old self.new }
+        ensures passes { (word : List ℕ) → BeginsWith self.old.words word → Passes (word ∷ [])
+            self.old self.new }
     {
         if let Some((_first, rest)) = self.tokens.split_first() {
             self.tokens = rest;

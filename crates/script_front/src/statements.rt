@@ -28,7 +28,8 @@ fn statement(
     depth: u8,
 ) -> Result<Statement, ScriptFault>
     requires { length names.now ≤ 64 }
-    ensures read { IfOk result (λ s. IsRead names.now depth left.old left.new reader.old reader.new (before [] s)) }
+    ensures read { IfOk result (λ s. IsRead names.now depth left.old left.new reader.old reader.new
+        (before [] s)) }
     ensures shorter { OnOk result (length reader.new.words < length reader.old.words) }
 {
     let Some(first) = reader.keyword() else {
@@ -66,7 +67,8 @@ pub fn statements(
     depth: u8,
 ) -> Result<Vec<Statement>, ScriptFault>
     requires { length names.now ≤ 64 }
-    ensures read { IfOk result (λ v. IsRead names.now depth left.old left.new reader.old reader.new (and_then [] v.items)) }
+    ensures read { IfOk result (λ v. IsRead names.now depth left.old left.new reader.old reader.new
+        (and_then [] v.items)) }
     ensures shorter { OnOk result (length reader.new.words ≤ length reader.old.words) }
 {
     let mut list = Vec::new(alloc);
@@ -100,7 +102,8 @@ pub fn block(
     depth: u8,
 ) -> Result<Vec<Statement>, ScriptFault>
     requires { length names.now ≤ 64 }
-    ensures read { IfOk result (λ v. IsBody names.now depth left.old left.new reader.old reader.new (block_of [] v.items)) }
+    ensures read { IfOk result (λ v. IsBody names.now depth left.old left.new reader.old reader.new
+        (block_of [] v.items)) }
     ensures shorter { OnOk result (length reader.new.words < length reader.old.words) }
 {
     open(reader, depth)?;
@@ -139,7 +142,8 @@ fn choice(
 ) -> Result<Statement, ScriptFault>
     requires known { length names.now ≤ 64 }
     requires line { line ≡ line_of reader.old.lines (letters the.If ∷ reader.old.words) }
-    ensures read { IfOk result (λ s. IsRead names.now depth (left.old + 1) left.new (behind the.If reader.old) reader.new (before [] s)) }
+    ensures read { IfOk result (λ s. IsRead names.now depth (left.old + 1) left.new (behind the.If
+        reader.old) reader.new (before [] s)) }
     ensures shorter { OnOk result (length reader.new.words ≤ length reader.old.words) }
 {
     reader.expect(Keyword::Contact)?;
@@ -167,7 +171,8 @@ fn repetition(
 ) -> Result<Statement, ScriptFault>
     requires known { length names.now ≤ 64 }
     requires line { line ≡ line_of reader.old.lines (letters the.Repeat ∷ reader.old.words) }
-    ensures read { IfOk result (λ s. IsRead names.now depth (left.old + 1) left.new (behind the.Repeat reader.old) reader.new (before [] s)) }
+    ensures read { IfOk result (λ s. IsRead names.now depth (left.old + 1) left.new (behind
+        the.Repeat reader.old) reader.new (before [] s)) }
     ensures shorter { OnOk result (length reader.new.words ≤ length reader.old.words) }
 {
     let times = times(reader)?;
@@ -187,7 +192,8 @@ fn endless(
 ) -> Result<Statement, ScriptFault>
     requires known { length names.now ≤ 64 }
     requires line { line ≡ line_of reader.old.lines (letters the.Forever ∷ reader.old.words) }
-    ensures read { IfOk result (λ s. IsRead names.now depth (left.old + 1) left.new (behind the.Forever reader.old) reader.new (before [] s)) }
+    ensures read { IfOk result (λ s. IsRead names.now depth (left.old + 1) left.new (behind
+        the.Forever reader.old) reader.new (before [] s)) }
     ensures shorter { OnOk result (length reader.new.words ≤ length reader.old.words) }
 {
     let body = block(alloc, reader, names, left, depth)?;

@@ -64,7 +64,8 @@ fn put_profile(out: &mut String, protection: Protection) -> Result<(), AllocErro
 /// A sub-channel that is added.
 #[tactic(auto, unfolding(crate::specs::Words::letters))]
 fn put_new_sub(out: &mut String, sub: NewSub) -> Result<(), AllocError>
-    ensures { OnOk result (string_bytes out.new ≡ string_bytes out.old ++ spaced (edit_words (AddSub sub))) }
+    ensures { OnOk result (string_bytes out.new ≡ string_bytes out.old ++ spaced (edit_words
+        (AddSub sub))) }
 {
     let sub = sub.get();
     let id = sub.id.get();
@@ -78,7 +79,8 @@ fn put_new_sub(out: &mut String, sub: NewSub) -> Result<(), AllocError>
 /// A packet component that is added.
 #[tactic(auto, unfolding(crate::specs::Words::letters))]
 fn put_packet(out: &mut String, packet: Packet) -> Result<(), AllocError>
-    ensures { OnOk result (string_bytes out.new ≡ string_bytes out.old ++ spaced (edit_words (AddPacket packet))) }
+    ensures { OnOk result (string_bytes out.new ≡ string_bytes out.old ++ spaced (edit_words
+        (AddPacket packet))) }
 {
     let scid = packet.scid.get();
     let ty = packet.ty.get();
@@ -100,7 +102,8 @@ fn put_packet(out: &mut String, packet: Packet) -> Result<(), AllocError>
 /// A component, up to the service.
 #[tactic(auto, unfolding(crate::specs::Words::letters))]
 fn put_carried(out: &mut String, component: Component) -> Result<(), AllocError>
-    ensures { OnOk result (string_bytes out.new ≡ string_bytes out.old ++ spaced (carried_words component)) }
+    ensures { OnOk result (string_bytes out.new ≡ string_bytes out.old ++ spaced (carried_words
+        component)) }
 {
     match component {
         Component::Sound { ty, sub } => {
@@ -123,7 +126,8 @@ fn put_carried(out: &mut String, component: Component) -> Result<(), AllocError>
 /// What a component names.
 #[tactic(auto, unfolding(crate::specs::Words::letters))]
 fn put_carrier(out: &mut String, carrier: Carrier) -> Result<(), AllocError>
-    ensures { OnOk result (string_bytes out.new ≡ string_bytes out.old ++ each_behind (carrier_words carrier)) }
+    ensures { OnOk result (string_bytes out.new ≡ string_bytes out.old ++ each_behind
+        (carrier_words carrier)) }
 {
     match carrier {
         Carrier::Sub(id) => {
@@ -140,7 +144,8 @@ fn put_carrier(out: &mut String, carrier: Carrier) -> Result<(), AllocError>
 /// The service of a component.
 #[tactic(auto, unfolding(crate::specs::Words::letters))]
 fn put_in(out: &mut String, sid: Sid) -> Result<(), AllocError>
-    ensures { OnOk result (string_bytes out.new ≡ string_bytes out.old ++ each_behind (in_words sid)) }
+    ensures { OnOk result (string_bytes out.new ≡ string_bytes out.old ++ each_behind (in_words
+        sid)) }
 {
     out.push_str(" in ")?;
     put_sid(out, sid)?;
@@ -150,7 +155,8 @@ fn put_in(out: &mut String, sid: Sid) -> Result<(), AllocError>
 /// A component that is added to a service.
 #[tactic(auto, using(crate::proofs::Printed::component_put))]
 fn put_component(out: &mut String, sid: Sid, component: Component) -> Result<(), AllocError>
-    ensures { OnOk result (string_bytes out.new ≡ string_bytes out.old ++ spaced (edit_words (AddComponent sid component))) }
+    ensures { OnOk result (string_bytes out.new ≡ string_bytes out.old ++ spaced (edit_words
+        (AddComponent sid component))) }
 {
     put_carried(out, component)?;
     put_in(out, sid)?;
@@ -159,7 +165,8 @@ fn put_component(out: &mut String, sid: Sid, component: Component) -> Result<(),
 
 /// The component of a carrier, taken out of a service.
 fn put_dropped(out: &mut String, sid: Sid, carrier: Carrier) -> Result<(), AllocError>
-    ensures { OnOk result (string_bytes out.new ≡ string_bytes out.old ++ spaced (edit_words (DropComponent sid carrier))) }
+    ensures { OnOk result (string_bytes out.new ≡ string_bytes out.old ++ spaced (edit_words
+        (DropComponent sid carrier))) }
 {
     out.push_str("drop component")?;
     put_carrier(out, carrier)?;
@@ -169,7 +176,8 @@ fn put_dropped(out: &mut String, sid: Sid, carrier: Carrier) -> Result<(), Alloc
 
 /// A service that is added or taken away, after its first words.
 fn put_after(out: &mut String, words: &str, sid: Sid) -> Result<(), AllocError>
-    ensures { OnOk result (string_bytes out.new ≡ string_bytes out.old ++ (words.now ++ sid_word sid)) }
+    ensures { OnOk result (string_bytes out.new ≡ string_bytes out.old ++ (words.now ++ sid_word
+        sid)) }
 {
     out.push_str(words)?;
     put_sid(out, sid)?;
@@ -235,7 +243,8 @@ fn put_time(out: &mut String, time: TimeOfDay) -> Result<(), AllocError>
 /// Waiting for a time of the day.
 #[tactic(auto, unfolding(crate::specs::Words::letters))]
 fn put_until(out: &mut String, time: TimeOfDay) -> Result<(), AllocError>
-    ensures { OnOk result (string_bytes out.new ≡ string_bytes out.old ++ spaced (act_words (Until time))) }
+    ensures { OnOk result (string_bytes out.new ≡ string_bytes out.old ++ spaced (act_words (Until
+        time))) }
 {
     out.push_str("until ")?;
     put_time(out, time)?;
@@ -245,7 +254,8 @@ fn put_until(out: &mut String, time: TimeOfDay) -> Result<(), AllocError>
 /// Waiting for a contact.
 #[tactic(auto, unfolding(crate::specs::Words::letters))]
 fn put_waiting(out: &mut String, contact: ContactId, closed: bool) -> Result<(), AllocError>
-    ensures { OnOk result (string_bytes out.new ≡ string_bytes out.old ++ spaced (act_words (WaitContact contact closed))) }
+    ensures { OnOk result (string_bytes out.new ≡ string_bytes out.old ++ spaced (act_words
+        (WaitContact contact closed))) }
 {
     let contact = contact.get();
     if closed {
@@ -281,7 +291,8 @@ pub fn put_act(out: &mut String, act: Act) -> Result<(), AllocError>
 /// The mode, where it is not mode I.
 #[tactic(auto, unfolding(crate::specs::Words::letters), using(crate::proofs::Printed::digit))]
 fn put_mode(out: &mut String, mode: Mode) -> Result<(), AllocError>
-    ensures { OnOk result (string_bytes out.new ≡ string_bytes out.old ++ each_behind (mode_words mode)) }
+    ensures { OnOk result (string_bytes out.new ≡ string_bytes out.old ++ each_behind (mode_words
+        mode)) }
 {
     match mode {
         Mode::I => Ok(()),
@@ -294,7 +305,8 @@ fn put_mode(out: &mut String, mode: Mode) -> Result<(), AllocError>
 /// The second line of a header.
 #[tactic(auto, unfolding(crate::specs::Words::letters))]
 fn put_limits(out: &mut String, header: Header) -> Result<(), AllocError>
-    ensures { OnOk result (string_bytes out.new ≡ string_bytes out.old ++ line_text (limits_line header)) }
+    ensures { OnOk result (string_bytes out.new ≡ string_bytes out.old ++ line_text (limits_line
+        header)) }
 {
     let period = header.period;
     let notice = header.notice;
@@ -304,7 +316,8 @@ fn put_limits(out: &mut String, header: Header) -> Result<(), AllocError>
 
 /// The two lines of a header.
 pub fn put_header(out: &mut String, header: Header) -> Result<(), AllocError>
-    ensures { OnOk result (string_bytes out.new ≡ string_bytes out.old ++ text_of_lines (header_lines header)) }
+    ensures { OnOk result (string_bytes out.new ≡ string_bytes out.old ++ text_of_lines
+        (header_lines header)) }
 {
     out.push_str("ensemble ")?;
     put_word(out, header.eid)?;
