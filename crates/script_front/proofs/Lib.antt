@@ -1,3 +1,4 @@
+mod Atoms
 mod Defining
 mod Definitions
 mod Denoted

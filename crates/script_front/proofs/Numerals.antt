@@ -1,5 +1,7 @@
 -- Hexadecimal digits and times, and their numbers.
-use Rattle.std.proofs.Common.{◌≡◌, ℕ, ◌+◌, ◌-◌, ◌*◌, ◌/◌, ◌%◌, ◌<◌, ◌≤◌, List, [], ◌∷◌, ◌++◌, length, get_or, refl, ap, ◌∙◌, lt-ltb, le-ltb, arith}
+use Rattle.std.proofs.Common.{◌≡◌, ◌⊎◌, inl, inr, sym, take, drop, ℕ, ◌+◌, ◌-◌, ◌*◌, ◌/◌, ◌%◌, ◌<◌, ◌≤◌, List, [], ◌∷◌, ◌++◌, length, get_or, refl, ap, ◌∙◌, lt-ltb, le-ltb, arith}
+use Rattle.std.proofs.lemmas.Bool.{cases_lt}
+use Rattle.std.proofs.lemmas.List.{take_at, drop_at}
 use Rattle.script_front.specs.Spelling.{hex_digit, hex_byte, hex_word, hex_long, two_digits, time_word}
 
 pub low_digit : (b : ℕ) → 48 ≤ b → b ≤ 57 → b ≡ hex_digit (b - 48)
@@ -54,3 +56,51 @@ eight_bytes (a ∷ b ∷ c ∷ d ∷ e ∷ []) low high = absurd (omega arith)
 eight_bytes (a ∷ b ∷ c ∷ d ∷ e ∷ f ∷ []) low high = absurd (omega arith)
 eight_bytes (a ∷ b ∷ c ∷ d ∷ e ∷ f ∷ g ∷ []) low high = absurd (omega arith)
 eight_bytes (a ∷ b ∷ c ∷ d ∷ e ∷ f ∷ g ∷ h ∷ i ∷ xs) low high = absurd (omega arith)
+
+-- ---- atoms that are no such numbers
+
+pub hex_range : (d : ℕ) → d < 16 → ((48 ≤ hex_digit d) × (hex_digit d ≤ 57)) ⊎ ((65 ≤ hex_digit d) × (hex_digit d ≤ 70))
+hex_range d small = elim (cases_lt d 10) [
+  | inl lt ↦ rw (lt-ltb d 10 lt) (inl (omega arith, omega arith))
+  | inr ge ↦ rw (le-ltb d 10 ge) (inr (omega arith, omega arith))
+]
+
+pub no_digit : (b d : ℕ) → d < 16 → ((48 ≤ b) × (b ≤ 57) → ⊥) → ((65 ≤ b) × (b ≤ 70) → ⊥) → b ≡ hex_digit d → ⊥
+no_digit b d small low high e = elim (hex_range d small) [
+  | inl r ↦ low (omega (arith, e, r.0), omega (arith, e, r.1))
+  | inr r ↦ high (omega (arith, e, r.0), omega (arith, e, r.1))
+]
+
+pub no_high : (high low n : ℕ) → ((d : ℕ) → d < 16 → high ≡ hex_digit d → ⊥) → n < 256 → high ∷ low ∷ [] ≡ hex_byte n → ⊥
+no_high high low n none small e = none (n / 16) (omega arith) (ap (λ (xs : List ℕ). get_or xs 0 0) e)
+
+pub no_low : (high low n : ℕ) → ((d : ℕ) → d < 16 → low ≡ hex_digit d → ⊥) → n < 256 → high ∷ low ∷ [] ≡ hex_byte n → ⊥
+no_low high low n none small e = none (n % 16) (omega arith) (ap (λ (xs : List ℕ). get_or xs 1 0) e)
+
+two_front : List ℕ → List ℕ
+two_front xs = get_or xs 0 0 ∷ get_or xs 1 0 ∷ []
+
+two_back : List ℕ → List ℕ
+two_back xs = get_or xs 2 0 ∷ get_or xs 3 0 ∷ []
+
+pub no_front : (a b c d n : ℕ) → ((m : ℕ) → m < 256 → a ∷ b ∷ [] ≡ hex_byte m → ⊥) → n < 65536 → a ∷ b ∷ c ∷ d ∷ [] ≡ hex_word n → ⊥
+unfolding two_front
+no_front a b c d n none small e = none (n / 256) (omega arith) (ap two_front e)
+
+pub no_back : (a b c d n : ℕ) → ((m : ℕ) → m < 256 → c ∷ d ∷ [] ≡ hex_byte m → ⊥) → n < 65536 → a ∷ b ∷ c ∷ d ∷ [] ≡ hex_word n → ⊥
+unfolding two_back
+no_back a b c d n none small e = none (n % 256) (omega arith) (ap two_back e)
+
+pub not_four : (atom : List ℕ) (n : ℕ) → atom ≡ hex_word n → length atom ≡ 4
+not_four atom n e = ap length e
+
+pub not_eight : (atom : List ℕ) (n : ℕ) → atom ≡ hex_long n → length atom ≡ 8
+not_eight atom n e = ap length e
+
+pub no_long_front : (front back : List ℕ) (n : ℕ) → length front ≡ 4 → ((m : ℕ) → m < 65536 → front ≡ hex_word m → ⊥) → n < 4294967296 → front ++ back ≡ hex_long n → ⊥
+no_long_front front back n len none small e =
+    none (n / 65536) (omega arith) (sym (take_at front back 4 len) ∙ ap (take 4) e)
+
+pub no_long_back : (front back : List ℕ) (n : ℕ) → length front ≡ 4 → ((m : ℕ) → m < 65536 → back ≡ hex_word m → ⊥) → n < 4294967296 → front ++ back ≡ hex_long n → ⊥
+no_long_back front back n len none small e =
+    none (n % 65536) (omega arith) (sym (drop_at front back 4 len) ∙ ap (drop 4) e)

@@ -332,3 +332,25 @@ name_word [] h = absurd (false≢true h.formed)
 name_word (b ∷ bs) h =
     let first = lower_range b (and_left (is_lower b) (list_all is_name_byte bs) h.formed) in
     inl (record { some = omega arith; are = (letter_lower b first.0 first.1, name_letters bs (and_right (is_lower b) (list_all is_name_byte bs) h.formed)) })
+
+-- ---- the letters of atoms
+
+pub decimal_letters : (n : ℕ) → n < 1000000000 → AreLetters (decimal n)
+decimal_letters n small = digits_letters (decimal n) (digits_decimal own n (omega arith))
+
+pub hex_letters : (n : ℕ) → n < 65536 → AreLetters (hex_word n)
+hex_letters n small = four_letters n small
+
+pub sid_letters : (s : Sid) → IsSid s → AreLetters (sid_word s)
+sid_letters (Short n) h = four_letters n h
+sid_letters (Long n) h = letters_both (hex_word (n / 65536)) (hex_word (n % 65536)) (four_letters (n / 65536) (omega (arith, h))) (four_letters (n % 65536) (omega (arith, h)))
+
+pub profile_letters : (p : Profile) → p.level ≤ 4 → AreLetters (profile_word p)
+profile_letters p h = (digit_letter p.level (omega (arith, h)), (refl, (set_kind p.set, tt)))
+
+pub time_letters : (s : ℕ) → s < 86400 → AreLetters (time_word s)
+time_letters s small =
+    let a = two_letters (s / 3600) (omega arith) in
+    let b = two_letters (s / 60 % 60) (omega arith) in
+    let c = two_letters (s % 60) (omega arith) in
+    (a.0, (a.1.0, (refl, (b.0, (b.1.0, (refl, (c.0, (c.1.0, tt))))))))

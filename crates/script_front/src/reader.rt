@@ -30,9 +30,11 @@ impl<'a> Model for Reader<'a> {
 }
 
 impl<'a> Reader<'a> {
-    ghost use Rattle.std.specs.Prelude.{◌≡◌, ◌≢◌, ℕ, ◌<◌, ◌≤◌, length, drop, List, [], ◌∷◌, MatchOption, IsSome, IfSome, None, IfOk, OnOk};
+    ghost use Rattle.std.specs.Prelude.{◌≡◌, ◌≢◌, ℕ, ◌<◌, ◌≤◌, length, drop, List, [], ◌∷◌, MatchOption, IsSome, IfSome, None, IfOk, OnOk, OnErr};
     ghost use Rattle.script_front.specs.Reading.{words_of, lines_of, line_at, line_of, AreWithin, BeginsWith, Passes};
     ghost use Rattle.script_front.specs.Words.{letters};
+    ghost use Rattle.script_front.specs.Texts.{AreLetters};
+    ghost use Rattle.script_front.specs.declared.keyword.Keyword.{Keyword};
 
     /// The words of these tokens of a text.
     pub fn new(text: &'a [u8], tokens: &'a [Token]) -> Self
@@ -104,6 +106,8 @@ impl<'a> Reader<'a> {
     pub fn keyword(&self) -> Option<Keyword>
         ensures some { IsSome result → 0 < length self.now.words }
         ensures begins { IfSome result (λ k. BeginsWith self.now.words (letters k)) }
+        ensures none { result ≡ None → (k : Keyword) (rest : List (List ℕ))
+            → self.now.words ≢ letters k ∷ rest }
     {
         match self.peek() {
             None => None,
@@ -116,9 +120,12 @@ impl<'a> Reader<'a> {
     /// # Errors
     ///
     /// `Expected` where it is a brace, or no word is left.
+    #[tactic(auto, using(crate::proofs::Atoms::no_open, crate::proofs::Atoms::no_close))]
     pub fn atom(&self) -> Result<&'a [u8], ScriptFault>
         ensures some { OnOk result (0 < length self.now.words) }
         ensures begins { IfOk result (λ w. BeginsWith self.now.words w.now) }
+        ensures none { OnErr result ((w : List ℕ) (rest : List (List ℕ)) → AreLetters w
+            → self.now.words ≢ w ∷ rest) }
     {
         match self.peek() {
             None => Err(self.expected()),

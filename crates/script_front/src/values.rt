@@ -3,7 +3,9 @@
 //! Each call passes over what it reads. Where an atom stands that is no such value, the fault is `Number` at
 //! that atom; where a brace or the end stands, `Expected`.
 
-ghost use Rattle.std.specs.Prelude.{◌≡◌, ℕ, ◌∷◌, ◌<◌, ◌≤◌, [], length, IfOk, OnOk};
+ghost use Rattle.std.specs.Prelude.{◌≡◌, ℕ, ◌∷◌, ◌<◌, ◌≤◌, [], length, List, ◌≢◌, IfOk, OnOk, OnErr};
+ghost use Rattle.mux_config.specs.declared.numbers.Sid.{Sid};
+ghost use Rattle.mux_eep.specs.Sizes.{Profile};
 ghost use Rattle.std.specs.Fmt.{decimal};
 ghost use Rattle.script_front.specs.Reading.{Passes, BeginsWith};
 ghost use Rattle.script_front.specs.Spelling.{hex_word, sid_word, profile_word, time_word};
@@ -22,8 +24,11 @@ use mux_eep::Protection;
 use plan_code::{ContactId, Delay, Frames, Times};
 
 /// A decimal from `low` to `high`.
+#[tactic(auto, using(crate::proofs::Wording::decimal_letters, crate::proofs::Atoms::decimal_below, crate::proofs::Atoms::decimal_above))]
 pub fn decimal(reader: &mut Reader, low: u32, high: u32) -> Result<u32, ScriptFault>
     ensures spells { IfOk result (λ n. Passes (decimal n ∷ []) reader.old reader.new) }
+    ensures none { OnErr result ((n : ℕ) (rest : List (List ℕ)) → low ≤ n → n ≤ high → n < 1000000000
+        → reader.old.words ≢ decimal n ∷ rest) }
     ensures range { IfOk result (λ n. (low ≤ n) × (n ≤ high)) }
     ensures shorter { OnOk result (length reader.new.words < length reader.old.words) }
 {
@@ -44,6 +49,8 @@ pub fn decimal(reader: &mut Reader, low: u32, high: u32) -> Result<u32, ScriptFa
 /// A decimal from 0 to 65,535.
 pub fn word(reader: &mut Reader) -> Result<u16, ScriptFault>
     ensures spells { IfOk result (λ n. Passes (decimal n ∷ []) reader.old reader.new) }
+    ensures none { OnErr result ((n : ℕ) (rest : List (List ℕ)) → n < 65536
+        → reader.old.words ≢ decimal n ∷ rest) }
     ensures shorter { OnOk result (length reader.new.words < length reader.old.words) }
 {
     let value = decimal(reader, 0, 65_535)?;
@@ -53,6 +60,8 @@ pub fn word(reader: &mut Reader) -> Result<u16, ScriptFault>
 /// A SubChId, 0 to 63.
 pub fn sub_id(reader: &mut Reader) -> Result<SubId, ScriptFault>
     ensures spells { IfOk result (λ n. Passes (decimal n ∷ []) reader.old reader.new) }
+    ensures none { OnErr result ((n : ℕ) (rest : List (List ℕ)) → n < 64
+        → reader.old.words ≢ decimal n ∷ rest) }
     ensures range { IfOk result (λ s. s < 64) }
     ensures shorter { OnOk result (length reader.new.words < length reader.old.words) }
 {
@@ -66,6 +75,8 @@ pub fn sub_id(reader: &mut Reader) -> Result<SubId, ScriptFault>
 /// A SCId, 0 to 4095.
 pub fn sc_id(reader: &mut Reader) -> Result<ScId, ScriptFault>
     ensures spells { IfOk result (λ n. Passes (decimal n ∷ []) reader.old reader.new) }
+    ensures none { OnErr result ((n : ℕ) (rest : List (List ℕ)) → n < 4096
+        → reader.old.words ≢ decimal n ∷ rest) }
     ensures range { IfOk result (λ s. s < 4096) }
     ensures shorter { OnOk result (length reader.new.words < length reader.old.words) }
 {
@@ -79,6 +90,8 @@ pub fn sc_id(reader: &mut Reader) -> Result<ScId, ScriptFault>
 /// A type, 0 to 63.
 pub fn sc_ty(reader: &mut Reader) -> Result<ScTy, ScriptFault>
     ensures spells { IfOk result (λ n. Passes (decimal n ∷ []) reader.old reader.new) }
+    ensures none { OnErr result ((n : ℕ) (rest : List (List ℕ)) → n < 64
+        → reader.old.words ≢ decimal n ∷ rest) }
     ensures range { IfOk result (λ t. t < 64) }
     ensures shorter { OnOk result (length reader.new.words < length reader.old.words) }
 {
@@ -92,6 +105,8 @@ pub fn sc_ty(reader: &mut Reader) -> Result<ScTy, ScriptFault>
 /// A start address, 0 to 1023.
 pub fn start(reader: &mut Reader) -> Result<Start, ScriptFault>
     ensures spells { IfOk result (λ n. Passes (decimal n ∷ []) reader.old reader.new) }
+    ensures none { OnErr result ((n : ℕ) (rest : List (List ℕ)) → n < 1024
+        → reader.old.words ≢ decimal n ∷ rest) }
     ensures range { IfOk result (λ s. s < 1024) }
     ensures shorter { OnOk result (length reader.new.words < length reader.old.words) }
 {
@@ -105,6 +120,8 @@ pub fn start(reader: &mut Reader) -> Result<Start, ScriptFault>
 /// A contact, 0 to 15.
 pub fn contact(reader: &mut Reader) -> Result<ContactId, ScriptFault>
     ensures spells { IfOk result (λ n. Passes (decimal n ∷ []) reader.old reader.new) }
+    ensures none { OnErr result ((n : ℕ) (rest : List (List ℕ)) → n < 16
+        → reader.old.words ≢ decimal n ∷ rest) }
     ensures range { IfOk result (λ c. c < 16) }
     ensures shorter { OnOk result (length reader.new.words < length reader.old.words) }
 {
@@ -118,6 +135,8 @@ pub fn contact(reader: &mut Reader) -> Result<ContactId, ScriptFault>
 /// A number of frames to wait, 1 to 65,535.
 pub fn frames(reader: &mut Reader) -> Result<Frames, ScriptFault>
     ensures spells { IfOk result (λ n. Passes (decimal n ∷ []) reader.old reader.new) }
+    ensures none { OnErr result ((n : ℕ) (rest : List (List ℕ)) → 1 ≤ n → n < 65536
+        → reader.old.words ≢ decimal n ∷ rest) }
     ensures range { IfOk result (λ f. (1 ≤ f) × (f < 65536)) }
     ensures shorter { OnOk result (length reader.new.words < length reader.old.words) }
 {
@@ -131,6 +150,8 @@ pub fn frames(reader: &mut Reader) -> Result<Frames, ScriptFault>
 /// A number of times, 1 to 65,535.
 pub fn times(reader: &mut Reader) -> Result<Times, ScriptFault>
     ensures spells { IfOk result (λ n. Passes (decimal n ∷ []) reader.old reader.new) }
+    ensures none { OnErr result ((n : ℕ) (rest : List (List ℕ)) → 1 ≤ n → n < 65536
+        → reader.old.words ≢ decimal n ∷ rest) }
     ensures range { IfOk result (λ t. (1 ≤ t) × (t < 65536)) }
     ensures shorter { OnOk result (length reader.new.words < length reader.old.words) }
 {
@@ -144,6 +165,8 @@ pub fn times(reader: &mut Reader) -> Result<Times, ScriptFault>
 /// A delay of a swap in frames, 1 to 60,000.
 pub fn delay(reader: &mut Reader) -> Result<Delay, ScriptFault>
     ensures spells { IfOk result (λ n. Passes (decimal n ∷ []) reader.old reader.new) }
+    ensures none { OnErr result ((n : ℕ) (rest : List (List ℕ)) → 1 ≤ n → n ≤ 60000
+        → reader.old.words ≢ decimal n ∷ rest) }
     ensures range { IfOk result (λ d. (1 ≤ d) × (d ≤ 60000)) }
     ensures shorter { OnOk result (length reader.new.words < length reader.old.words) }
 {
@@ -155,8 +178,11 @@ pub fn delay(reader: &mut Reader) -> Result<Delay, ScriptFault>
 }
 
 /// An EId: four digits 0-9 or A-F.
+#[tactic(auto, using(crate::proofs::Wording::hex_letters))]
 pub fn eid(reader: &mut Reader) -> Result<u16, ScriptFault>
     ensures spells { IfOk result (λ n. Passes (hex_word n ∷ []) reader.old reader.new) }
+    ensures none { OnErr result ((n : ℕ) (rest : List (List ℕ)) → n < 65536
+        → reader.old.words ≢ hex_word n ∷ rest) }
     ensures shorter { OnOk result (length reader.new.words < length reader.old.words) }
 {
     let atom = reader.atom()?;
@@ -170,8 +196,11 @@ pub fn eid(reader: &mut Reader) -> Result<u16, ScriptFault>
 }
 
 /// An SId: four digits 0-9 or A-F for a short one, eight for a long one.
+#[tactic(auto, using(crate::proofs::Wording::sid_letters))]
 pub fn sid(reader: &mut Reader) -> Result<Sid, ScriptFault>
     ensures spells { IfOk result (λ s. Passes (sid_word s ∷ []) reader.old reader.new) }
+    ensures none { OnErr result ((n : Sid) (rest : List (List ℕ)) → IsSid n
+        → reader.old.words ≢ sid_word n ∷ rest) }
     ensures range { IfOk result IsSid }
     ensures shorter { OnOk result (length reader.new.words < length reader.old.words) }
 {
@@ -186,8 +215,11 @@ pub fn sid(reader: &mut Reader) -> Result<Sid, ScriptFault>
 }
 
 /// A protection profile, `1-A` to `4-A` or `1-B` to `4-B`.
+#[tactic(auto, using(crate::proofs::Wording::profile_letters))]
 pub fn profile(reader: &mut Reader) -> Result<Protection, ScriptFault>
     ensures spells { IfOk result (λ p. Passes (profile_word p ∷ []) reader.old reader.new) }
+    ensures none { OnErr result ((n : Profile) (rest : List (List ℕ)) → 1 ≤ n.level → n.level ≤ 4
+        → reader.old.words ≢ profile_word n ∷ rest) }
     ensures range { IfOk result (λ p. (1 ≤ p.level) × (p.level ≤ 4)) }
     ensures shorter { OnOk result (length reader.new.words < length reader.old.words) }
 {
@@ -202,8 +234,11 @@ pub fn profile(reader: &mut Reader) -> Result<Protection, ScriptFault>
 }
 
 /// A time of the day, 00:00:00 to 23:59:59.
+#[tactic(auto, using(crate::proofs::Wording::time_letters))]
 pub fn time(reader: &mut Reader) -> Result<TimeOfDay, ScriptFault>
     ensures spells { IfOk result (λ t. Passes (time_word t ∷ []) reader.old reader.new) }
+    ensures none { OnErr result ((n : ℕ) (rest : List (List ℕ)) → n < 86400
+        → reader.old.words ≢ time_word n ∷ rest) }
     ensures range { IfOk result (λ t. t < 86400) }
     ensures shorter { OnOk result (length reader.new.words < length reader.old.words) }
 {
