@@ -1,7 +1,7 @@
 -- Why small codes are refused: each definition of refusals where it holds, and where it fails.
 use Rattle.std.proofs.Common.{◌≡◌, ◌≢◌, ℕ, zero, suc, ◌<◌, ◌≤◌, List, [], ◌∷◌, length, slice_get, Contains, Some, None, inl, inr, refl, sym, ap, subst, arith}
 use Rattle.std.proofs.lemmas.Bool.{false≢true}
-use Rattle.mux_config.specs.Configuration.{IsConfiguration, Each, IsAscending, nothing}
+use Rattle.mux_config.specs.Configuration.{Configuration, IsConfiguration, Each, IsAscending, nothing}
 use Rattle.mux_config.specs.declared.edit.Edit.TheVariants.{AddSub, DropSub}
 use Rattle.mux_config.specs.declared.fault.EditFault.TheVariants.{IdAbsent}
 use Rattle.plan_code.specs.declared.label.Label.{Label}
@@ -11,14 +11,14 @@ use Rattle.plan_code.specs.declared.instr.Line.{Line}
 use Rattle.plan_code.specs.declared.instr.Instr.TheVariants.{CommitIn, Join, End, Edit as Edits, Jump}
 use Rattle.plan_code.specs.Program.{Program, IsProgram, IsPlan, IsLabel, IsLine, IsInstr, instr_at, label_at, label_key}
 use Rattle.plan_verifier.specs.declared.cause.Cause.{Cause}
-use Rattle.plan_verifier.specs.declared.cause.Cause.TheVariants.{Target, Table, Edit as OfEdit, Pending, Notice, JoinIdle, Mismatch, Cost, FallsOff}
+use Rattle.plan_verifier.specs.declared.cause.Cause.TheVariants.{Target, Table, Edit as OfEdit, Pending, Notice, JoinIdle, Mismatch, Cost, Round, FallsOff}
 use Rattle.plan_verifier.specs.Typing.{Known, Declares, HasOpening, IsPlaced, IsAfter, IsSafe}
 use Rattle.plan_verifier.specs.Refusals.{Where, WhereSome, ◌orelse◌, CommitRefused, FitsLabel, EntryRefused, JumpRefused, InstrRefused, KnownRefused, TakenRefused, LabelRefused, PlaceRefused, OpenedRefused, OpeningRefused, IsSafeBelow, IsTypingBelow, InstructionRefused, IsFirstPast, IsRefusedAt, IsRefused, HasOneVerdict}
 use Rattle.plan_verifier.proofs.Tabled.{IsTabled, tabled, declared_once}
 use Rattle.plan_verifier.proofs.Causes.{decides_label, entry_computes, known_computes}
 use Rattle.plan_verifier.proofs.Entries.{whole_computes}
 use Rattle.plan_verifier.proofs.OneVerdict.{refused_if, codes_have_one_verdict}
-use Rattle.plan_verifier.proofs.VectorsOfTyping.{plan, sub, label, line, code, joins, opened, edited, committed, its_label_declares, opened_fits, a_first_sub_channel, opens_empty}
+use Rattle.plan_verifier.proofs.VectorsOfTyping.{plan, each_frame, many_subs, knows, counters, no_room_in_each_frame, sub, label, line, code, joins, opened, edited, committed, its_label_declares, opened_fits, a_first_sub_channel, opens_empty}
 
 -- adds a sub-channel, and then waits for a swap that nothing has committed
 abbrev unjoined : Program
@@ -349,3 +349,44 @@ never_refused (suc pc) cause r = no_opening (r.1.0.opening (omega arith))
 
 no_verdict : HasOneVerdict astray → ⊥
 no_verdict h = elim h.either [ inl typed ↦ no_opening typed.1.opening | inr refused ↦ never_refused refused.0 refused.1 refused.2 ]
+
+-- ---- more pages than the period has frames: 24 small sub-channels take two pages, and the period is one frame
+
+many_changes : many_subs ≡ nothing → ⊥
+many_changes e = let n : 24 ≡ 0 = ap (λ (c : Configuration). length c.subs) e in omega (arith, n)
+
+commit_of_two_pages : CommitRefused each_frame (knows many_subs Idle 2) (24 < 24) Notice Round
+commit_of_two_pages =
+    inr ((λ cause h. h.0 refl), inr ((λ cause h. let e : 24 < 24 = h.0 in omega (arith, e)), inr ((λ cause h. h), inr ((λ cause h. many_changes h.0), (no_room_in_each_frame, refl)))))
+
+abbrev crowded : Program
+crowded = record (lone End) { plan = each_frame; configurations = many_subs ∷ [] }
+
+abbrev opened_with_many : Known
+opened_with_many = record { current = many_subs; next = many_subs; pending = Idle; counters = counters 0; allowance = 3 }
+
+nothing_below : IsTypingBelow crowded 0 []
+nothing_below = record {
+  each = refl;
+  opening = λ some. absurd (omega (arith, some));
+  labels = λ l has lt. absurd (omega (arith, lt));
+  safe = λ pc i t at known. absurd (none_there pc t known);
+  reached = λ pc lt none. absurd (omega (arith, lt));
+}
+  where
+    none_there : (pc : ℕ) (t : Known) → slice_get [] pc ≡ Some t → ⊥
+    none_there zero t e = absurd cc
+    none_there (suc pc) t e = absurd cc
+
+begins_with_two_pages : OpenedRefused crowded End (label 0 3) opened_with_many Round
+begins_with_two_pages =
+    inr (
+      (λ cause h. h.0 (record { same = refl; idle = refl; unset = refl })),
+      inr ((λ cause h. let e : 20 < 3 = h.0 in omega (arith, e)), inr ((λ cause h. h), inl (omega arith, refl))),
+    )
+
+refused_for_its_pages : IsRefused crowded 0 Round
+refused_for_its_pages = (
+  [],
+  (nothing_below, (opened_with_many, record { current = refl; next = refl; pending = refl; counters = refl; cost = refl }, begins_with_two_pages)),
+)

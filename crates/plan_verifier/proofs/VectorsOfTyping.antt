@@ -102,7 +102,7 @@ room_for_one_sub : HasRoom plan edited
 room_for_one_sub = (decides_room plan edited).told refl
 
 -- these take two pages, which go out in two frames
-no_room_in_each_frame : HasRoom each_frame (knows many_subs Idle 2) → ⊥
+pub no_room_in_each_frame : HasRoom each_frame (knows many_subs Idle 2) → ⊥
 no_room_in_each_frame h = let e : 2 ≤ 1 = h.within_period in omega (arith, e)
 
 -- ---- commits
