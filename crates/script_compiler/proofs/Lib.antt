@@ -1,3 +1,10 @@
 mod Trees
 mod Weight
 mod Arms
+mod Leading
+mod Laid
+mod Putting
+mod Blocks
+mod Steps
+mod Tabling
+mod Whole

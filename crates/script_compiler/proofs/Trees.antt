@@ -1,11 +1,13 @@
 -- What each statement of a tree is as a block, and what goes on after it.
-use Rattle.std.proofs.Common.{◌≡◌, ℕ, ◌+◌, ◌<◌, List, ◌∷◌, refl, sym, ap, subst, drop, length, get_or, drop-cons, ◌≤◌, add-one}
+use Rattle.std.proofs.Common.{◌∙◌, Bool, true, false, ◌&&◌, ◌||◌, ◌≡◌, ℕ, ◌+◌, ◌<◌, List, ◌∷◌, refl, sym, ap, subst, drop, length, get_or, drop-cons, ◌≤◌, add-one}
 use Rattle.std.proofs.lemmas.List.{drop_all}
 use Rattle.script_front.specs.declared.tree.Statement.{Statement}
 use Rattle.script_front.specs.declared.tree.Statement.TheOpen.{Statement-F}
 use Rattle.script_front.specs.declared.tree.Statement.TheViews.{out-Statement}
 use Rattle.script_front.specs.declared.tree.Statement.TheFolds.{fold_out-Statement, map-Statement}
-use Rattle.script_front.specs.Block.{Block, nothing, Before, statement_step, before, block_of}
+use Rattle.script_front.specs.Block.{Block, nothing, Before, whole, named_at, statement_step, before, block_of}
+use Rattle.script_scheme.specs.Scheme.{falls_out}
+use Rattle.script_compiler.specs.Laying.{lays_nothing}
 
 -- what holds of each statement in its parts' meanings holds of each statement
 pub by_step : (table : List Block) (P : Before → Type 0) → ((x : Statement-F Before) → P (statement_step table x)) → (s : Statement) → P (before table s)
@@ -19,3 +21,39 @@ statements_cut table ss k d lt =
 
 pub none_left : (table : List Block) (ss : List Statement) (k : ℕ) → length ss ≤ k → block_of table (drop k ss) ≡ nothing
 none_left table ss k le = ap (λ xs. block_of table xs) (drop_all k ss le)
+
+and_true : (a b : Bool) → (a && b) ≡ ((a && true) && b)
+and_true true b = refl
+and_true false b = refl
+
+step_falls : (table : List Block) (x : Statement-F Before) (rest : Block) → falls_out (statement_step table x rest) ≡ (falls_out (statement_step table x nothing) && falls_out rest)
+step_falls table (Statement-F.Act line act) rest = refl
+step_falls table (Statement-F.End line) rest = refl
+step_falls table (Statement-F.If line contact first) rest = refl
+step_falls table (Statement-F.IfElse line contact first second) rest = and_true (falls_out (whole first.items) || falls_out (whole second.items)) (falls_out rest)
+step_falls table (Statement-F.Repeat line times body) rest = and_true (falls_out (whole body.items)) (falls_out rest)
+step_falls table (Statement-F.Forever line body) rest = refl
+step_falls table (Statement-F.Apply line block) rest = and_true (falls_out (named_at table block)) (falls_out rest)
+
+falls_before : (table : List Block) (s : Statement) (rest : Block) → falls_out (before table s rest) ≡ (falls_out (before table s nothing) && falls_out rest)
+falls_before table s rest = by_step table (λ f. falls_out (f rest) ≡ (falls_out (f nothing) && falls_out rest)) (λ x. step_falls table x rest) s
+
+pub falls_cut : (table : List Block) (ss : List Statement) (k : ℕ) (s : Statement) → s ≡ get_or ss k s → k < length ss → falls_out (block_of table (drop k ss)) ≡ (falls_out (before table s nothing) && falls_out (block_of table (drop (k + 1) ss)))
+falls_cut table ss k s is lt =
+    let here : get_or ss k s ≡ s = sym is in
+    ap falls_out (statements_cut table ss k s lt) ∙ ap (λ x. falls_out (before table x (block_of table (drop (k + 1) ss)))) here ∙ falls_before table s (block_of table (drop (k + 1) ss))
+
+step_silent : (table : List Block) (x : Statement-F Before) (rest : Block) → lays_nothing (statement_step table x rest) ≡ (lays_nothing (statement_step table x nothing) && lays_nothing rest)
+step_silent table (Statement-F.Act line act) rest = refl
+step_silent table (Statement-F.End line) rest = refl
+step_silent table (Statement-F.If line contact first) rest = refl
+step_silent table (Statement-F.IfElse line contact first second) rest = refl
+step_silent table (Statement-F.Repeat line times body) rest = refl
+step_silent table (Statement-F.Forever line body) rest = refl
+step_silent table (Statement-F.Apply line block) rest = and_true (lays_nothing (named_at table block)) (lays_nothing rest)
+
+pub silent_cut : (table : List Block) (ss : List Statement) (k : ℕ) (s : Statement) → s ≡ get_or ss k s → k < length ss → lays_nothing (block_of table (drop k ss)) ≡ (lays_nothing (before table s nothing) && lays_nothing (block_of table (drop (k + 1) ss)))
+silent_cut table ss k s is lt =
+    let here : get_or ss k s ≡ s = sym is in
+    ap lays_nothing (statements_cut table ss k s lt) ∙ ap (λ x. lays_nothing (before table x (block_of table (drop (k + 1) ss)))) here
+    ∙ by_step table (λ f. lays_nothing (f (block_of table (drop (k + 1) ss))) ≡ (lays_nothing (f nothing) && lays_nothing (block_of table (drop (k + 1) ss)))) (λ x. step_silent table x (block_of table (drop (k + 1) ss))) s

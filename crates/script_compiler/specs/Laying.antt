@@ -1,9 +1,109 @@
 -- Code that is laid down, piece by piece. No public contract needs this to be believed.
-use Rattle.std.specs.Prelude.{List, [], map, Vec}
+use Rattle.std.specs.Prelude.{◌≡◌, ℕ, Bool, Vec, if◌then◌else◌, true, false, ◌&&◌, List, [], ◌∷◌, ◌++◌, slice_set, slice_get, length, map, Option, Some, None}
 use Rattle.std.specs.Global.{Global}
+use Rattle.mux_config.specs.Configuration.{Configuration}
+use Rattle.plan_code.specs.declared.plan.Plan.{Plan}
+use Rattle.plan_code.specs.declared.instr.Instr.{Instr}
+use Rattle.plan_code.specs.declared.instr.Instr.TheVariants.{Jump, Test}
+use Rattle.plan_code.specs.declared.instr.Line.{Line}
 use Rattle.script_front.specs.declared.tree.Statement.{Statement}
-use Rattle.script_front.specs.Block.{Block, table_of}
+use Rattle.script_front.specs.Block.{Block, nothing, apply, table_of}
+use Rattle.script_scheme.specs.declared.flow.Spot.{Spot}
+use Rattle.script_scheme.specs.Scheme.{Place, onward, after, places, marks_of, alone, past, at_label, meet, join}
+use Rattle.plan_code.specs.declared.label.Label.{Label}
+use Rattle.script_scheme.specs.declared.flow.Mark.{Mark}
+use Rattle.script_scheme.specs.Compiled.{lines_of, Added, IsLabelOf}
+use Rattle.script_compiler.specs.declared.work.Work.{Work}
 
 -- the meanings of defined blocks
 abbrev pub tables : List (Vec Statement Global) → List Block
 tables blocks = table_of [] (map (λ b. b.items) blocks)
+
+-- it has no instruction
+abbrev pub lays_nothing : Block → Bool
+lays_nothing nothing = true
+lays_nothing (apply line number named rest) = lays_nothing named && lays_nothing rest
+lays_nothing _ = false
+
+-- these places have been added, and nothing more is saved
+pub record Lays (old new : Work) (ps : List Place) : Type 0 where
+  pub lines : new.lines.items ≡ old.lines.items ++ lines_of ps
+  pub marks : new.marks.items ≡ old.marks.items ++ marks_of (length old.lines.items) ps
+  pub saved : new.saved.items ≡ old.saved.items
+
+-- where the code has come to, if it goes on
+abbrev pub way : Bool → Work → Option Spot
+way goes_on w = if goes_on then Some w.now else None
+
+-- of a block, some has been laid down, and this is left
+pub record Left (plan : Plan) (r : ℕ) (b : Block) (old new : Work) (goes_on : Bool) (rest : Block) : Type 0 where
+  pub laid : List Place
+  pub lays : Lays old new laid
+  pub whole : places plan r (length old.lines.items) b old.now ≡ laid ++ onward (way goes_on new) [] (λ u. places plan r (length new.lines.items) rest u)
+  pub leads : after plan b old.now ≡ onward (way goes_on new) None (λ u. after plan rest u)
+
+abbrev pub line_at : ℕ → Instr → Line
+line_at line instr = record { number = line; instr = instr }
+
+-- an instruction has been added that is to jump forward, and what was known before it is saved
+pub record Forks (line : ℕ) (i : Instr) (r : ℕ) (old new : Work) : Type 0 where
+  pub lines : new.lines.items ≡ old.lines.items ++ line_at line i ∷ []
+  pub marks : new.marks.items ≡ old.marks.items ++ marks_of (length old.lines.items) (alone line i r old.now)
+  pub now : new.now ≡ past old.now.flow
+  pub saved : new.saved.items ≡ old.saved.items ++ old.now ∷ []
+
+-- a loop goes back to its head, if its body falls out; what was kept there is kept no more
+pub record GoesRound (falls : Bool) (line r : ℕ) (back : Instr) (front : List Spot) (old new : Work) : Type 0 where
+  pub lines : new.lines.items ≡ old.lines.items ++ lines_of (onward (way falls old) [] (alone line back r))
+  pub marks : new.marks.items ≡ old.marks.items ++ marks_of (length old.lines.items) (onward (way falls old) [] (alone line back r))
+  pub saved : new.saved.items ≡ front
+  pub now : new.now ≡ (if falls then past old.now.flow else old.now)
+
+-- what is kept of a way
+abbrev pub kept : Option Spot → List Spot
+kept None = []
+kept (Some s) = s ∷ []
+
+-- an `if` without `else` ends: its block's way, if there is one, and the one past it meet
+pub record ClosesIf (falls : Bool) (line contact at : ℕ) (front : List Spot) (entry : Spot) (old new : Work) : Type 0 where
+  pub lines : new.lines.items ≡ slice_set old.lines.items at (line_at line (Test contact (length old.lines.items)))
+  pub marks : new.marks.items ≡ old.marks.items
+  pub saved : new.saved.items ≡ front
+  pub met : meet (way falls old) (Some entry) ≡ Some new.now
+
+-- what a first branch adds at its end, where it falls out
+abbrev pub jumping : Bool → ℕ → ℕ → Work → List Place
+jumping falls line r w = onward (way falls w) [] (alone line (Jump 0) r)
+
+-- a first branch ends, and the second one begins with what was known before both
+pub record Turns (falls : Bool) (line r contact at : ℕ) (front : List Spot) (entry : Spot) (old new : Work) : Type 0 where
+  pub lines :
+      new.lines.items ≡ slice_set (old.lines.items ++ lines_of (jumping falls line r old)) at
+      (line_at line (Test contact (length (old.lines.items ++ lines_of (jumping falls line r old)))))
+  pub marks : new.marks.items ≡ old.marks.items ++ marks_of (length old.lines.items) (jumping falls line r old)
+  pub now : new.now ≡ at_label entry.flow
+  pub saved : new.saved.items ≡ front ++ kept (way falls old)
+
+-- a jump that a branch made is aimed at what follows
+abbrev pub aimed_at : Option Spot → ℕ → ℕ → List Line → List Line
+aimed_at None line jump code = code
+aimed_at (Some s) line jump code = slice_set code jump (line_at line (Jump (length code)))
+
+-- both branches have been laid down, and what follows comes next
+pub record Arrives (a b : Option Spot) (front : List Spot) (line jump : ℕ) (old new : Work) (f : Bool) : Type 0 where
+  pub lines : new.lines.items ≡ aimed_at a line jump old.lines.items
+  pub marks : new.marks.items ≡ old.marks.items
+  pub saved : new.saved.items ≡ front
+  pub leads : way f new ≡ join a b
+
+-- what stands in the one stands there in the other
+abbrev pub Grows : List Configuration → List Configuration → Type 0
+Grows table new = (i : ℕ) (c : Configuration) → slice_get table i ≡ Some c → slice_get new i ≡ Some c
+
+-- a label has been made for a mark, with a table that has its configurations
+pub record Names (table : List Configuration) (m : Mark) (l : Label) (both : List Configuration) : Type 0 where
+  pub one : List Configuration
+  pub current : Added m.flow.current table one
+  pub following : Added m.flow.next one both
+  pub label : IsLabelOf both m l
+  pub grows : Grows table both

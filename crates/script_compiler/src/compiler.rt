@@ -1,13 +1,17 @@
 //! From scripts to codes.
 
-ghost use Rattle.std.specs.Prelude.{◌≡◌, ◌≤◌, length, IfOk};
+ghost use Rattle.std.specs.Prelude.{◌≡◌, ◌≤◌, length, map, IfOk};
+ghost use Rattle.script_scheme.specs.Scheme.{falls_out, all_places, marks_of};
+ghost use Rattle.script_scheme.specs.Compiled.{plan_of, lines_of, body_of, beginning, IsCodeOf};
+ghost use Rattle.script_compiler.specs.Laying.{tables, lays_nothing};
 ghost use Rattle.plan_verifier.specs.Typing.{IsTyped};
 
 use crate::accepted::test_typed;
 use crate::cost::first_round;
 use crate::falls::{all_fall, all_silent};
 use crate::fault::CompileFault;
-use crate::needs::{first_over, needs, with_needs};
+use crate::labels::labels_of;
+use crate::needs::{first_over, needs};
 use crate::opening::{built, test};
 use crate::work::{Work, refused};
 use mux_config::Config;
@@ -19,7 +23,7 @@ use std::alloc::{AllocError, Global};
 
 /// Whether what follows each of these blocks can be reached.
 fn known_of(alloc: Global, blocks: &[Vec<Statement>]) -> Result<Vec<bool>, AllocError>
-    ensures { IfOk result (λ v. length v.items ≡ length blocks.now) }
+    ensures { IfOk result (λ v. v.items ≡ map falls_out (tables blocks.now)) }
 {
     let mut known = Vec::new(alloc);
     for block in blocks {
@@ -31,7 +35,7 @@ fn known_of(alloc: Global, blocks: &[Vec<Statement>]) -> Result<Vec<bool>, Alloc
 
 /// Whether each of these blocks has no instruction.
 fn silent_of(alloc: Global, blocks: &[Vec<Statement>]) -> Result<Vec<bool>, AllocError>
-    ensures { IfOk result (λ v. length v.items ≡ length blocks.now) }
+    ensures { IfOk result (λ v. v.items ≡ map lays_nothing (tables blocks.now)) }
 {
     let mut known = Vec::new(alloc);
     for block in blocks {
@@ -42,7 +46,9 @@ fn silent_of(alloc: Global, blocks: &[Vec<Statement>]) -> Result<Vec<bool>, Allo
 }
 
 /// What a script declares.
-fn plan_of(script: &Script) -> Plan {
+fn plan_of(script: &Script) -> Plan
+    ensures { result ≡ plan_of script.now }
+{
     let header = script.header();
     Plan {
         eid: header.eid,
@@ -54,12 +60,17 @@ fn plan_of(script: &Script) -> Plan {
 }
 
 /// All that is laid down of a script that begins with this configuration.
-fn lay(alloc: Global, plan: &Plan, script: &Script, config: &Config) -> Result<Work, CompileFault> {
+fn lay(alloc: Global, plan: &Plan, script: &Script, config: &Config) -> Result<Work, CompileFault>
+    ensures lines { IfOk result (λ w. w.lines.items ≡ lines_of (all_places plan.now
+        script.now.last_line (body_of script.now) (beginning config.now))) }
+    ensures marks { IfOk result (λ w. w.marks.items ≡ marks_of 0 (all_places plan.now
+        script.now.last_line (body_of script.now) (beginning config.now))) }
+{
     let known = known_of(alloc, script.blocks())?;
     let silent = silent_of(alloc, script.blocks())?;
     let mut work = Work {
         lines: Vec::new(alloc),
-        labels: Vec::new(alloc),
+        marks: Vec::new(alloc),
         configs: Vec::new(alloc),
         now: Spot {
             flow: Flow::opening(config),
@@ -110,7 +121,9 @@ fn test_costs(
     Err(refused(line_at(lines, pc), Cause::Cost))
 }
 
-/// The code of a script: what its statements lay down, one after another, after the opening that its items make.
+/// The code of a script: what its statements lay down, one after another, after the opening that its items make. Its
+/// instructions, its lines, its labels and its table of configurations are those of `IsCodeOf`, and it is typed, so that
+/// the verifier accepts it; its labels' costs are at least what a typed code needs.
 ///
 /// # Errors
 ///
@@ -120,6 +133,7 @@ fn test_costs(
 /// that can be gone round without a suspension, or else of the first instruction from which more instructions than the
 /// budget can run in one frame.
 pub fn compile(alloc: Global, script: &Script) -> Result<Code, CompileFault>
+    ensures code { IfOk result (λ c. IsCodeOf script.now c) }
     ensures typed { IfOk result (λ c. IsTyped c) }
 {
     let plan = plan_of(script);
@@ -128,9 +142,9 @@ pub fn compile(alloc: Global, script: &Script) -> Result<Code, CompileFault>
     let work = lay(alloc, &plan, script, &config)?;
     let costs = needs(alloc, &work.lines, plan.budget)?;
     test_costs(alloc, &work.lines, &costs, plan.budget)?;
-    let labels = with_needs(alloc, &work.labels, &costs)?;
-    test_typed(alloc, plan, &work.configs, &labels, &work.lines)?;
-    match Code::new(plan, work.configs, labels, work.lines) {
+    let made = labels_of(alloc, &work.marks, &costs)?;
+    test_typed(alloc, plan, &made.configs, &made.labels, &work.lines)?;
+    match Code::new(plan, made.configs, made.labels, work.lines) {
         Some(code) => Ok(code),
         None => Err(CompileFault::Limit),
     }

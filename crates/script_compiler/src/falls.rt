@@ -1,10 +1,18 @@
 //! Which statements can be followed by others, and which have no instruction.
 
+ghost use Rattle.std.specs.Prelude.{◌≡◌, map, List};
+ghost use Rattle.script_front.specs.Block.{Block, nothing, block_of, before};
+ghost use Rattle.script_scheme.specs.Scheme.{falls_out};
+ghost use Rattle.script_compiler.specs.Laying.{lays_nothing};
+
 use script_front::Statement;
 
 /// Whether what follows these statements can be reached, where it is known of the blocks that they apply.
 #[cycle(falls)]
-pub(crate) fn all_fall(known: &[bool], statements: &[Statement]) -> bool {
+pub(crate) fn all_fall(known: &[bool], statements: &[Statement]) -> bool
+    ensures { (table : List Block) → known.now ≡ map falls_out table → result
+        ≡ falls_out (block_of table statements.now) }
+{
     for statement in statements {
         if !falls(known, statement) {
             return false;
@@ -15,7 +23,10 @@ pub(crate) fn all_fall(known: &[bool], statements: &[Statement]) -> bool {
 
 /// Whether what follows this statement can be reached.
 #[cycle(falls)]
-fn falls(known: &[bool], statement: &Statement) -> bool {
+fn falls(known: &[bool], statement: &Statement) -> bool
+    ensures { (table : List Block) → known.now ≡ map falls_out table → result
+        ≡ falls_out (before table statement.now nothing) }
+{
     match statement {
         Statement::End { .. } => false,
         Statement::Forever { .. } => false,
@@ -31,7 +42,10 @@ fn falls(known: &[bool], statement: &Statement) -> bool {
 }
 
 /// Whether these statements have no instruction, where it is known of the blocks that they apply.
-pub(crate) fn all_silent(known: &[bool], statements: &[Statement]) -> bool {
+pub(crate) fn all_silent(known: &[bool], statements: &[Statement]) -> bool
+    ensures { (table : List Block) → known.now ≡ map lays_nothing table → result
+        ≡ lays_nothing (block_of table statements.now) }
+{
     for statement in statements {
         if !is_silent(known, statement) {
             return false;
@@ -41,7 +55,10 @@ pub(crate) fn all_silent(known: &[bool], statements: &[Statement]) -> bool {
 }
 
 /// Whether this statement has no instruction.
-fn is_silent(known: &[bool], statement: &Statement) -> bool {
+fn is_silent(known: &[bool], statement: &Statement) -> bool
+    ensures { (table : List Block) → known.now ≡ map lays_nothing table → result
+        ≡ lays_nothing (before table statement.now nothing) }
+{
     match statement {
         Statement::Apply { block, .. } => {
             let number = usize::from(block.get());

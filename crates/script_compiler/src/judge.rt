@@ -1,5 +1,11 @@
 //! What is known after a statement that is one instruction, or why it is refused.
 
+ghost use Rattle.std.specs.Prelude.{◌≡◌, OnOk};
+ghost use Rattle.mux_config.specs.Edits.{changed};
+ghost use Rattle.plan_code.specs.declared.instr.Instr.TheVariants.{CommitIn, CommitAt};
+ghost use Rattle.plan_verifier.specs.Typing.{swapped, waited, paused, perhaps_swapped, settled};
+ghost use Rattle.script_scheme.specs.Scheme.{known_at, flow_of, moved, instr_of};
+
 use crate::fault::CompileFault;
 use fib_carousel::pages;
 use mux_config::{Config, Edit, Store, soundness};
@@ -10,7 +16,9 @@ use script_front::Act;
 use script_scheme::Flow;
 
 /// The instruction of a statement that is one.
-pub(crate) fn instr_of(act: Act) -> Instr {
+pub(crate) fn instr_of(act: Act) -> Instr
+    ensures { result ≡ instr_of act }
+{
     match act {
         Act::Edit(edit) => Instr::Edit(edit),
         Act::Wait(frames) => Instr::Wait(frames),
@@ -33,7 +41,9 @@ pub(crate) fn is_idle(pending: Swap) -> bool {
 }
 
 /// Edits the next configuration: refused are `Pending` and `Edit`.
-fn change(edit: Edit, flow: &mut Flow) -> Result<(), Cause> {
+fn change(edit: Edit, flow: &mut Flow) -> Result<(), Cause>
+    ensures { OnOk result (flow.new ≡ record flow.old { next = changed edit flow.old.next }) }
+{
     if !is_idle(flow.pending) {
         return Err(Cause::Pending);
     }
@@ -73,7 +83,9 @@ fn test_change(plan: &Plan, flow: &Flow) -> Result<(), Cause> {
 }
 
 /// Commits the next configuration, for a swap after this delay.
-fn commit_in(plan: &Plan, delay: Delay, flow: &mut Flow) -> Result<(), Cause> {
+fn commit_in(plan: &Plan, delay: Delay, flow: &mut Flow) -> Result<(), Cause>
+    ensures { OnOk result (flow.new ≡ moved plan.now (CommitIn delay) flow.old) }
+{
     let least = delay.get();
     if !is_idle(flow.pending) {
         return Err(Cause::Pending);
@@ -87,7 +99,9 @@ fn commit_in(plan: &Plan, delay: Delay, flow: &mut Flow) -> Result<(), Cause> {
 }
 
 /// Commits the next configuration, for a swap at this CIF count.
-fn commit_at(plan: &Plan, count: u16, flow: &mut Flow) -> Result<(), Cause> {
+fn commit_at(plan: &Plan, count: u16, flow: &mut Flow) -> Result<(), Cause>
+    ensures { OnOk result (flow.new ≡ moved plan.now (CommitAt count) flow.old) }
+{
     let notice = u16::from(plan.notice);
     if !is_idle(flow.pending) {
         return Err(Cause::Pending);
@@ -101,13 +115,18 @@ fn commit_at(plan: &Plan, count: u16, flow: &mut Flow) -> Result<(), Cause> {
 }
 
 /// The swap has been made.
-fn swap(flow: &mut Flow) {
+fn swap(flow: &mut Flow)
+    ensures { flow.new ≡ flow_of (swapped (known_at flow.old)) }
+{
     flow.current.copy_from(&flow.next);
     flow.pending = Swap::Idle;
 }
 
 /// This many frames have passed: refused is `SwapUncertain`, where the wait may end before the swap or after it.
-fn wait(frames: u16, flow: &mut Flow) -> Result<(), Cause> {
+fn wait(frames: u16, flow: &mut Flow) -> Result<(), Cause>
+    ensures { OnOk result (flow.new ≡ flow_of (waited frames flow.old.pending
+        (known_at flow.old))) }
+{
     match flow.pending {
         Swap::Idle => {}
         Swap::Within(low, high) => {
@@ -132,7 +151,9 @@ fn wait(frames: u16, flow: &mut Flow) -> Result<(), Cause> {
 }
 
 /// One frame or more has passed, where the swap comes after this many at most.
-fn perhaps_swap(high: u16, flow: &mut Flow) {
+fn perhaps_swap(high: u16, flow: &mut Flow)
+    ensures { flow.new ≡ flow_of (perhaps_swapped high (known_at flow.old)) }
+{
     if 1 < high {
         flow.pending = Swap::Perhaps(high - 1);
     } else {
@@ -141,7 +162,9 @@ fn perhaps_swap(high: u16, flow: &mut Flow) {
 }
 
 /// One frame or more has passed.
-fn pause(flow: &mut Flow) {
+fn pause(flow: &mut Flow)
+    ensures { flow.new ≡ flow_of (paused flow.old.pending (known_at flow.old)) }
+{
     match flow.pending {
         Swap::Idle => {}
         Swap::Within(_, high) => perhaps_swap(high, flow),
@@ -150,7 +173,9 @@ fn pause(flow: &mut Flow) {
 }
 
 /// Waits for the swap: refused is `JoinIdle`, where it may be that none is pending.
-fn join(flow: &mut Flow) -> Result<(), Cause> {
+fn join(flow: &mut Flow) -> Result<(), Cause>
+    ensures { OnOk result (flow.new ≡ flow_of (swapped (known_at flow.old))) }
+{
     match flow.pending {
         Swap::Idle => return Err(Cause::JoinIdle),
         Swap::Perhaps(_) => return Err(Cause::JoinIdle),
@@ -161,7 +186,9 @@ fn join(flow: &mut Flow) -> Result<(), Cause> {
 }
 
 /// The swap has been made, where one was pending.
-fn settle(flow: &mut Flow) {
+fn settle(flow: &mut Flow)
+    ensures { flow.new ≡ flow_of (settled flow.old.pending (known_at flow.old)) }
+{
     match flow.pending {
         Swap::Idle => {}
         Swap::Within(_, _) => swap(flow),
@@ -170,7 +197,9 @@ fn settle(flow: &mut Flow) {
 }
 
 /// What is known after an instruction that is a statement, or why it is refused.
-fn step(plan: &Plan, instr: Instr, flow: &mut Flow) -> Result<(), Cause> {
+fn step(plan: &Plan, instr: Instr, flow: &mut Flow) -> Result<(), Cause>
+    ensures { OnOk result (flow.new ≡ moved plan.now instr flow.old) }
+{
     match instr {
         Instr::Edit(edit) => return change(edit, flow),
         Instr::CommitIn(delay) => return commit_in(plan, delay, flow),
@@ -191,7 +220,9 @@ pub(crate) fn judge(
     line: u16,
     instr: Instr,
     flow: &mut Flow,
-) -> Result<(), CompileFault> {
+) -> Result<(), CompileFault>
+    ensures left { OnOk result (flow.new ≡ moved plan.now instr flow.old) }
+{
     match step(plan, instr, flow) {
         Ok(()) => Ok(()),
         Err(cause) => Err(CompileFault::Refused { line, cause }),

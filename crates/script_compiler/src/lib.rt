@@ -11,6 +11,7 @@ mod cost;
 mod falls;
 pub mod fault;
 mod judge;
+mod labels;
 mod merge;
 mod needs;
 mod opening;

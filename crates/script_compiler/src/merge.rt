@@ -1,6 +1,8 @@
 //! Where two ways through a script meet.
 
-use crate::judge::is_idle;
+ghost use Rattle.std.specs.Prelude.{◌≡◌, min, max, IfSome};
+ghost use Rattle.script_scheme.specs.Scheme.{latest, widest, telling, merged};
+
 use mux_config::Store;
 use plan_code::Swap;
 use script_scheme::Flow;
@@ -34,7 +36,9 @@ pub(crate) fn fits(flow: &Flow, label: &Flow) -> bool {
 }
 
 /// The most frames until a swap that is pending or may be; 0 where none is.
-fn latest(pending: Swap) -> u16 {
+fn latest(pending: Swap) -> u16
+    ensures { result ≡ latest pending }
+{
     match pending {
         Swap::Idle => 0,
         Swap::Within(_, high) => high,
@@ -43,17 +47,23 @@ fn latest(pending: Swap) -> u16 {
 }
 
 /// The greater of two.
-fn greater(a: u16, b: u16) -> u16 {
+fn greater(a: u16, b: u16) -> u16
+    ensures { result ≡ max a b }
+{
     if a < b { b } else { a }
 }
 
 /// The lesser of two.
-fn lesser(a: u16, b: u16) -> u16 {
+fn lesser(a: u16, b: u16) -> u16
+    ensures { result ≡ min a b }
+{
     if a < b { a } else { b }
 }
 
 /// What a label says of the swap where two ways meet.
-fn widest(first: Swap, second: Swap) -> Swap {
+fn widest(first: Swap, second: Swap) -> Swap
+    ensures { result ≡ widest first second }
+{
     match (first, second) {
         (Swap::Idle, Swap::Idle) => Swap::Idle,
         (Swap::Within(low, high), Swap::Within(least, most)) => {
@@ -63,13 +73,22 @@ fn widest(first: Swap, second: Swap) -> Swap {
     }
 }
 
+/// The way that says which configurations are known where two ways meet.
+fn telling(first: &Flow, second: &Flow) -> Flow
+    ensures { result ≡ telling first.now.pending first.now second.now }
+{
+    match first.pending {
+        Swap::Idle => second.copied(),
+        Swap::Within(_, _) => first.copied(),
+        Swap::Perhaps(_) => first.copied(),
+    }
+}
+
 /// What is known where two ways meet; None where one of them does not fit it.
-pub(crate) fn meeting(first: &Flow, second: &Flow) -> Option<Flow> {
-    let mut met = if is_idle(first.pending) {
-        second.copied()
-    } else {
-        first.copied()
-    };
+pub(crate) fn meeting(first: &Flow, second: &Flow) -> Option<Flow>
+    ensures { IfSome result (λ f. f ≡ merged first.now second.now) }
+{
+    let mut met = telling(first, second);
     met.pending = widest(first.pending, second.pending);
     if !fits(first, &met) {
         return None;

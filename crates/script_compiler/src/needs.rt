@@ -2,7 +2,7 @@
 
 ghost use Rattle.std.specs.Prelude.{◌≡◌, ◌≤◌, ◌<◌, ℕ, length, slice_index, IfOk};
 
-use plan_code::{Instr, Label, Line};
+use plan_code::{Instr, Line};
 use std::alloc::{AllocError, Global};
 
 /// The number at a place; 0 past the end.
@@ -81,20 +81,6 @@ pub(crate) fn first_over(needs: &[u16], budget: u8) -> Option<usize> {
 }
 
 /// A need as a label's cost; one over 255 is over every budget.
-fn cost_of(need: u16) -> u8 {
+pub(crate) fn cost_of(need: u16) -> u8 {
     if need < 255 { need as u8 } else { 255 }
-}
-
-/// The labels with the needs of their places as costs.
-pub(crate) fn with_needs(
-    alloc: Global,
-    labels: &[Label],
-    needs: &[u16],
-) -> Result<Vec<Label>, AllocError> {
-    let mut done = Vec::new(alloc);
-    for label in labels {
-        let cost = cost_of(at(needs, usize::from(label.pc)));
-        done.push(Label { cost, ..*label })?;
-    }
-    Ok(done)
 }

@@ -1,5 +1,10 @@
 //! The configuration that a script begins with.
 
+ghost use Rattle.std.specs.Prelude.{◌≡◌, OnOk, IfOk};
+ghost use Rattle.mux_config.specs.Configuration.{nothing};
+ghost use Rattle.mux_config.specs.Edits.{changed};
+ghost use Rattle.script_scheme.specs.Compiled.{with_items};
+
 use crate::fault::CompileFault;
 use crate::judge::pages_alone;
 use crate::work::refused;
@@ -8,12 +13,24 @@ use plan_code::Plan;
 use plan_verifier::Cause;
 use script_front::Item;
 
+/// One item: refused is `Edit` at its line.
+fn add(item: &Item, config: &mut Config) -> Result<(), CompileFault>
+    ensures { OnOk result (config.new ≡ changed item.now.edit config.old) }
+{
+    if let Err(fault) = item.edit.apply(config) {
+        return Err(refused(item.line, Cause::Edit(fault)));
+    }
+    Ok(())
+}
+
 /// The items, one after another, on the empty configuration: refused is `Edit` at the item's line.
-pub(crate) fn built(items: &[Item]) -> Result<Config, CompileFault> {
+pub(crate) fn built(items: &[Item]) -> Result<Config, CompileFault>
+    ensures { IfOk result (λ c. c ≡ with_items items.now nothing) }
+{
     let mut config = Config::empty();
     for item in items {
-        if let Err(fault) = item.edit.apply(&mut config) {
-            return Err(refused(item.line, Cause::Edit(fault)));
+        if let Err(fault) = add(item, &mut config) {
+            return Err(fault);
         }
     }
     Ok(config)

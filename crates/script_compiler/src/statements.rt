@@ -1,6 +1,9 @@
 //! The statements of a script, laid down one after another.
 
-ghost use Rattle.std.specs.Prelude.{◌≡◌, ◌≤◌, ◌<◌, length, OnOk};
+ghost use Rattle.std.specs.Prelude.{◌≡◌, ◌≤◌, ◌<◌, length, map, OnOk, IfOk};
+ghost use Rattle.script_front.specs.Block.{Block, nothing, when, either, repeat, forever, block_of, before};
+ghost use Rattle.script_scheme.specs.Scheme.{falls_out};
+ghost use Rattle.script_compiler.specs.Laying.{Left, tables, lays_nothing};
 
 use crate::falls::all_fall;
 use crate::fault::CompileFault;
@@ -37,10 +40,11 @@ impl Work {
     ) -> Result<bool, CompileFault>
         requires room { length self.old.lines.items ≤ 4096 }
         requires counters { counters ≤ 8 }
-        requires known { length known.now ≡ length blocks.now }
-        requires silent { length silent.now ≡ length blocks.now }
-        ensures saved { OnOk result (length self.new.saved.items ≡ length self.old.saved.items) }
-        ensures longer { OnOk result (length self.old.lines.items ≤ length self.new.lines.items) }
+        requires known { known.now ≡ map falls_out (tables blocks.now) }
+        requires silent { silent.now ≡ map lays_nothing (tables blocks.now) }
+        ensures left { IfOk result (λ f. Left plan.now counters
+            (block_of (tables blocks.now) statements.now) self.old
+            self.new f nothing) }
         ensures room { OnOk result (length self.new.lines.items ≤ 4096) }
     {
         let mut goes_on = true;
@@ -69,10 +73,11 @@ impl Work {
     ) -> Result<bool, CompileFault>
         requires room { length self.old.lines.items ≤ 4096 }
         requires counters { counters ≤ 8 }
-        requires known { length known.now ≡ length blocks.now }
-        requires silent { length silent.now ≡ length blocks.now }
-        ensures saved { OnOk result (length self.new.saved.items ≡ length self.old.saved.items) }
-        ensures longer { OnOk result (length self.old.lines.items ≤ length self.new.lines.items) }
+        requires known { known.now ≡ map falls_out (tables blocks.now) }
+        requires silent { silent.now ≡ map lays_nothing (tables blocks.now) }
+        ensures left { IfOk result (λ f. (rest : Block) → Left plan.now counters
+            (before (tables blocks.now) statement.now rest) self.old
+            self.new f rest) }
         ensures room { OnOk result (length self.new.lines.items ≤ 4096) }
     {
         match statement {
@@ -139,10 +144,11 @@ impl Work {
     ) -> Result<bool, CompileFault>
         requires room { length self.old.lines.items ≤ 4096 }
         requires counters { counters ≤ 8 }
-        requires known { length known.now ≡ length blocks.now }
-        requires silent { length silent.now ≡ length blocks.now }
-        ensures saved { OnOk result (length self.new.saved.items ≡ length self.old.saved.items) }
-        ensures longer { OnOk result (length self.old.lines.items ≤ length self.new.lines.items) }
+        requires known { known.now ≡ map falls_out (tables blocks.now) }
+        requires silent { silent.now ≡ map lays_nothing (tables blocks.now) }
+        ensures left { IfOk result (λ f. (rest : Block) → Left plan.now counters (when line
+            contact (block_of (tables blocks.now) first.now) rest) self.old
+            self.new f rest) }
         ensures room { OnOk result (length self.new.lines.items ≤ 4096) }
     {
         let at = self.lines.len();
@@ -172,10 +178,12 @@ impl Work {
     ) -> Result<bool, CompileFault>
         requires room { length self.old.lines.items ≤ 4096 }
         requires counters { counters ≤ 8 }
-        requires known { length known.now ≡ length blocks.now }
-        requires silent { length silent.now ≡ length blocks.now }
-        ensures saved { OnOk result (length self.new.saved.items ≡ length self.old.saved.items) }
-        ensures longer { OnOk result (length self.old.lines.items ≤ length self.new.lines.items) }
+        requires known { known.now ≡ map falls_out (tables blocks.now) }
+        requires silent { silent.now ≡ map lays_nothing (tables blocks.now) }
+        ensures left { IfOk result (λ f. (rest : Block) → Left plan.now counters (either line
+            contact (block_of (tables blocks.now) first.now) (block_of (tables blocks.now)
+            second.now) rest) self.old
+            self.new f rest) }
         ensures room { OnOk result (length self.new.lines.items ≤ 4096) }
     {
         let at = self.lines.len();
@@ -212,10 +220,11 @@ impl Work {
     ) -> Result<bool, CompileFault>
         requires room { length self.old.lines.items ≤ 4096 }
         requires counters { counters ≤ 8 }
-        requires known { length known.now ≡ length blocks.now }
-        requires silent { length silent.now ≡ length blocks.now }
-        ensures saved { OnOk result (length self.new.saved.items ≡ length self.old.saved.items) }
-        ensures longer { OnOk result (length self.old.lines.items ≤ length self.new.lines.items) }
+        requires known { known.now ≡ map falls_out (tables blocks.now) }
+        requires silent { silent.now ≡ map lays_nothing (tables blocks.now) }
+        ensures left { IfOk result (λ f. (rest : Block) → Left plan.now counters (repeat line
+            times (block_of (tables blocks.now) body.now) rest) self.old
+            self.new f rest) }
         ensures room { OnOk result (length self.new.lines.items ≤ 4096) }
     {
         let Some(counter) = CounterId::new(counters) else {
@@ -257,10 +266,11 @@ impl Work {
     ) -> Result<bool, CompileFault>
         requires room { length self.old.lines.items ≤ 4096 }
         requires counters { counters ≤ 8 }
-        requires known { length known.now ≡ length blocks.now }
-        requires silent { length silent.now ≡ length blocks.now }
-        ensures saved { OnOk result (length self.new.saved.items ≡ length self.old.saved.items) }
-        ensures longer { OnOk result (length self.old.lines.items ≤ length self.new.lines.items) }
+        requires known { known.now ≡ map falls_out (tables blocks.now) }
+        requires silent { silent.now ≡ map lays_nothing (tables blocks.now) }
+        ensures left { IfOk result (λ f. (rest : Block) → Left plan.now counters (forever line
+            (block_of (tables blocks.now) body.now) rest) self.old
+            self.new f rest) }
         ensures room { OnOk result (length self.new.lines.items ≤ 4096) }
     {
         let target = self.lines.len() as u16;

@@ -1,6 +1,8 @@
 //! The table of configurations that labels name, each content once.
 
-ghost use Rattle.std.specs.Prelude.{◌≤◌, ◌<◌, length, OnOk, IfSome};
+ghost use Rattle.std.specs.Prelude.{◌≡◌, ◌≢◌, ◌≤◌, ◌<◌, ℕ, length, slice_get, Some, None, OnOk, IfOk, IfSome};
+ghost use Rattle.script_scheme.specs.Compiled.{Added};
+ghost use Rattle.script_compiler.specs.Laying.{Grows};
 
 use crate::fault::CompileFault;
 use mux_config::{Config, Store};
@@ -8,7 +10,9 @@ use plan_code::limits::MOST_CONFIGURATIONS;
 
 /// Where a configuration stands in the table; None where it does not.
 fn find(table: &[Config], config: &Config) -> Option<usize>
-    ensures { IfSome result (λ i. i < length table.now) }
+    ensures within { IfSome result (λ i. i < length table.now) }
+    ensures some { IfSome result (λ i. slice_get table.now i ≡ Some config.now) }
+    ensures none { result ≡ None → (i : ℕ) → slice_get table.now i ≢ Some config.now }
 {
     for (index, other) in table.iter().enumerate() {
         if other.same(config) {
@@ -25,7 +29,10 @@ fn find(table: &[Config], config: &Config) -> Option<usize>
 /// `Limit` where the table is full, `Memory`.
 pub(crate) fn index_of(table: &mut Vec<Config>, config: &Config) -> Result<u16, CompileFault>
     requires { length table.old.items ≤ 256 }
-    ensures { OnOk result (length table.new.items ≤ 256) }
+    ensures room { OnOk result (length table.new.items ≤ 256) }
+    ensures added { OnOk result (Added config.now table.old.items table.new.items) }
+    ensures index { IfOk result (λ i. slice_get table.new.items i ≡ Some config.now) }
+    ensures grows { OnOk result (Grows table.old.items table.new.items) }
 {
     if let Some(index) = find(table, config) {
         return Ok(index as u16);

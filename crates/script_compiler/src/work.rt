@@ -1,6 +1,12 @@
 //! Code that is laid down, instruction by instruction, with what is known where it has come to.
 
-ghost use Rattle.std.specs.Prelude.{◌≡◌, ◌≢◌, ◌+◌, ◌<◌, ◌≤◌, true, false, if◌then◌else◌, [], ◌∷◌, ◌++◌, length, OnOk, IfOk, IfErr};
+ghost use Rattle.std.specs.Prelude.{◌≡◌, ℕ, ◌+◌, ◌<◌, ◌≤◌, true, false, if◌then◌else◌, [], ◌∷◌, ◌++◌, length, slice_set, List, Option, Some, is_some, OnOk, IfOk};
+ghost use Rattle.plan_code.specs.declared.instr.Instr.{Instr};
+ghost use Rattle.plan_code.specs.declared.instr.Instr.TheVariants.{End};
+ghost use Rattle.script_scheme.specs.declared.flow.Spot.{Spot};
+ghost use Rattle.script_scheme.specs.Scheme.{past, at_label, moved, alone, onward, meet, marks_of};
+ghost use Rattle.script_scheme.specs.Compiled.{lines_of};
+ghost use Rattle.script_compiler.specs.Laying.{Lays, Forks, ClosesIf, Turns, GoesRound, Arrives, line_at, way, kept};
 
 use crate::fault::CompileFault;
 use crate::judge::judge;
@@ -8,35 +14,21 @@ use crate::merge::{fits, meeting};
 use crate::table::{index_of, size_with};
 use mux_config::Config;
 use plan_code::limits::{MOST_CONFIGURATIONS, MOST_INSTRUCTIONS, MOST_LABELS};
-use plan_code::{ContactId, Counters, Instr, Label, Line, Plan};
+use plan_code::{ContactId, Instr, Line, Plan};
 use plan_verifier::Cause;
-use script_scheme::Spot;
+use script_scheme::{Mark, Spot};
 
 /// What has been laid down, and what is known there.
 #[derive(Drop)]
 pub(crate) struct Work {
     pub(crate) lines: Vec<Line>,
-    pub(crate) labels: Vec<Label>,
+    /// The labels, without what they cost.
+    pub(crate) marks: Vec<Mark>,
     /// The configurations that the labels name.
     pub(crate) configs: Vec<Config>,
     pub(crate) now: Spot,
     /// What is known where branches and loops come back to.
     pub(crate) saved: Vec<Spot>,
-}
-
-/// The first so many counters.
-pub(crate) fn first_counters(count: u8) -> Counters {
-    match count {
-        0 => Counters(0),
-        1 => Counters(1),
-        2 => Counters(3),
-        3 => Counters(7),
-        4 => Counters(15),
-        5 => Counters(31),
-        6 => Counters(63),
-        7 => Counters(127),
-        _ => Counters(255),
-    }
 }
 
 /// A refusal at a line.
@@ -50,27 +42,32 @@ impl Work {
         requires room { length self.old.lines.items ≤ 4096 }
         ensures lines { self.new.lines ≡ self.old.lines }
         ensures saved { self.new.saved ≡ self.old.saved }
+        ensures marks { OnOk result ((line : ℕ) (i : Instr) → self.new.marks.items
+            ≡ self.old.marks.items
+            ++ marks_of (length self.old.lines.items) (alone line i counters self.old.now)) }
+        ensures now { OnOk result (self.new.now ≡ past self.old.now.flow) }
     {
         if !self.now.labelled {
             return Ok(());
         }
-        if self.labels.len() >= usize::from(MOST_LABELS) {
+        if self.marks.len() >= usize::from(MOST_LABELS) {
             return Err(CompileFault::Limit);
         }
         if self.configs.len() > usize::from(MOST_CONFIGURATIONS) {
             return Err(CompileFault::Limit);
         }
-        let cur = index_of(&mut self.configs, &self.now.flow.current)?;
-        let next = index_of(&mut self.configs, &self.now.flow.next)?;
-        let label = Label {
+        if let Err(fault) = index_of(&mut self.configs, &self.now.flow.current) {
+            return Err(fault);
+        }
+        if let Err(fault) = index_of(&mut self.configs, &self.now.flow.next) {
+            return Err(fault);
+        }
+        let mark = Mark {
             pc: self.lines.len() as u16,
-            cur,
-            next,
-            pending: self.now.flow.pending,
-            counters: first_counters(counters),
-            cost: 0,
+            flow: self.now.flow.copied(),
+            repeats: counters,
         };
-        if self.labels.push(label).is_err() {
+        if self.marks.push(mark).is_err() {
             return Err(CompileFault::Memory);
         }
         self.now.labelled = false;
@@ -80,7 +77,10 @@ impl Work {
     /// Lays an instruction down.
     fn put_instr(&mut self, line: u16, instr: Instr) -> Result<(), CompileFault>
         ensures saved { self.new.saved ≡ self.old.saved }
-        ensures longer { OnOk result (length self.new.lines.items ≡ length self.old.lines.items + 1) }
+        ensures marks { self.new.marks ≡ self.old.marks }
+        ensures now { self.new.now ≡ self.old.now }
+        ensures lines { OnOk result (self.new.lines.items ≡ self.old.lines.items
+            ++ line_at line instr ∷ []) }
         ensures room { OnOk result (length self.new.lines.items ≤ 4096) }
     {
         if self.lines.len() >= usize::from(MOST_INSTRUCTIONS) {
@@ -97,8 +97,9 @@ impl Work {
     #[inline(never)]
     pub(crate) fn put(&mut self, line: u16, counters: u8, instr: Instr) -> Result<(), CompileFault>
         requires room { length self.old.lines.items ≤ 4096 }
-        ensures saved { self.new.saved ≡ self.old.saved }
-        ensures longer { OnOk result (length self.new.lines.items ≡ length self.old.lines.items + 1) }
+        ensures lays { OnOk result (Lays self.old self.new
+            (alone line instr counters self.old.now)) }
+        ensures now { OnOk result (self.new.now ≡ past self.old.now.flow) }
         ensures room { OnOk result (length self.new.lines.items ≤ 4096) }
     {
         if let Err(fault) = self.put_label(counters) {
@@ -117,8 +118,11 @@ impl Work {
         instr: &Instr,
     ) -> Result<bool, CompileFault>
         requires room { length self.old.lines.items ≤ 4096 }
-        ensures saved { self.new.saved ≡ self.old.saved }
-        ensures longer { OnOk result (length self.new.lines.items ≡ length self.old.lines.items + 1) }
+        ensures goes_on { IfOk result (λ f. f ≡ true) }
+        ensures lays { OnOk result (Lays self.old self.new
+            (alone line instr.now counters self.old.now)) }
+        ensures now { OnOk result (self.new.now ≡ past
+            (moved plan.now instr.now self.old.now.flow)) }
         ensures room { OnOk result (length self.new.lines.items ≤ 4096) }
     {
         if let Err(fault) = self.put_label(counters) {
@@ -136,9 +140,11 @@ impl Work {
     /// Says that a label stands here, where there is room for it and for what it names.
     fn mark(&mut self) -> Result<(), CompileFault>
         ensures lines { self.new.lines ≡ self.old.lines }
+        ensures marks { self.new.marks ≡ self.old.marks }
         ensures saved { self.new.saved ≡ self.old.saved }
+        ensures now { OnOk result (self.new.now ≡ at_label self.old.now.flow) }
     {
-        if !self.now.labelled && self.labels.len() >= usize::from(MOST_LABELS) {
+        if !self.now.labelled && self.marks.len() >= usize::from(MOST_LABELS) {
             return Err(CompileFault::Limit);
         }
         let size = size_with(&self.configs, &self.now.flow.current, &self.now.flow.next);
@@ -152,7 +158,10 @@ impl Work {
     /// Keeps what is known here.
     fn save(&mut self) -> Result<(), CompileFault>
         ensures lines { self.new.lines ≡ self.old.lines }
-        ensures saved { OnOk result (self.new.saved.items ≡ self.old.saved.items ++ self.old.now ∷ []) }
+        ensures marks { self.new.marks ≡ self.old.marks }
+        ensures now { self.new.now ≡ self.old.now }
+        ensures saved { OnOk result (self.new.saved.items ≡ self.old.saved.items
+            ++ self.old.now ∷ []) }
     {
         let kept = self.now.copied();
         if self.saved.push(kept).is_err() {
@@ -165,6 +174,8 @@ impl Work {
     fn restore(&mut self) -> Spot
         requires { 0 < length self.old.saved.items }
         ensures lines { self.new.lines ≡ self.old.lines }
+        ensures marks { self.new.marks ≡ self.old.marks }
+        ensures now { self.new.now ≡ self.old.now }
         ensures saved { self.new.saved.items ++ result ∷ [] ≡ self.old.saved.items }
     {
         match self.saved.pop() {
@@ -174,20 +185,23 @@ impl Work {
     }
 
     /// Another instruction in the place of one.
-    fn aim(&mut self, at: usize, instr: Instr)
+    fn aim(&mut self, at: usize, line: u16, instr: Instr)
         requires { at < length self.old.lines.items }
-        ensures lines { length self.new.lines.items ≡ length self.old.lines.items }
+        ensures lines { self.new.lines.items ≡ slice_set self.old.lines.items at
+            (line_at line instr) }
+        ensures marks { self.new.marks ≡ self.old.marks }
+        ensures now { self.new.now ≡ self.old.now }
         ensures saved { self.new.saved ≡ self.old.saved }
     {
-        self.lines[at].instr = instr;
+        let number = line;
+        self.lines[at] = Line { number, instr };
     }
 
     /// An instruction that jumps forward, to a place that is not known yet, and what is known before it is kept.
     #[inline(never)]
     pub(crate) fn fork(&mut self, line: u16, counters: u8, instr: Instr) -> Result<(), CompileFault>
         requires room { length self.old.lines.items ≤ 4096 }
-        ensures saved { OnOk result (self.new.saved.items ≡ self.old.saved.items ++ self.old.now ∷ []) }
-        ensures longer { OnOk result (length self.new.lines.items ≡ length self.old.lines.items + 1) }
+        ensures forks { OnOk result (Forks line instr counters self.old self.new) }
         ensures room { OnOk result (length self.new.lines.items ≤ 4096) }
     {
         if let Err(fault) = self.save() {
@@ -200,7 +214,14 @@ impl Work {
     #[inline(never)]
     pub(crate) fn enter(&mut self, falls: bool) -> Result<(), CompileFault>
         ensures lines { self.new.lines ≡ self.old.lines }
-        ensures saved { OnOk result (length self.new.saved.items ≡ length self.old.saved.items + 1) }
+        ensures marks { self.new.marks ≡ self.old.marks }
+        ensures now { OnOk result (self.new.now ≡ record {
+          flow = self.old.now.flow;
+          labelled = if
+              falls then true else self.old.now.labelled;
+        }) }
+        ensures saved { OnOk result (self.new.saved.items ≡ self.old.saved.items
+            ++ self.new.now ∷ []) }
     {
         if falls {
             if let Err(fault) = self.mark() {
@@ -221,8 +242,8 @@ impl Work {
     ) -> Result<(), CompileFault>
         requires saved { 0 < length self.old.saved.items }
         requires few { length self.old.lines.items ≤ 4096 }
-        ensures saved { OnOk result (length self.new.saved.items + 1 ≡ length self.old.saved.items) }
-        ensures longer { OnOk result (length self.old.lines.items ≤ length self.new.lines.items) }
+        ensures round { OnOk result ((front : List Spot) (entry : Spot) → self.old.saved.items
+            ≡ front ++ entry ∷ [] → GoesRound falls line counters back front self.old self.new) }
         ensures room { OnOk result (length self.new.lines.items ≤ 4096) }
     {
         let entry = self.restore();
@@ -238,7 +259,9 @@ impl Work {
     /// This way and another one meet, where this one comes here at all.
     fn join(&mut self, falls: bool, line: u16, other: Spot) -> Result<(), CompileFault>
         ensures lines { self.new.lines ≡ self.old.lines }
+        ensures marks { self.new.marks ≡ self.old.marks }
         ensures saved { self.new.saved ≡ self.old.saved }
+        ensures met { OnOk result (meet (way falls self.old) (Some other) ≡ Some self.new.now) }
     {
         if !falls {
             self.now = other;
@@ -266,12 +289,15 @@ impl Work {
         requires saved { 0 < length self.old.saved.items }
         requires there { at < length self.old.lines.items }
         requires few { length self.old.lines.items ≤ 4096 }
-        ensures saved { OnOk result (length self.new.saved.items + 1 ≡ length self.old.saved.items) }
-        ensures lines { length self.new.lines.items ≡ length self.old.lines.items }
+        ensures goes_on { IfOk result (λ f. f ≡ true) }
+        ensures closes { OnOk result ((front : List Spot) (entry : Spot)
+            → self.old.saved.items ≡ front
+            ++ entry ∷ [] → ClosesIf falls line contact at front entry self.old self.new) }
+        ensures room { OnOk result (length self.new.lines.items ≤ 4096) }
     {
         let entry = self.restore();
         let target = self.lines.len() as u16;
-        self.aim(at, Instr::Test { contact, target });
+        self.aim(at, line, Instr::Test { contact, target });
         if let Err(fault) = self.join(falls, line, entry) {
             return Err(fault);
         }
@@ -292,8 +318,9 @@ impl Work {
         requires saved { 0 < length self.old.saved.items }
         requires there { at < length self.old.lines.items }
         requires few { length self.old.lines.items ≤ 4096 }
-        ensures saved { OnOk result (length self.new.saved.items + 1 ≡ length self.old.saved.items + (if falls then 1 else 0)) }
-        ensures longer { OnOk result (length self.new.lines.items ≡ length self.old.lines.items + (if falls then 1 else 0)) }
+        ensures turns { OnOk result ((front : List Spot) (entry : Spot) → self.old.saved.items
+            ≡ front
+            ++ entry ∷ [] → Turns falls line counters contact at front entry self.old self.new) }
         ensures room { OnOk result (length self.new.lines.items ≤ 4096) }
     {
         let mut entry = self.restore();
@@ -303,7 +330,7 @@ impl Work {
             }
         }
         let target = self.lines.len() as u16;
-        self.aim(at, Instr::Test { contact, target });
+        self.aim(at, line, Instr::Test { contact, target });
         entry.labelled = false;
         self.now = entry;
         self.mark()
@@ -321,15 +348,18 @@ impl Work {
         requires saved { first ≡ true → 0 < length self.old.saved.items }
         requires there { first ≡ true → jump < length self.old.lines.items }
         requires few { length self.old.lines.items ≤ 4096 }
-        ensures saved { OnOk result (length self.new.saved.items + (if first then 1 else 0) ≡ length self.old.saved.items) }
-        ensures lines { length self.new.lines.items ≡ length self.old.lines.items }
+        ensures arrives { IfOk result (λ f. (front : List Spot) (a : Option Spot) → first
+            ≡ is_some a
+            → self.old.saved.items ≡ front ++ kept a → Arrives a (way second self.old) front line
+            jump self.old self.new f) }
+        ensures room { OnOk result (length self.new.lines.items ≤ 4096) }
     {
         if !first {
             return Ok(second);
         }
         let exit = self.restore();
         let end = self.lines.len() as u16;
-        self.aim(jump, Instr::Jump(end));
+        self.aim(jump, line, Instr::Jump(end));
         if let Err(fault) = self.join(second, line, exit) {
             return Err(fault);
         }
@@ -339,6 +369,8 @@ impl Work {
     /// The end of a script: an end follows, where it falls out.
     pub(crate) fn close(&mut self, falls: bool, line: u16) -> Result<(), CompileFault>
         requires { length self.old.lines.items ≤ 4096 }
+        ensures lays { OnOk result (Lays self.old self.new (onward (way falls self.old) []
+            (alone line End 0))) }
     {
         if !falls {
             return Ok(());

@@ -1,0 +1,4 @@
+pub mod Scheme
+pub mod Judged
+pub mod Need
+pub mod Compiled

@@ -60,3 +60,14 @@ impl Spot {
         }
     }
 }
+
+/// Where a label stands, and what is known there.
+#[derive(Drop)]
+pub struct Mark {
+    /// The place of the instruction in the code, from 0.
+    pub pc: u16,
+    /// What is known there.
+    pub flow: Flow,
+    /// How many repeats stand around it: so many counters are set, the first ones.
+    pub repeats: u8,
+}

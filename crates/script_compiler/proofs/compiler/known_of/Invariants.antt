@@ -1,5 +1,7 @@
-use Rattle.std.proofs.Common.{◌≡◌, length}
+use Rattle.std.proofs.Common.{◌≡◌, map, take}
+use Rattle.script_scheme.specs.Scheme.{falls_out}
+use Rattle.script_compiler.specs.Laying.{tables}
 use Rattle.script_compiler.proofs.compiler.known_of.Given as goal
 
 abbrev pub invariant-loop-block : goal.invariant-loop-block
-invariant-loop-block l = length l.known.items ≡ l.block-index
+invariant-loop-block l = l.known.items ≡ map falls_out (tables (take l.block-index l.blocks))

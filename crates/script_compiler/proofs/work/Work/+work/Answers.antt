@@ -1,15 +1,64 @@
 use Rattle.std.proofs.Common.{◌≡◌, ◌+◌, ◌<◌, ap, sym, ◌∙◌, take, length, arith}
 use Rattle.std.proofs.lemmas.List.{length-take}
-use Rattle.script_front.specs.Block.{nothing, apply, named_at, before, block_of}
-use Rattle.script_compiler.specs.Laying.{tables}
+use Rattle.script_front.specs.Block.{nothing, basic, when, either, repeat, forever, apply, named_at, before, block_of}
+use Rattle.script_scheme.specs.Scheme.{falls_out}
+use Rattle.script_compiler.specs.Laying.{tables, lays_nothing}
 use Rattle.script_compiler.proofs.Weight.{weight, weight_each, tables_at}
-use Rattle.script_compiler.proofs.Arms.{is_apply}
+use Rattle.script_compiler.proofs.Arms.{is_act, is_if, is_if_else, is_repeat, is_forever, is_apply}
+use Rattle.script_compiler.proofs.Steps.{ok_map, left_as, act_step, when_step, either_step, repeat_step, forever_step, block_step, told_length, told_take, silent_step, unnamed_step, apply_left}
 use Rattle.script_compiler.proofs.work.Work.+work.Goals as goal
 
 pub block-statement-requires : goal.block-statement-requires
 block-statement-requires t c =
     let w = weight_each (tables c.args.blocks.now) c.args.statements.now c.loop-statement.statement-index c.statement-item.result c.statement-item.is c.loop-statement-test.true in
     (omega (arith, c.decreases, w), (c.loop-statement.invariant.room, (c.requires.counters, (c.requires.known, c.requires.silent))))
+
+pub block-loop-statement-preserved : goal.block-loop-statement-preserved
+block-loop-statement-preserved t c = record {
+  left = block_step c.args.plan.now c.args.counters (tables c.args.blocks.now) c.args.statements.now c.loop-statement.statement-index c.statement-item.result c.args.self.now c.loop-statement.self c.statement.new.self c.loop-statement.goes_on c.in-Ok.falls c.statement-item.is c.loop-statement-test.true c.if-not-goes_on.false c.loop-statement.invariant.left c.in-Ok.ensures.left;
+  room = c.in-Ok.ensures.room;
+}
+
+pub either-returns-clause-left : goal.either-returns-clause-left
+either-returns-clause-left t c =
+    let first = block_of (tables c.args.blocks.now) c.args.first.now in
+    let second = block_of (tables c.args.blocks.now) c.args.second.now in
+    ok_map c.close_else.result (λ f h. either_step c.args.plan.now c.args.counters c.args.line c.args.contact c.len-at.result c.len-jump.result first second c.args.self.now c.fork.new.self c.block.new.self c.turn.new.self c.block-2.new.self c.close_else.new.self c.in-Ok.falls c.in-Ok-block.falls f
+    (c.len-at.ensures ∙ c.args.self.now.lines.ok.0) (c.len-jump.ensures ∙ c.block.new.self.lines.ok.0) c.in_default.ensures.forks c.in-Ok.ensures.left c.in_default-turn.ensures.turns c.in-Ok-block.ensures.left h) c.close_else.ensures.arrives
+
+pub forever-returns-clause-left : goal.forever-returns-clause-left
+forever-returns-clause-left t c =
+    let body = block_of (tables c.args.blocks.now) c.args.body.now in
+    forever_step c.args.plan.now c.args.counters c.args.line body c.args.self.now c.enter.new.self c.block.new.self c.go_round.new.self c.in-Ok.falls c.all_fall.result c.len-target.result
+    (c.len-target.ensures ∙ c.args.self.now.lines.ok.0) (c.all_fall.ensures (tables c.args.blocks.now) c.requires.known) c.in_default.ensures.lines c.in_default.ensures.marks c.in_default.ensures.now c.in_default.ensures.saved c.in-Ok.ensures.left c.in_default-go_round.ensures.round
+
+pub repeat-returns-clause-left : goal.repeat-returns-clause-left
+repeat-returns-clause-left t c =
+    let body = block_of (tables c.args.blocks.now) c.args.body.now in
+    repeat_step c.args.plan.now c.args.counters c.args.line c.args.times body c.args.self.now c.put.new.self c.enter.new.self c.block.new.self c.go_round.new.self c.in-Ok.falls c.all_fall.result c.len-target.result c.in-Some.counter
+    c.in-Some.ensures.value c.in_default-put.ensures.lays c.in_default-put.ensures.now (c.len-target.ensures ∙ c.put.new.self.lines.ok.0) (c.all_fall.ensures (tables c.args.blocks.now) c.requires.known) c.in_default-enter.ensures.lines c.in_default-enter.ensures.marks c.in_default-enter.ensures.now c.in_default-enter.ensures.saved c.in-Ok.ensures.left c.in_default-go_round.ensures.round
+
+pub statement-returns-then-number-blocks-clause-left : goal.statement-returns-then-number-blocks-clause-left
+statement-returns-then-number-blocks-clause-left t c =
+    unnamed_step c.args.plan.now c.args.counters c.in-Apply.line c.args.blocks.now c.args.statement.now c.in-Apply.block c.from-number.result c.args.self.now (λ rest. is_apply (tables c.args.blocks.now) c.args.statement.now c.in-Apply.line c.in-Apply.block c.in-Apply.is rest) (c.from-number.ensures ∙ c.get.ensures.value) c.if-number-blocks.true
+
+pub statement-bounds-silent-number : goal.statement-bounds-silent-number
+statement-bounds-silent-number t c =
+    let n = told_length lays_nothing c.args.silent.now c.args.blocks.now c.requires.silent in omega (arith, n, c.if-number-blocks.false)
+
+pub statement-returns-then-silent-number-clause-left : goal.statement-returns-then-silent-number-clause-left
+statement-returns-then-silent-number-clause-left t c =
+    let n = told_length lays_nothing c.args.silent.now c.args.blocks.now c.requires.silent in
+    let lt : c.from-number.result < length c.args.silent.now = omega (arith, n, c.if-number-blocks.false) in
+    silent_step c.args.plan.now c.args.counters c.in-Apply.line c.args.blocks.now c.args.statement.now c.in-Apply.block c.from-number.result c.args.silent.now c.args.self.now (λ rest. is_apply (tables c.args.blocks.now) c.args.statement.now c.in-Apply.line c.in-Apply.block c.in-Apply.is rest) (c.from-number.ensures ∙ c.get.ensures.value) c.requires.silent lt c.if-silent-number.true
+
+pub statement-slice_bounds-block-end : goal.statement-slice_bounds-block-end
+statement-slice_bounds-block-end t c =
+    let n = told_length falls_out c.args.known.now c.args.blocks.now c.requires.known in let m = length-take c.from-number.result c.args.known.now in omega (arith, n, m, c.if-number-blocks.false)
+
+pub statement-slice_bounds-block-end-in-Apply : goal.statement-slice_bounds-block-end-in-Apply
+statement-slice_bounds-block-end-in-Apply t c =
+    let n = told_length lays_nothing c.args.silent.now c.args.blocks.now c.requires.silent in let m = length-take c.from-number.result c.args.silent.now in omega (arith, n, m, c.if-number-blocks.false)
 
 pub statement-block-requires : goal.statement-block-requires
 statement-block-requires t c =
@@ -22,7 +71,49 @@ statement-block-requires t c =
     let e : before table c.args.statement.now nothing ≡ apply c.in-Apply.line c.in-Apply.block inner nothing =
     is_apply table c.args.statement.now c.in-Apply.line c.in-Apply.block c.in-Apply.is nothing ∙ ap (λ n. apply c.in-Apply.line c.in-Apply.block (named_at table n) nothing) (sym (c.from-number.ensures ∙ c.get.ensures.value)) ∙ ap (λ b. apply c.in-Apply.line c.in-Apply.block b nothing) at ∙ ap (λ x. apply c.in-Apply.line c.in-Apply.block (block_of (tables (take k bs)) x) nothing) (sym c.deref-in-Apply.ensures.value) in
     let w : weight (before table c.args.statement.now nothing) ≡ 1 + weight inner + 0 = ap (λ b. weight b) e in
-    let a = length-take k c.args.known.now in
-    let b = length-take k c.args.silent.now in
-    let d = length-take k bs in
-    (omega (arith, c.decreases, w), (c.requires.room, (c.requires.counters, (omega (arith, a, d, c.requires.known), omega (arith, b, d, c.requires.silent)))))
+    (omega (arith, c.decreases, w), (c.requires.room, (c.requires.counters, (told_take falls_out c.args.known.now bs k c.requires.known, told_take lays_nothing c.args.silent.now bs k c.requires.silent))))
+
+pub statement-returns-in-Act-clause-left : goal.statement-returns-in-Act-clause-left
+statement-returns-in-Act-clause-left t c =
+    let table = tables c.args.blocks.now in
+    left_as c.args.plan.now c.args.counters c.args.self.now c.act.new.self c.act.result (λ rest. before table c.args.statement.now rest) (λ rest. basic c.in-Act.line c.in-Act.act rest) (λ rest. is_act table c.args.statement.now c.in-Act.line c.in-Act.act c.in-Act.is rest)
+    (act_step c.args.plan.now c.args.counters c.in-Act.line c.in-Act.act c.instr_of.result c.args.self.now c.act.new.self c.act.result c.instr_of.ensures c.act.ensures.goes_on c.act.ensures.lays c.act.ensures.now)
+
+pub statement-returns-in-If-clause-left : goal.statement-returns-in-If-clause-left
+statement-returns-in-If-clause-left t c =
+    let table = tables c.args.blocks.now in
+    left_as c.args.plan.now c.args.counters c.args.self.now c.when.new.self c.when.result (λ rest. before table c.args.statement.now rest) (λ rest. when c.in-If.line c.in-If.contact (block_of table c.deref.result.now) rest) (λ rest. is_if table c.args.statement.now c.in-If.line c.in-If.contact c.in-If.first c.in-If.is rest ∙ ap (λ x. when c.in-If.line c.in-If.contact (block_of table x) rest) (sym c.deref.ensures.value)) c.when.ensures.left
+
+pub statement-returns-in-IfElse-clause-left : goal.statement-returns-in-IfElse-clause-left
+statement-returns-in-IfElse-clause-left t c =
+    let table = tables c.args.blocks.now in
+    left_as c.args.plan.now c.args.counters c.args.self.now c.either.new.self c.either.result (λ rest. before table c.args.statement.now rest) (λ rest. either c.in-IfElse.line c.in-IfElse.contact (block_of table c.deref-in-IfElse.result.now) (block_of table c.deref-in-IfElse-2.result.now) rest)
+    (λ rest. is_if_else table c.args.statement.now c.in-IfElse.line c.in-IfElse.contact c.in-IfElse.first c.in-IfElse.second c.in-IfElse.is rest ∙ ap (λ x. either c.in-IfElse.line c.in-IfElse.contact (block_of table x) (block_of table c.in-IfElse.second.items) rest) (sym c.deref-in-IfElse.ensures.value) ∙ ap (λ x. either c.in-IfElse.line c.in-IfElse.contact (block_of table c.deref-in-IfElse.result.now) (block_of table x) rest) (sym c.deref-in-IfElse-2.ensures.value)) c.either.ensures.left
+
+pub statement-returns-in-Repeat-clause-left : goal.statement-returns-in-Repeat-clause-left
+statement-returns-in-Repeat-clause-left t c =
+    let table = tables c.args.blocks.now in
+    left_as c.args.plan.now c.args.counters c.args.self.now c.repeat.new.self c.repeat.result (λ rest. before table c.args.statement.now rest) (λ rest. repeat c.in-Repeat.line c.in-Repeat.times (block_of table c.deref-in-Repeat.result.now) rest) (λ rest. is_repeat table c.args.statement.now c.in-Repeat.line c.in-Repeat.times c.in-Repeat.body c.in-Repeat.is rest ∙ ap (λ x. repeat c.in-Repeat.line c.in-Repeat.times (block_of table x) rest) (sym c.deref-in-Repeat.ensures.value)) c.repeat.ensures.left
+
+pub statement-returns-in-Forever-clause-left : goal.statement-returns-in-Forever-clause-left
+statement-returns-in-Forever-clause-left t c =
+    let table = tables c.args.blocks.now in
+    left_as c.args.plan.now c.args.counters c.args.self.now c.forever.new.self c.forever.result (λ rest. before table c.args.statement.now rest) (λ rest. forever c.in-Forever.line (block_of table c.deref-in-Forever.result.now) rest) (λ rest. is_forever table c.args.statement.now c.in-Forever.line c.in-Forever.body c.in-Forever.is rest ∙ ap (λ x. forever c.in-Forever.line (block_of table x) rest) (sym c.deref-in-Forever.ensures.value)) c.forever.ensures.left
+
+pub statement-returns-else-silent-number-clause-left : goal.statement-returns-else-silent-number-clause-left
+statement-returns-else-silent-number-clause-left t c =
+    let bs = c.args.blocks.now in
+    let table = tables bs in
+    let k = c.from-number.result in
+    let lt : k < length bs = omega (arith, c.if-number-blocks.false) in
+    let at = tables_at bs k c.index-blocks-number.result c.index-blocks-number.is lt in
+    let inner = block_of (tables (take k bs)) c.deref-in-Apply.result.now in
+    apply_left c.args.plan.now c.args.counters c.in-Apply.line c.in-Apply.block inner (λ rest. before table c.args.statement.now rest) c.args.self.now c.block.new.self c.block.result
+    (λ rest. is_apply table c.args.statement.now c.in-Apply.line c.in-Apply.block c.in-Apply.is rest ∙ ap (λ n. apply c.in-Apply.line c.in-Apply.block (named_at table n) rest) (sym (c.from-number.ensures ∙ c.get.ensures.value)) ∙ ap (λ b. apply c.in-Apply.line c.in-Apply.block b rest) at ∙ ap (λ x. apply c.in-Apply.line c.in-Apply.block (block_of (tables (take k bs)) x) rest) (sym c.deref-in-Apply.ensures.value))
+    c.block.ensures.left
+
+pub when-returns-clause-left : goal.when-returns-clause-left
+when-returns-clause-left t c =
+    let first = block_of (tables c.args.blocks.now) c.args.first.now in
+    when_step c.args.plan.now c.args.counters c.args.line c.args.contact c.len-at.result first c.args.self.now c.fork.new.self c.block.new.self c.close_if.new.self c.in-Ok.falls c.close_if.result
+    (c.len-at.ensures ∙ c.args.self.now.lines.ok.0) c.in_default.ensures.forks c.in-Ok.ensures.left c.close_if.ensures.goes_on c.close_if.ensures.closes

@@ -1,6 +1,8 @@
-use Rattle.std.proofs.Common.{◌≡◌, ℕ, ◌+◌, ◌*◌, ◌≤◌, length}
-use Rattle.script_front.specs.Block.{nothing, when, either, repeat, forever, block_of, before}
-use Rattle.script_compiler.specs.Laying.{tables}
+use Rattle.std.proofs.Common.{ℕ, Bool, ◌+◌, ◌*◌, ◌≤◌, length, drop}
+use Rattle.script_front.specs.Block.{Block, nothing, when, either, repeat, forever, block_of, before}
+use Rattle.plan_code.specs.declared.plan.Plan.{Plan}
+use Rattle.script_compiler.specs.declared.work.Work.{Work}
+use Rattle.script_compiler.specs.Laying.{Left, tables}
 use Rattle.script_compiler.proofs.Weight.{weight}
 use Rattle.script_compiler.proofs.work.Work.+work.Given as goal
 
@@ -23,11 +25,10 @@ decreases-repeat l = 4 * weight (repeat l.line l.times (block_of (tables l.block
 abbrev pub decreases-forever : goal.decreases-forever
 decreases-forever l = 4 * weight (forever l.line (block_of (tables l.blocks.now) l.body.now) nothing) + 1
 
-pub record Kept (old_saved new_saved old_lines new_lines : ℕ) : Type 0 where
-  pub saved : new_saved ≡ old_saved
-  pub longer : old_lines ≤ new_lines
-  pub room : new_lines ≤ 4096
+pub record Laid (plan : Plan) (r : ℕ) (b : Block) (old new : Work) (goes_on : Bool) (rest : Block) : Type 0 where
+  pub left : Left plan r b old new goes_on rest
+  pub room : length new.lines.items ≤ 4096
 
 abbrev pub invariant-block-loop-statement : goal.invariant-block-loop-statement
 invariant-block-loop-statement l =
-    Kept (length l.initial.self.saved.items) (length l.self.saved.items) (length l.initial.self.lines.items) (length l.self.lines.items)
+    Laid l.plan l.counters (block_of (tables l.blocks) l.statements) l.initial.self l.self l.goes_on (block_of (tables l.blocks) (drop l.statement-index l.statements))

@@ -1,0 +1,36 @@
+-- One step of what is laid down.
+use Rattle.std.proofs.Common.{◌≡◌, ℕ, List, [], ◌∷◌, ◌++◌, length, Result, Ok, Err, refl, sym, ap, ◌∙◌, arith, length-append}
+use Rattle.std.specs.Prelude.{OnOk}
+use Rattle.std.proofs.lemmas.List.{append_cancel_left}
+use Rattle.plan_code.specs.declared.instr.Instr.{Instr}
+use Rattle.script_scheme.specs.declared.flow.Spot.{Spot}
+use Rattle.script_scheme.specs.Scheme.{alone, marks_of}
+use Rattle.script_compiler.specs.declared.work.Work.{Work}
+use Rattle.script_compiler.specs.Laying.{Lays, line_at}
+
+pub on_ok_map : {A E : Type 0} (x : Result A E) {P Q : Type 0} → (P → Q) → OnOk x P → OnOk x Q
+on_ok_map (Ok a) m h = m h
+on_ok_map (Err e) m h = h
+
+pub put_lays : (line r : ℕ) (i : Instr) (w v u : Work) → v.lines ≡ w.lines → v.saved ≡ w.saved → v.marks.items ≡ w.marks.items ++ marks_of (length w.lines.items) (alone line i r w.now) → u.saved ≡ v.saved → u.marks ≡ v.marks → u.lines.items ≡ v.lines.items ++ line_at line i ∷ [] → Lays w u (alone line i r w.now)
+put_lays line r i w v u lines saved marks saved' marks' lines' = record {
+  lines = lines' ∙ ap (λ x. x.items ++ line_at line i ∷ []) lines;
+  marks = ap (λ x. x.items) marks' ∙ marks;
+  saved = ap (λ x. x.items) (saved' ∙ saved);
+}
+
+-- ---- what is saved last
+
+pub snoc_front : (xs ys : List Spot) (x y : Spot) → xs ++ x ∷ [] ≡ ys ++ y ∷ [] → xs ≡ ys
+snoc_front [] [] x y e = refl
+snoc_front [] (b ∷ ys) x y e = absurd (let n = ap length e in let m = length-append ys (y ∷ []) in omega (arith, n, m))
+snoc_front (a ∷ xs) [] x y e = absurd (let n = ap length e in let m = length-append xs (x ∷ []) in omega (arith, n, m))
+snoc_front (a ∷ xs) (b ∷ ys) x y e =
+    let h : a ≡ b = cc in let t : xs ++ x ∷ [] ≡ ys ++ y ∷ [] = cc in let ih = snoc_front xs ys x y t in
+    ap (λ z. z ∷ xs) h ∙ ap (λ zs. b ∷ zs) ih
+
+pub snoc_last : (xs ys : List Spot) (x y : Spot) → xs ++ x ∷ [] ≡ ys ++ y ∷ [] → x ≡ y
+snoc_last xs ys x y e =
+    let f = snoc_front xs ys x y e in
+    let g : xs ++ x ∷ [] ≡ xs ++ y ∷ [] = e ∙ ap (λ zs. zs ++ y ∷ []) (sym f) in
+    let h : x ∷ [] ≡ y ∷ [] = append_cancel_left xs (x ∷ []) (y ∷ []) g in cc

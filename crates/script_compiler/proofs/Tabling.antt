@@ -1,0 +1,98 @@
+-- The table of configurations grows at its end.
+use Rattle.std.proofs.Common.{◌≡◌, ◌≢◌, ℕ, zero, suc, ◌+◌, ◌<◌, ◌≤◌, ◌⊎◌, List, [], ◌∷◌, ◌++◌, length, Some, refl, sym, ap, ◌∙◌, subst, arith, inl, inr, get_or, drop, drop-cons, add-one, append_assoc, append-nil}
+use Rattle.std.proofs.lemmas.List.{drop_all}
+use Rattle.std.specs.Prelude.{slice_get}
+use Rattle.std.proofs.lemmas.Option.{slice_get_within, slice_get-get_or}
+use Rattle.mux_config.specs.Configuration.{Configuration}
+use Rattle.plan_code.specs.declared.label.Label.{Label}
+use Rattle.script_scheme.specs.declared.flow.Mark.{Mark}
+use Rattle.script_scheme.specs.Compiled.{Added, Tabled, IsLabelOf, AreLabelsOf, first_counters}
+use Rattle.script_compiler.specs.Laying.{Grows, Names}
+
+pub stays : (xs ys : List Configuration) (i : ℕ) (c : Configuration) → slice_get xs i ≡ Some c → slice_get (xs ++ ys) i ≡ Some c
+stays [] ys i c e = cc
+stays (x ∷ xs) ys zero c e = e
+stays (x ∷ xs) ys (suc i) c e = stays xs ys i c e
+
+pub stands_last : (xs : List Configuration) (c : Configuration) → slice_get (xs ++ c ∷ []) (length xs) ≡ Some c
+stands_last [] c = refl
+stands_last (x ∷ xs) c = stands_last xs c
+
+pub added_new : (c : Configuration) (table new : List Configuration) → ((i : ℕ) → slice_get table i ≢ Some c) → new ≡ table ++ c ∷ [] → Added c table new
+added_new c table new none e = inr ((λ h. none h.0 h.1), e)
+
+pub added_old : (c : Configuration) (table : List Configuration) (i : ℕ) → slice_get table i ≡ Some c → Added c table table
+added_old c table i e = inl ((i, e), refl)
+
+pub grows_new : (c : Configuration) (table new : List Configuration) → new ≡ table ++ c ∷ [] → Grows table new
+grows_new c table new e = λ i d h. ap (λ xs. slice_get xs i) e ∙ stays table (c ∷ []) i d h
+
+pub last_new : (c : Configuration) (table new : List Configuration) (i : ℕ) → i ≡ length table → new ≡ table ++ c ∷ [] → slice_get new i ≡ Some c
+last_new c table new i e f = ap (λ xs. slice_get xs i) f ∙ ap (λ n. slice_get (table ++ c ∷ []) n) e ∙ stands_last table c
+
+-- not among so many
+pub none_more : (xs : List Configuration) (k : ℕ) (x c : Configuration) → x ≡ get_or xs k x → k < length xs → (x ≡ c → ⊥) → ((i : ℕ) → i < k → slice_get xs i ≢ Some c) → (i : ℕ) → i < k + 1 → slice_get xs i ≢ Some c
+none_more xs k x c is lt differs before i le e = elim (below i k (omega (arith, le))) [
+  | inl less ↦ before i less e
+  | inr same ↦
+      let here : Some (get_or xs k x) ≡ Some c = sym (slice_get-get_or xs k x lt) ∙ ap (λ n. slice_get xs n) (sym same) ∙ e in
+      let h : get_or xs k x ≡ c = cc in
+      differs (is ∙ h)
+]
+  where
+    below : (i k : ℕ) → i ≤ k → (i < k) ⊎ (i ≡ k)
+    below zero zero le = inr refl
+    below zero (suc k) le = inl (omega arith)
+    below (suc i) zero le = absurd (omega (arith, le))
+    below (suc i) (suc k) le = elim (below i k (omega (arith, le))) [ inl less ↦ inl (omega (arith, less)) | inr same ↦ inr (ap (λ n. suc n) same) ]
+
+pub none_of_all : (xs : List Configuration) (k : ℕ) (c : Configuration) → length xs ≤ k → ((i : ℕ) → i < k → slice_get xs i ≢ Some c) → (i : ℕ) → slice_get xs i ≢ Some c
+none_of_all xs k c le before i e = let lt = slice_get_within xs i c e in before i (omega (arith, le, lt)) e
+
+-- ---- label by label
+
+pub record Told (table : List Configuration) (labels : List Label) (ms : List Mark) (k : ℕ) : Type 0 where
+  pub room : length table ≤ 256
+  pub tabled : (new : List Configuration) → Tabled table (drop k ms) new → Tabled [] ms new
+  pub labelled : (new : List Configuration) (rest : List Label) → Grows table new → AreLabelsOf new (drop k ms) rest → AreLabelsOf new ms (labels ++ rest)
+
+pub names : (table one both : List Configuration) (m : Mark) (l : Label) → Added m.flow.current table one → Added m.flow.next one both → Grows table one → Grows one both
+    → l.pc ≡ m.pc → slice_get one l.cur ≡ Some m.flow.current → slice_get both l.next ≡ Some m.flow.next → l.pending ≡ m.flow.pending → l.counters ≡ first_counters m.repeats → Names table m l both
+names table one both m l a b g1 g2 place cur next pending counters = record {
+  one = one;
+  current = a;
+  following = b;
+  label = record { place = place; current = g2 l.cur m.flow.current cur; following = next; pending = pending; counters = counters };
+  grows = λ i c e. g2 i c (g1 i c e);
+}
+
+pub told_first : (ms : List Mark) → Told [] [] ms 0
+told_first ms = record { room = omega arith; tabled = λ new h. h; labelled = λ new rest g h. h }
+
+pub told_next : (ms : List Mark) (k : ℕ) (m : Mark) (l : Label) (labels : List Label) (table both : List Configuration) → m ≡ get_or ms k m → k < length ms → Names table m l both → length both ≤ 256
+    → Told table labels ms k → Told both (labels ++ l ∷ []) ms (k + 1)
+told_next ms k m l labels table both is lt n room told =
+    let cut : drop k ms ≡ get_or ms k m ∷ drop (k + 1) ms = rw (add-one, drop-cons ms k m lt) refl in
+    let cut' : drop k ms ≡ m ∷ drop (k + 1) ms = cut ∙ ap (λ (x : Mark). x ∷ drop (k + 1) ms) (sym is) in
+    record {
+      room = room;
+      tabled = λ whole rest. told.tabled whole (subst (λ (xs : List Mark). Tabled table xs whole) (sym cut') (n.one, both, n.current, n.following, rest));
+      labelled = λ new rest g more.
+          let there : IsLabelOf new m l = record {
+            place = n.label.place;
+            current = g l.cur m.flow.current n.label.current;
+            following = g l.next m.flow.next n.label.following;
+            pending = n.label.pending;
+            counters = n.label.counters;
+          } in
+          let all : AreLabelsOf new (m ∷ drop (k + 1) ms) (l ∷ rest) = (there, more) in
+          let whole = told.labelled new (l ∷ rest) (λ i c e. g i c (n.grows i c e)) (subst (λ (xs : List Mark). AreLabelsOf new xs (l ∷ rest)) (sym cut') all) in
+          subst (λ (xs : List Label). AreLabelsOf new ms xs) (sym (append_assoc labels (l ∷ []) rest)) whole;
+    }
+
+pub told_all : (ms : List Mark) (k : ℕ) (labels : List Label) (table : List Configuration) → length ms ≤ k → Told table labels ms k → Tabled [] ms table × AreLabelsOf table ms labels
+told_all ms k labels table le told =
+    let none = drop_all k ms le in
+    let first = told.tabled table (subst (λ (xs : List Mark). Tabled table xs table) (sym none) refl) in
+    let second = told.labelled table [] (λ i c e. e) (subst (λ (xs : List Mark). AreLabelsOf table xs []) (sym none) refl) in
+    (first, subst (λ (xs : List Label). AreLabelsOf table ms xs) (append-nil labels) second)

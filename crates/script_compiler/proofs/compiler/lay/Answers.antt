@@ -1,0 +1,28 @@
+use Rattle.std.proofs.Common.{◌≡◌, true, [], ap, ◌∙◌, subst}
+use Rattle.plan_code.specs.declared.instr.Instr.TheVariants.{End}
+use Rattle.script_front.specs.Block.{block_of, table_of}
+use Rattle.script_scheme.specs.declared.flow.Flow.{Flow}
+use Rattle.script_scheme.specs.Scheme.{at_label, onward, alone}
+use Rattle.script_scheme.specs.Compiled.{body_of, beginning}
+use Rattle.script_compiler.specs.declared.work.Work.{Work}
+use Rattle.script_compiler.specs.Laying.{Lays, way, tables}
+use Rattle.script_compiler.proofs.Whole.{laid_whole}
+use Rattle.script_compiler.proofs.compiler.lay.Goals as goal
+
+pub returns-in-Ok-close-clause-lines : goal.returns-in-Ok-close-clause-lines
+returns-in-Ok-close-clause-lines c =
+    let s = c.args.script.now in
+    let w0 : Work = record { lines = c.new.result; marks = c.new-2.result; configs = c.new-3.result; now = record { flow = c.opening.result; labelled = true }; saved = c.new-4.result } in
+    let same : block_of (tables c.blocks-4.result.now) c.statements.result.now ≡ body_of s = ap (λ xs. block_of (table_of [] xs) c.statements.result.now) c.blocks-4.ensures.value ∙ ap (λ xs. block_of (table_of [] s.blocks) xs) c.statements.ensures.value in
+    let lays = subst (λ n. Lays c.block.new.self c.close.new.self (onward (way c.in-Ok.falls c.block.new.self) [] (alone n End 0))) c.last_line.ensures c.in-Ok-close.ensures.lays in
+    let whole = laid_whole c.args.plan.now s.last_line (body_of s) (block_of (tables c.blocks-4.result.now) c.statements.result.now) (beginning c.args.config.now) w0 c.block.new.self c.close.new.self c.in-Ok.falls same c.new.ensures.items c.new-2.ensures.items (ap (λ (t : Flow). at_label t) c.opening.ensures) c.in-Ok.ensures.left lays in
+    whole.lines
+
+pub returns-in-Ok-close-clause-marks : goal.returns-in-Ok-close-clause-marks
+returns-in-Ok-close-clause-marks c =
+    let s = c.args.script.now in
+    let w0 : Work = record { lines = c.new.result; marks = c.new-2.result; configs = c.new-3.result; now = record { flow = c.opening.result; labelled = true }; saved = c.new-4.result } in
+    let same : block_of (tables c.blocks-4.result.now) c.statements.result.now ≡ body_of s = ap (λ xs. block_of (table_of [] xs) c.statements.result.now) c.blocks-4.ensures.value ∙ ap (λ xs. block_of (table_of [] s.blocks) xs) c.statements.ensures.value in
+    let lays = subst (λ n. Lays c.block.new.self c.close.new.self (onward (way c.in-Ok.falls c.block.new.self) [] (alone n End 0))) c.last_line.ensures c.in-Ok-close.ensures.lays in
+    let whole = laid_whole c.args.plan.now s.last_line (body_of s) (block_of (tables c.blocks-4.result.now) c.statements.result.now) (beginning c.args.config.now) w0 c.block.new.self c.close.new.self c.in-Ok.falls same c.new.ensures.items c.new-2.ensures.items (ap (λ (t : Flow). at_label t) c.opening.ensures) c.in-Ok.ensures.left lays in
+    whole.marks

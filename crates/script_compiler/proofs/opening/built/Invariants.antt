@@ -1,0 +1,7 @@
+use Rattle.std.proofs.Common.{◌≡◌, drop}
+use Rattle.mux_config.specs.Configuration.{nothing}
+use Rattle.script_scheme.specs.Compiled.{with_items}
+use Rattle.script_compiler.proofs.opening.built.Given as goal
+
+abbrev pub invariant-loop-item : goal.invariant-loop-item
+invariant-loop-item l = with_items (drop l.item-index l.items) l.config ≡ with_items l.items nothing

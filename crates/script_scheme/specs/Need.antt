@@ -1,0 +1,34 @@
+-- The need of an instruction in a code: the greatest number of instructions that can run from there in one frame.
+use Rattle.std.specs.Prelude.{◌≡◌, ℕ, zero, suc, ◌+◌, ◌≤◌, ◌⊎◌, Bool, true, false, List, slice_get, Some, IsSome}
+use Rattle.plan_code.specs.declared.instr.Instr.{Instr}
+use Rattle.plan_code.specs.declared.instr.Instr.TheVariants.{Wait, Until, WaitContact, Join, End}
+use Rattle.plan_verifier.specs.Typing.{continues, target_of}
+
+-- whatever comes, the next instruction runs in a later frame, if any does
+abbrev pub suspends : Instr → Bool
+suspends (Wait frames) = true
+suspends (Until day) = true
+suspends (WaitContact contact closed) = true
+suspends Join = true
+suspends End = true
+suspends _ = false
+
+-- the machine can go from an instruction to this place in the same frame
+abbrev pub GoesTo : Instr → ℕ → ℕ → Type 0
+GoesTo i pc to = (suspends i ≡ false) × (((continues i ≡ true) × (to ≡ pc + 1)) ⊎ (target_of i ≡ Some to))
+
+-- a path of so many instructions from this pc, of which none but the last suspends
+abbrev pub HasPath : List Instr → ℕ → ℕ → Type 0
+HasPath code pc zero = Unit {0}
+HasPath code pc (suc zero) = IsSome (slice_get code pc)
+HasPath code pc (suc (suc n)) =
+    (i : Instr) × (to : ℕ) × (slice_get code pc ≡ Some i) × GoesTo i pc to × HasPath code to (suc n)
+
+-- no path is longer than the budget: then no round is without a suspension
+abbrev pub IsWithin : ℕ → List Instr → Type 0
+IsWithin budget code = (pc n : ℕ) → HasPath code pc n → n ≤ budget
+
+-- the need of a pc
+pub record IsNeed (code : List Instr) (pc need : ℕ) : Type 0 where
+  pub path : HasPath code pc need
+  pub longest : (n : ℕ) → HasPath code pc n → n ≤ need

@@ -1,0 +1,175 @@
+-- The code of a block of statements: its instructions, with what is known at each and where labels stand.
+use Rattle.std.specs.Prelude.{ℕ, ◌+◌, Bool, true, false, if◌then◌else◌, ◌&&◌, ◌||◌, min, max, List, [], ◌∷◌, ◌++◌, length, Option, Some, None}
+use Rattle.plan_code.specs.declared.plan.Plan.{Plan}
+use Rattle.plan_code.specs.declared.label.Swap.{Swap}
+use Rattle.plan_code.specs.declared.label.Swap.TheVariants.{Idle, Within, Perhaps}
+use Rattle.plan_code.specs.declared.instr.Instr.{Instr}
+use Rattle.plan_code.specs.declared.instr.Instr.TheVariants.{Wait, Until, WaitContact, CommitIn, CommitAt, Join, Settle, End, Edit, Test, Jump, Set, Loop}
+use Rattle.plan_verifier.specs.Typing.{Known, leaves}
+use Rattle.script_front.specs.declared.tree.Act.{Act}
+use Rattle.script_front.specs.declared.tree.Act.TheVariants.{Edit as Edits, Wait as Waits, WaitContact as WaitsContact, Until as WaitsUntil, CommitIn as CommitsIn, CommitAt as CommitsAt, Join as Joins, Settle as Settles}
+use Rattle.script_front.specs.Block.{Block, nothing, basic, stop, when, either, repeat, forever, apply}
+use Rattle.script_front.specs.Times.{frame_at}
+use Rattle.script_scheme.specs.declared.flow.Flow.{Flow}
+use Rattle.script_scheme.specs.declared.flow.Mark.{Mark}
+use Rattle.script_scheme.specs.declared.flow.Spot.{Spot}
+
+-- ---- what is known
+
+-- what a statement needs and leaves depends on the configurations and the swap alone
+abbrev pub known_at : Flow → Known
+known_at t = record { current = t.current; next = t.next; pending = t.pending; counters = record { 0 = 0 }; allowance = 0 }
+
+abbrev pub flow_of : Known → Flow
+flow_of t = record { current = t.current; next = t.next; pending = t.pending }
+
+-- after an instruction
+abbrev pub moved : Plan → Instr → Flow → Flow
+moved plan i t = flow_of (leaves plan i (known_at t))
+
+abbrev pub at_label : Flow → Spot
+at_label t = record { flow = t; labelled = true }
+
+-- where no label stands
+abbrev pub past : Flow → Spot
+past t = record { flow = t; labelled = false }
+
+-- ---- ways that meet at a label
+
+-- the most frames until a swap that is pending or may be; 0 where none is
+abbrev pub latest : Swap → ℕ
+latest Idle = 0
+latest (Within lo hi) = hi
+latest (Perhaps hi) = hi
+
+-- of two swaps that are pending, the widest bounds; of two of which only one surely is, or none surely, the latest
+abbrev pub widest : Swap → Swap → Swap
+widest Idle Idle = Idle
+widest (Within lo hi) (Within least most) = Within (min lo least) (max hi most)
+widest s t = Perhaps (max (latest s) (latest t))
+
+-- where a swap is pending, or may be, that way says which configurations are known
+abbrev pub telling : Swap → Flow → Flow → Flow
+telling Idle s t = t
+telling _ s t = s
+
+abbrev pub merged : Flow → Flow → Flow
+merged s t = record (telling s.pending s t) { pending = widest s.pending t.pending }
+
+-- a way that doesn't come there is None
+abbrev pub meet : Option Spot → Option Spot → Option Spot
+meet None None = None
+meet None (Some t) = Some (at_label t.flow)
+meet (Some s) None = Some (at_label s.flow)
+meet (Some s) (Some t) = Some (at_label (merged s.flow t.flow))
+
+-- after two branches: where the first doesn't fall out, the second goes on and no label stands there
+abbrev pub join : Option Spot → Option Spot → Option Spot
+join None second = second
+join (Some s) second = meet second (Some s)
+
+abbrev pub onward : {A : Type 0} → Option Spot → A → (Spot → A) → A
+onward None none some = none
+onward (Some s) none some = some s
+
+-- ---- instructions
+
+abbrev pub instr_of : Act → Instr
+instr_of (Edits edit) = Edit edit
+instr_of (Waits frames) = Wait frames
+instr_of (WaitsContact contact closed) = WaitContact contact closed
+instr_of (WaitsUntil second) = Until (frame_at second)
+instr_of (CommitsIn delay) = CommitIn delay
+instr_of (CommitsAt count) = CommitAt count
+instr_of Joins = Join
+instr_of Settles = Settle
+
+-- what follows can be reached
+abbrev pub falls_out : Block → Bool
+falls_out nothing = true
+falls_out (basic line act rest) = falls_out rest
+falls_out (stop line rest) = false
+falls_out (when line contact first rest) = falls_out rest
+falls_out (either line contact first second rest) = (falls_out first || falls_out second) && falls_out rest
+falls_out (repeat line times body rest) = falls_out body && falls_out rest
+falls_out (forever line body rest) = false
+falls_out (apply line number named rest) = falls_out named && falls_out rest
+
+-- the head of a loop: a label, where it can be gone round
+abbrev pub head : Block → Spot → Spot
+head body s = record { flow = s.flow; labelled = if falls_out body then true else s.labelled }
+
+-- where a block leads: nowhere, if it doesn't fall out
+abbrev pub after : Plan → Block → Spot → Option Spot
+after plan nothing s = Some s
+after plan (basic line act rest) s = after plan rest (past (moved plan (instr_of act) s.flow))
+after plan (stop line rest) s = None
+after plan (when line contact first rest) s =
+    onward (meet (after plan first (past s.flow)) (Some s)) None (λ u. after plan rest u)
+after plan (either line contact first second rest) s =
+    onward (join (after plan first (past s.flow)) (after plan second (at_label s.flow))) None (λ u. after plan rest u)
+after plan (repeat line times body rest) s =
+    onward (after plan body (head body (past s.flow))) None (λ u. after plan rest (past u.flow))
+after plan (forever line body rest) s = None
+after plan (apply line number named rest) s = onward (after plan named s) None (λ u. after plan rest u)
+
+-- an instruction, with what is known before it and the number of repeats around it
+pub record Place : Type 0 where
+  pub line : ℕ
+  pub instr : Instr
+  pub spot : Spot
+  pub repeats : ℕ
+
+abbrev pub placed : ℕ → Instr → ℕ → Spot → Place
+placed line i r s = record { line = line; instr = i; spot = s; repeats = r }
+
+abbrev pub alone : ℕ → Instr → ℕ → Spot → List Place
+alone line i r s = placed line i r s ∷ []
+
+-- the code of a block inside so many repeats, from this pc on
+abbrev pub places : Plan → ℕ → ℕ → Block → Spot → List Place
+places plan r pc nothing s = []
+places plan r pc (basic line act rest) s =
+    placed line (instr_of act) r s ∷ places plan r (pc + 1) rest (past (moved plan (instr_of act) s.flow))
+places plan r pc (stop line rest) s = placed line End r s ∷ []
+places plan r pc (when line contact first rest) s =
+    let firsts = places plan r (pc + 1) first (past s.flow) in
+    let end = pc + 1 + length firsts in
+    placed line (Test contact end) r s
+    ∷ (firsts ++ onward (meet (after plan first (past s.flow)) (Some s)) [] (λ u. places plan r end rest u))
+places plan r pc (either line contact first second rest) s =
+    let firsts = places plan r (pc + 1) first (past s.flow) in
+    let leaving = after plan first (past s.flow) in
+    let start = pc + 1 + length firsts + (if falls_out first then 1 else 0) in
+    let seconds = places plan r start second (at_label s.flow) in
+    let end = start + length seconds in
+    placed line (Test contact start) r s
+    ∷ (firsts ++ (onward leaving [] (alone line (Jump end) r) ++ (seconds
+    ++ onward (join leaving (after plan second (at_label s.flow))) [] (λ u. places plan r end rest u))))
+places plan r pc (repeat line times body rest) s =
+    let start = head body (past s.flow) in
+    let bodies = places plan (r + 1) (pc + 1) body start in
+    let end = pc + 1 + length bodies in
+    placed line (Set r times) r s
+    ∷ (bodies ++ onward (after plan body start) [] (λ u.
+    placed line (Loop r (pc + 1)) (r + 1) u ∷ places plan r (end + 1) rest (past u.flow)))
+places plan r pc (forever line body rest) s =
+    let start = head body s in
+    places plan r pc body start ++ onward (after plan body start) [] (alone line (Jump pc) r)
+places plan r pc (apply line number named rest) s =
+    let names = places plan r pc named s in
+    names ++ onward (after plan named s) [] (λ u. places plan r (pc + length names) rest u)
+
+-- all of a script: an End follows, in this line, where it falls out
+abbrev pub all_places : Plan → ℕ → Block → Spot → List Place
+all_places plan last b s = places plan 0 0 b s ++ onward (after plan b s) [] (alone last End 0)
+
+-- ---- labels
+
+abbrev pub mark_of : ℕ → Place → Mark
+mark_of pc p = record { pc = pc; flow = p.spot.flow; repeats = p.repeats }
+
+-- of places from this pc on
+abbrev pub marks_of : ℕ → List Place → List Mark
+marks_of pc [] = []
+marks_of pc (p ∷ ps) = if p.spot.labelled then mark_of pc p ∷ marks_of (pc + 1) ps else marks_of (pc + 1) ps
