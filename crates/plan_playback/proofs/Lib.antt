@@ -1,3 +1,4 @@
+mod Cutting
 mod Joining
 pub mod Requests
 mod Steps

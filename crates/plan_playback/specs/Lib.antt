@@ -1,2 +1,3 @@
-pub mod Playback
+pub mod Buffering
 pub mod Parts
+pub mod Playback

@@ -3,4 +3,5 @@
 mod codes;
 mod faults;
 mod frames;
+mod into_writer;
 mod sinks;
