@@ -8,3 +8,5 @@ pub mod Finished
 pub mod Told
 pub mod Sent
 pub mod Frames
+pub mod Spelled
+pub mod Vectors

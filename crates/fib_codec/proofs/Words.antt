@@ -1,5 +1,5 @@
 -- Words of sixteen bits as two bytes, and as bits.
-use Rattle.std.proofs.Common.{◌≡◌, ℕ, zero, suc, ◌+◌, ◌-◌, ◌*◌, ◌/◌, ◌%◌, ◌^◌, ◌<◌, map, refl, replicate, List, [], ◌∷◌, ◌++◌, length, get_or, drop, take, sym, ◌∙◌, ap, ap₂, arith, subst, take_at, drop_at, length-append, pow-suc, length-take, append-nil, drop-cons, ◌↔◌}
+use Rattle.std.proofs.Common.{◌≡◌, ℕ, zero, suc, ◌+◌, ◌-◌, ◌*◌, ◌/◌, ◌%◌, ◌^◌, ◌<◌, map, refl, replicate, List, [], ◌∷◌, ◌++◌, length, get_or, drop, take, sym, ◌∙◌, ap, ap₂, arith, subst, take_at, drop_at, length-append, pow-suc, length-take, append-nil, drop-cons, ◌↔◌, length-drop}
 use Rattle.std.proofs.lemmas.List.{drop_all, length-map}
 use Rattle.std.proofs.lemmas.Nat.Bits.{bit_at_cat_high, bit_at_lowest}
 use Rattle.std.specs.Int.{bit_at}
@@ -100,6 +100,14 @@ check_len bytes =
     let left : 8 * length bytes + 16 - 8 * length bytes ≡ 16 = omega arith in
     length-map (divided (8 * length bytes) (dividend bytes)) (λ (b : ℕ). 1 - b)
     ∙ length-divided (8 * length bytes) (dividend bytes) ∙ ap (λ n. n - 8 * length bytes) whole ∙ left
+
+-- so bytes with a check word at their end are 32
+pub fib_len : (bytes : List ℕ) → IsChecked bytes → length bytes ≡ 32
+fib_len bytes checked =
+    let sixteen : 8 * length (drop 30 bytes) ≡ 16 =
+    sym (length-bits_of_bytes (drop 30 bytes)) ∙ ap length checked ∙ check_len (take 30 bytes) in
+    let rest : length (drop 30 bytes) ≡ length bytes - 30 = length-drop 30 bytes in
+    omega (arith, sixteen, rest)
 
 -- bits spell a number that has these bits
 number_below : (bits : List ℕ) → AreBits bits → number_of_bits bits < 2 ^ length bits

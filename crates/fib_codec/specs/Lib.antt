@@ -4,6 +4,7 @@ pub mod Register
 pub mod Spelling
 pub mod Grammar
 pub mod Heard
+pub mod Laws
 pub mod Modes
 pub use Rattle.mux_config.specs.Configuration
 pub use Rattle.mux_config.specs.Entries

@@ -4,17 +4,21 @@
 ghost use Rattle.fib_codec.specs.Spelling.{SpellingTells};
 ghost use Rattle.fib_codec.specs.Grammar.{OneList, SpellingIsEntry, WrittenIsFib, WrittenIsValid};
 ghost use Rattle.fib_codec.specs.Heard.{HeardIsWritten};
+ghost use Rattle.fib_codec.specs.Laws.{EntryIsSpelled, FibHas32Bytes};
 ghost use Rattle.fib_codec.specs.Modes.{StepsDivide};
 
-/// The law of the grammar: 32 bytes hold at most one list of FIGs.
+/// The law of the grammar: bytes hold at most one list of FIGs, and where they hold one they are 32.
 pub fn one_list()
-    ensures { OneList }
+    ensures one { OneList }
+    ensures length { FibHas32Bytes }
 {}
 
-/// The law of spellings: an entry that is written is an entry in the grammar, and entries of one extension
-/// and one P/D flag are told apart by their bytes.
+/// The law of spellings: an entry that is written is an entry in the grammar, bytes that are an entry in the
+/// grammar are those of an entry that can be written, and entries of one extension and one P/D flag are told
+/// apart by their bytes.
 pub fn spelling()
     ensures is_entry { SpellingIsEntry }
+    ensures is_spelled { EntryIsSpelled }
     ensures tells { SpellingTells }
 {}
 

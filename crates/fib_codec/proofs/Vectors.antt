@@ -1,0 +1,82 @@
+-- Bytes that are in the grammar, and bytes that are not.
+use Rattle.std.proofs.Common.{◌≡◌, ℕ, ◌<◌, Bool, true, false, List, [], ◌∷◌, inl, inr, refl, arith}
+use Rattle.fib_codec.specs.Grammar.{Open, Other, IsEntry, AreEntries, IsCounted, IsBody, IsOther, IsFig, AreFigs, IsFib, is_open, is_next, is_long}
+
+-- ensemble information without flags is 4 bytes, with a flag 5; the short form of a sub-channel 3, the long form 4;
+-- a service of one component 5 bytes, 7 with a 32-bit SId; a packet component 5, 7 with CAOrg
+plain_ensemble : IsEntry 0 false (225 ∷ 197 ∷ 0 ∷ 4 ∷ [])
+plain_ensemble = refl
+
+flagged_ensemble : IsEntry 0 false (225 ∷ 197 ∷ 64 ∷ 4 ∷ 28 ∷ [])
+flagged_ensemble = refl
+
+flag_without_occurrence : IsEntry 0 false (225 ∷ 197 ∷ 64 ∷ 4 ∷ []) → ⊥
+flag_without_occurrence is = absurd (omega (arith, is))
+
+occurrence_without_flag : IsEntry 0 false (225 ∷ 197 ∷ 0 ∷ 4 ∷ 28 ∷ []) → ⊥
+occurrence_without_flag is = absurd (omega (arith, is))
+
+short_sub : IsEntry 1 false (4 ∷ 0 ∷ 5 ∷ [])
+short_sub = refl
+
+long_sub : IsEntry 1 false (4 ∷ 0 ∷ 136 ∷ 96 ∷ [])
+long_sub = refl
+
+cut_sub : IsEntry 1 false (4 ∷ 0 ∷ 136 ∷ []) → ⊥
+cut_sub is = absurd (omega (arith, is))
+
+short_service : IsEntry 2 false (194 ∷ 33 ∷ 1 ∷ 63 ∷ 6 ∷ [])
+short_service = refl
+
+long_service : IsEntry 2 true (0 ∷ 0 ∷ 194 ∷ 33 ∷ 1 ∷ 63 ∷ 6 ∷ [])
+long_service = refl
+
+short_service_of_long_form : IsEntry 2 true (194 ∷ 33 ∷ 1 ∷ 63 ∷ 6 ∷ []) → ⊥
+short_service_of_long_form is = absurd (omega (arith, is))
+
+packet_component : IsEntry 3 false (0 ∷ 16 ∷ 60 ∷ 4 ∷ 9 ∷ [])
+packet_component = refl
+
+packet_with_access_control : IsEntry 3 false (0 ∷ 17 ∷ 60 ∷ 4 ∷ 9 ∷ 1 ∷ 2 ∷ [])
+packet_with_access_control = refl
+
+cut_packet : IsEntry 3 false (0 ∷ 17 ∷ 60 ∷ 4 ∷ 9 ∷ []) → ⊥
+cut_packet is = absurd (omega (arith, is))
+
+-- the CIF count's high part goes up to 19, its low part up to 249
+last_count : IsCounted (225 ∷ 197 ∷ 19 ∷ 249 ∷ [])
+last_count = (omega arith, omega arith)
+
+high_part_of_20 : IsCounted (225 ∷ 197 ∷ 20 ∷ 0 ∷ []) → ⊥
+high_part_of_20 is = absurd (omega (arith, is.0))
+
+low_part_of_250 : IsCounted (225 ∷ 197 ∷ 0 ∷ 250 ∷ []) → ⊥
+low_part_of_250 is = absurd (omega (arith, is.1))
+
+-- two sub-channels in one FIG
+two_subs : AreEntries 1 false (4 ∷ 0 ∷ 5 ∷ 8 ∷ 96 ∷ 136 ∷ 48 ∷ []) ((4 ∷ 0 ∷ 5 ∷ []) ∷ (8 ∷ 96 ∷ 136 ∷ 48 ∷ []) ∷ [])
+two_subs = (8 ∷ 96 ∷ 136 ∷ 48 ∷ [], refl, refl, ([], refl, refl, refl))
+
+-- a FIG of type 0 and extension 1 is looked into; of another ensemble it is not, nor is a FIG of type 1
+second_byte_of_ours : is_open 1 ≡ true
+second_byte_of_ours = refl
+
+second_byte_of_another : is_open 65 ≡ false
+second_byte_of_another = refl
+
+labels_are_not_looked_into : IsFig (32 ∷ []) (Other (32 ∷ []))
+labels_are_not_looked_into = (refl, (λ e. absurd (omega (arith, e)), omega arith, refl))
+
+end_marker_is_no_fig : IsFig (255 ∷ []) (Other (255 ∷ [])) → ⊥
+end_marker_is_no_fig is = is.1.0 refl
+
+-- after the end marker anything may stand; without it nothing may
+marked_end : AreFigs (255 ∷ 85 ∷ []) []
+marked_end = inr (85 ∷ [], refl)
+
+first : {x y : ℕ} {xs ys : List ℕ} → x ∷ xs ≡ y ∷ ys → x ≡ y
+first same = cc
+
+unmarked_end : AreFigs (85 ∷ []) [] → ⊥
+unmarked_end (inl none) = absurd cc
+unmarked_end (inr marked) = absurd (omega (arith, first marked.1))
