@@ -36,7 +36,8 @@ pub(crate) trait EntryList {
         requires room { (m : Marked) → slice_get (entries self.now) index ≡ Some m
             → length fib.old + size_of m ≤ 30 }
         ensures { (m : Marked)
-            × (slice_get (entries self.now) index ≡ Some m) × (fib.new ≡ fib.old ++ entry_bytes m.entry) };
+            × (slice_get (entries self.now) index ≡ Some m)
+            × (fib.new ≡ fib.old ++ entry_bytes m.entry) };
 }
 
 /// How many pages the entries of a list take, at least 1.

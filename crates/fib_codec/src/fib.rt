@@ -151,7 +151,8 @@ impl Fib {
     pub fn try_fig(&mut self, head: Head, entries: &[Entry]) -> bool
         ensures answer { IsTrue result ↔ FitsFig self.old head entries.now }
         ensures added { IsTrue result → self.new ≡ self.old ++ fig_bytes head entries.now }
-        ensures written { IsTrue result → IsWritten (record { head = head; entries = entries.now }) }
+        ensures written { IsTrue result
+            → IsWritten (record { head = head; entries = entries.now }) }
         ensures unchanged { IsFalse result → self.new ≡ self.old }
     {
         if !is_formed(head, entries) {
@@ -199,7 +200,8 @@ impl Fib {
     pub fn begin_service(&mut self, sid: Sid, rfa: bool, ca_id: Bits<3>, count: usize)
         requires few { count ≤ 15 }
         requires room { length self.old + sid_size sid + 1 ≤ 30 }
-        ensures { self.new ≡ self.old ++ sid_bytes sid ++ (bit_of rfa * 128 + ca_id * 16 + count) ∷ [] }
+        ensures { self.new ≡ self.old ++ sid_bytes sid
+            ++ (bit_of rfa * 128 + ca_id * 16 + count) ∷ [] }
     {
         put_service_head(&mut self.bytes, sid, rfa, ca_id, count);
     }

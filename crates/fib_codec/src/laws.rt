@@ -7,10 +7,14 @@ ghost use Rattle.fib_codec.specs.Heard.{HeardIsWritten};
 ghost use Rattle.fib_codec.specs.Laws.{EntryIsSpelled, FibHas32Bytes};
 ghost use Rattle.fib_codec.specs.Modes.{StepsDivide};
 
-/// The law of the grammar: bytes hold at most one list of FIGs, and where they hold one they are 32.
+/// The law of the grammar: 32 bytes hold at most one list of FIGs.
 pub fn one_list()
-    ensures one { OneList }
-    ensures length { FibHas32Bytes }
+    ensures { OneList }
+{}
+
+/// The law of lengths: bytes that hold a list of FIGs, with their check word, are 32.
+pub fn fib_length()
+    ensures { FibHas32Bytes }
 {}
 
 /// The law of spellings: an entry that is written is an entry in the grammar, bytes that are an entry in the

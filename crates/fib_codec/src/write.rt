@@ -180,7 +180,8 @@ pub(crate) fn put_service_head(out: &mut Data, sid: Sid, rfa: bool, ca_id: Bits<
 }
 
 fn put_service(out: &mut Data, service: &ServiceEntry)
-    requires { array_vec_len out.old + sid_size service.now.sid + 1 + 2 * length service.now.components ≤ 30 }
+    requires { let count = length service.now.components in
+        array_vec_len out.old + sid_size service.now.sid + 1 + 2 * count ≤ 30 }
     ensures written { out.new.items ≡ out.old.items ++ service_bytes service.now }
     ensures within { IsServiceEntry service.now }
 {

@@ -70,7 +70,8 @@ impl<'a> Fig<'a> {
 /// The second byte of a FIG that is looked into; None for another one.
 fn second_of(bytes: &[u8]) -> Option<u8>
     ensures looked_into { IfSome result (λ second.
-        fig_of bytes.now ≡ Open second (entries_of (second % 32) (is_long second) (drop 2 bytes.now))) }
+        fig_of bytes.now
+        ≡ Open second (entries_of (second % 32) (is_long second) (drop 2 bytes.now))) }
     ensures long_enough { OnSome result (2 ≤ length bytes.now) }
     ensures other { IfNone result (fig_of bytes.now ≡ Other bytes.now) }
 {

@@ -29,8 +29,10 @@ impl Model for Kept {
 
     ghost view = { λ k. record { ext = k.ext; long = k.long; bytes = take k.len k.bytes } };
 
-    ghost invariant = { λ k. (k.len ≤ 35) × IsRaw (record { ext = k.ext; long = k.long; bytes = take k.len k.bytes })
-        × (k.identifier ≡ identifier_of (record { ext = k.ext; long = k.long; bytes = take k.len k.bytes })) };
+    ghost invariant = { λ k. (k.len ≤ 35)
+        × IsRaw (record { ext = k.ext; long = k.long; bytes = take k.len k.bytes })
+        × (k.identifier
+        ≡ identifier_of (record { ext = k.ext; long = k.long; bytes = take k.len k.bytes })) };
 }
 
 impl Kept {

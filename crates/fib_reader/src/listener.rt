@@ -24,7 +24,8 @@ impl Model for Listener {
 
     ghost Value = { Listening };
 
-    ghost view = { λ l. record { tuned = l.tuned; current = l.current; next = l.next; awaited = l.awaited } };
+    ghost view = { λ l.
+        record { tuned = l.tuned; current = l.current; next = l.next; awaited = l.awaited } };
 }
 
 impl Listener {
@@ -209,7 +210,8 @@ impl Listener {
     /// How many members would be new where this entry is heard after others, of which so many were new; None where
     /// there may be no room for it, and at ensemble information that it does not know.
     fn new_at_entry(&self, next: bool, others: usize, entry: &RawEntry<'_>) -> Option<usize>
-        ensures { IfSome result (λ all. LeavesRoom self.now others all (hear_entry next entry.now)) }
+        ensures { IfSome result (λ all.
+            LeavesRoom self.now others all (hear_entry next entry.now)) }
     {
         if entry.ext() == 0 {
             return if self.knows_ensemble(&entry.ensemble()) {
@@ -230,7 +232,8 @@ impl Listener {
 
     /// The same for the entries of one FIG.
     fn new_at_entries(&self, next: bool, others: usize, mut entries: Entries<'_>) -> Option<usize>
-        ensures { IfSome result (λ all. LeavesRoom self.now others all (hear_entries next entries.entry)) }
+        ensures { IfSome result (λ all.
+            LeavesRoom self.now others all (hear_entries next entries.entry)) }
     {
         let mut new = others;
         while let Some(entry) = entries.next() {
@@ -310,7 +313,8 @@ impl Listener {
     /// - `Full`: a 65th service or packet component would have entered a picture.
     pub fn hear(&mut self, bytes: &[u8; 32]) -> Result<(), ListenFault>
         ensures answer { Hears bytes.now self.old self.new result }
-        ensures every { (figs : List Fig) → IsFib bytes.now figs → Heard (hear_figs figs self.old) self.old self.new result }
+        ensures every { (figs : List Fig) → IsFib bytes.now figs
+            → Heard (hear_figs figs self.old) self.old self.new result }
     {
         let figs = match check(bytes) {
             Ok(figs) => figs,

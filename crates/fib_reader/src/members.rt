@@ -34,7 +34,8 @@ pub(crate) trait Said: Keyed {
     /// identifier. The function does nothing; its contract is the law.
     fn laws()
         ensures within { (x : Self) → is_member x → IsWithin (entry_of x) }
-        ensures identified { (x : Self) → is_member x → identifier_of (raw_entry (entry_of x)) ≡ Self.key x };
+        ensures identified { (x : Self) → is_member x
+            → identifier_of (raw_entry (entry_of x)) ≡ Self.key x };
 }
 
 impl Said for Sub {
@@ -97,7 +98,8 @@ pub(crate) fn members<T: Said>(kept: &[Kept]) -> Option<Table<T, 64>>
     requires few { length kept.now ≤ 64 }
     ensures said { IfSome result (λ xs. map (λ x. raw_entry (T.entry_of x)) xs ≡ kept.now) }
     ensures members { IfSome result (Each T.is_member) }
-    ensures none { IfNone result ((xs : List T) → Each T.is_member xs → map (λ x. raw_entry (T.entry_of x)) xs ≡ kept.now → ⊥) }
+    ensures none { IfNone result ((xs : List T) → Each T.is_member xs
+        → map (λ x. raw_entry (T.entry_of x)) xs ≡ kept.now → ⊥) }
 {
     fib_codec::laws::spelling();
     T::laws();

@@ -28,7 +28,8 @@ impl Model for Picture {
 
     ghost view = { λ p. record { subs = p.subs; services = p.services; packets = p.packets } };
 
-    ghost invariant = { λ p. IsPictured (record { subs = p.subs; services = p.services; packets = p.packets }) };
+    ghost invariant = { λ p.
+        IsPictured (record { subs = p.subs; services = p.services; packets = p.packets }) };
 }
 
 impl Picture {
@@ -94,7 +95,8 @@ impl Picture {
     pub(crate) fn new_members(&self, others: usize, entry: &RawEntry<'_>) -> Option<usize>
         requires { entry.now.ext ≢ 0 }
         ensures { IfSome result (λ all. (p : Pictured) → HasGrownBy others self.now p
-            → (q : Pictured) × (pictured entry.now p ≡ Some q) × HasGrownBy all self.now q × (others ≤ all)) }
+            → (q : Pictured) × (pictured entry.now p ≡ Some q) × HasGrownBy all self.now q
+            × (others ≤ all)) }
     {
         match entry.ext() {
             1 => Some(others),
@@ -109,7 +111,8 @@ impl Picture {
     pub fn config(&self) -> Option<Config>
         ensures configuration { IfSome result IsConfiguration }
         ensures shown { IfSome result (Shows self.now) }
-        ensures every { (c : Configuration) → IsConfiguration c → Shows self.now c → result ≡ Some c }
+        ensures every { (c : Configuration) → IsConfiguration c → Shows self.now c
+            → result ≡ Some c }
     {
         fib_codec::laws::spelling();
         mux_config::laws::facts();

@@ -47,7 +47,8 @@ pub(crate) fn packet_said(entry: &PacketEntry) -> Option<Packet>
     requires { IsPacketEntry entry.now }
     ensures member { IfSome result IsAddressed }
     ensures value { IfSome result (λ p. packet_entry p ≡ PacketOf entry.now) }
-    ensures none { IfNone result ((p : Packet) → IsAddressed p → packet_entry p ≡ PacketOf entry.now → ⊥) }
+    ensures none { IfNone result ((p : Packet) → IsAddressed p
+        → packet_entry p ≡ PacketOf entry.now → ⊥) }
 {
     if entry.rfa.get() > 0 {
         return None;
@@ -111,7 +112,8 @@ fn components_said(entries: &[ComponentEntry]) -> Option<Few<Component, 12>>
     ensures members { IfSome result (Each IsComponent) }
     ensures different { IfSome result AreDifferent }
     ensures value { IfSome result (λ cs. component_entries cs ≡ entries.now) }
-    ensures none { IfNone result ((cs : List Component) → AreDifferent cs → component_entries cs ≡ entries.now → ⊥) }
+    ensures none { IfNone result ((cs : List Component) → AreDifferent cs
+        → component_entries cs ≡ entries.now → ⊥) }
 {
     let mut components = Few::new();
     for place in 0..entries.len() {
@@ -132,7 +134,8 @@ pub(crate) fn service_said(entry: &ServiceEntry) -> Option<Service>
     requires { IsServiceEntry entry.now }
     ensures member { IfSome result IsService }
     ensures value { IfSome result (λ s. service_entry s ≡ ServiceOf entry.now) }
-    ensures none { IfNone result ((s : Service) → IsService s → service_entry s ≡ ServiceOf entry.now → ⊥) }
+    ensures none { IfNone result ((s : Service) → IsService s
+        → service_entry s ≡ ServiceOf entry.now → ⊥) }
 {
     if entry.rfa {
         return None;

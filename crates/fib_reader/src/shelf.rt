@@ -72,7 +72,8 @@ impl Shelf {
     /// The place of the entry of an identifier; None where there is none.
     #[inline(always)]
     fn place(&self, identifier: u64) -> Option<usize>
-        ensures found { IfSome result (λ place. slice_get self.now place ≡ entry_at identifier_of identifier self.now) }
+        ensures found { IfSome result (λ place. slice_get self.now place
+            ≡ entry_at identifier_of identifier self.now) }
         ensures in_bounds { IfSome result (λ place. place < length self.now) }
         ensures absent { IfNone result (entry_at identifier_of identifier self.now ≡ None) }
         ensures ascending { IsAscending identifier_of self.now }
@@ -108,7 +109,8 @@ impl Shelf {
     /// there may be no room for it.
     pub(crate) fn new_members(&self, others: usize, entry: &RawEntry<'_>) -> Option<usize>
         ensures known { IfSome result (λ all. is_known entry.now self.now ≡ true → all ≡ others) }
-        ensures new { IfSome result (λ all. is_known entry.now self.now ≡ false → (all ≡ others + 1) × (length self.now + others < 64)) }
+        ensures new { IfSome result (λ all. is_known entry.now self.now ≡ false
+            → (all ≡ others + 1) × (length self.now + others < 64)) }
     {
         if self.is_known(entry) {
             return Some(others);
@@ -121,7 +123,8 @@ impl Shelf {
 
     /// Puts an entry in place of the one with the same identifier, which stands at this place.
     fn keep_at(&mut self, place: usize, entry: &RawEntry<'_>)
-        requires found { slice_get self.old place ≡ entry_at identifier_of (identifier_of entry.now) self.old }
+        requires found { slice_get self.old place
+            ≡ entry_at identifier_of (identifier_of entry.now) self.old }
         requires in_bounds { place < length self.old }
         requires ascending { IsAscending identifier_of self.old }
         ensures kept { self.new ≡ kept entry.now self.old }
@@ -191,7 +194,8 @@ fn note_places(hints: &mut [u8; 256], entries: &[Kept], first: usize) {
 /// Whether the entry of this identifier stands at this place.
 fn is_at(entries: &[Kept], place: usize, identifier: u64) -> bool
     requires { IsAscending identifier_of entries.now }
-    ensures found { result ≡ true → slice_get entries.now place ≡ entry_at identifier_of identifier entries.now }
+    ensures found { result ≡ true → slice_get entries.now place
+        ≡ entry_at identifier_of identifier entries.now }
     ensures in_bounds { result ≡ true → place < length entries.now }
 {
     if place >= entries.len() {
@@ -204,7 +208,8 @@ fn is_at(entries: &[Kept], place: usize, identifier: u64) -> bool
 fn place_by_halves(entries: &[Kept], identifier: u64) -> Option<usize>
     requires ascending { IsAscending identifier_of entries.now }
     requires few { length entries.now ≤ 64 }
-    ensures found { IfSome result (λ place. slice_get entries.now place ≡ entry_at identifier_of identifier entries.now) }
+    ensures found { IfSome result (λ place. slice_get entries.now place
+        ≡ entry_at identifier_of identifier entries.now) }
     ensures in_bounds { IfSome result (λ place. place < length entries.now) }
     ensures absent { IfNone result (entry_at identifier_of identifier entries.now ≡ None) }
 {
