@@ -1,14 +1,15 @@
 //! What a frame says of its notice, and its FIG 0/0.
 
-ghost use Rattle.std.specs.Prelude.{◌≡◌, ◌≤◌, IfSome};
+ghost use Rattle.std.specs.Prelude.{◌≡◌, ◌≤◌, IfSome, true};
 ghost use Rattle.std.specs.Option.{option_map, option_copied};
+ghost use Rattle.mux_config.specs.Change.{change_of, bits_of};
 ghost use Rattle.fib_codec.specs.Ranges.{IsEnsembleInformation};
 ghost use Rattle.plan_runs.specs.Frames.{is_noticed, is_first_noticed, low_of_swap, announced_next, sent_rounds, ensemble_sent};
 ghost use Rattle.plan_machine.specs.Positions.{state_of, with_notice_begun};
 
 use crate::machine::Machine;
 use fib_carousel::pages;
-use mux_config::{Ensemble, Store, change};
+use mux_config::{Ensemble, Store};
 use plan_code::Plan;
 
 /// Whether a frame is one of the notice: from so many frames before the swap to the last one before it.
@@ -76,20 +77,22 @@ fn low_of_swap(count: u16, left: Option<u16>) -> u8
 }
 
 /// The FIG 0/0 of the frame (EN 300 401 clause 6.4): the change flags and the low part of the count of the swap in a
-/// notice, neither elsewhere. None where the CIF count is no multiple of the mode's step. Its fields must be within
-/// their bits.
-pub fn ensemble<S: Store>(plan: &Plan, machine: &Machine<S>) -> Option<Ensemble>
-    requires { IfSome (ensemble_sent plan.now (state_of S.content machine.now))
+/// notice, neither elsewhere. In a notice `change` has to be the flags of what the swap changes. None where the CIF
+/// count is no multiple of the mode's step. Its fields must be within their bits.
+pub fn ensemble<S: Store>(plan: &Plan, machine: &Machine<S>, change: u8) -> Option<Ensemble>
+    requires within { IfSome (ensemble_sent plan.now (state_of S.content machine.now))
         IsEnsembleInformation }
+    requires change { is_noticed plan.now.notice machine.now.left ≡ true →
+        change ≡ bits_of (change_of (S.content machine.now.current)
+        (S.content machine.now.next)) }
     ensures { result ≡ ensemble_sent plan.now (state_of S.content machine.now) }
 {
     if machine.count % plan.mode.step() != 0 {
         return None;
     }
     if is_noticed(plan.notice, machine.left) {
-        let flags = change(&machine.current, &machine.next).bits();
         let low = low_of_swap(machine.count, machine.left);
-        return Ensemble::new(machine.eid, flags, false, machine.count, Some(low));
+        return Ensemble::new(machine.eid, change, false, machine.count, Some(low));
     }
     Ensemble::new(machine.eid, 0, false, machine.count, None)
 }

@@ -1,26 +1,33 @@
 -- What the player's calls need of a state that a typed code comes to.
 use Rattle.std.specs.Prelude.{◌||◌}
-use Rattle.std.proofs.Common.{◌≡◌, ℕ, ◌<◌, Bool, true, false, cond, List, [], ◌∷◌, Option, None, refl, sym, ap, subst, ◌∙◌, arith}
+use Rattle.std.proofs.Common.{◌≡◌, ℕ, ◌<◌, Bool, true, false, cond, List, [], ◌∷◌, Option, Some, None, refl, sym, ap, subst, ◌∙◌, arith}
+use Rattle.std.proofs.lemmas.Bool.{eqb-false}
+use Rattle.mux_config.specs.Configuration.{Configuration}
+use Rattle.mux_config.specs.Change.{change_of, bits_of}
 use Rattle.mux_config.specs.Facts.{Marked}
 use Rattle.fib_codec.specs.declared.modes.Mode.{Mode}
 use Rattle.fib_carousel.specs.Pages.{page_set}
+use Rattle.plan_code.specs.declared.plan.Plan.{Plan}
 use Rattle.plan_code.specs.Program.{Program, IsProgram}
 use Rattle.plan_code.specs.Machine.{State}
 use Rattle.plan_verifier.specs.Typing.{IsTyped}
 use Rattle.plan_runs.specs.declared.event.Event.TheVariants.{Contact, Frame}
 use Rattle.plan_runs.specs.declared.event.Start.{Start}
-use Rattle.plan_runs.specs.Frames.{is_due, with_swap, is_first_noticed, shown, after_burst, sent_entries, after_frame, frame_steps, begins_phase}
+use Rattle.plan_runs.specs.Frames.{is_due, with_swap, is_noticed, is_first_noticed, left_after_frame, shown, after_burst, sent_entries, after_frame, frame_steps, begins_phase}
 use Rattle.plan_runs.specs.Phases.{SentBy}
 use Rattle.plan_runs.specs.Runs.{IsInRange, IsStart, happens}
 use Rattle.plan_runs.specs.TypedRuns.{IsPlayed}
 use Rattle.plan_runs.proofs.TypedRuns.{typed_code_runs}
 use Rattle.plan_runs.proofs.Reached.{starts_are_reached, reached_is_kept}
 use Rattle.plan_runs.proofs.Facts.{airs, code_of, played_holds}
-use Rattle.plan_runs.proofs.Carries.{frame_carries}
+use Rattle.plan_runs.proofs.Carries.{IsNewly, LeftBy, frame_carries}
+use Rattle.plan_runs.proofs.Knowledge.{IsAhead}
+use Rattle.plan_runs.proofs.Tracked.{noticed, noticed_from}
+use Rattle.plan_runs.proofs.Notice.{Links, links}
 use Rattle.plan_runs.proofs.Periods.{sends, after_goes}
 use Rattle.plan_machine.proofs.GoesOn.{typed_code_goes_on, frame_plays}
 use Rattle.plan_player.specs.declared.phase_pages.PhasePages.{PhasePages}
-use Rattle.plan_player.specs.Phase.{Keeps, IsFrameReady, IsGoing}
+use Rattle.plan_player.specs.Phase.{Keeps, HasChange, KeepsChange, IsFrameReady, IsGoing}
 
 -- ---- the page in turn as a phase begins
 
@@ -53,6 +60,33 @@ first_page p s h begins =
     begun u (is_due s.left) (is_first_noticed p.plan.notice (shown p s).left) (is_first_noticed p.plan.notice u.left) begins
     (λ due. carried.turn ∙ due_turn s (is_due s.left) due) same
 
+-- ---- the change flags of a notice
+
+newly_off : (plan : Plan) (count : ℕ) (left : Option ℕ) → IsNewly plan count left → is_first_noticed plan.notice left ≡ false → is_noticed plan.notice left ≡ true → ⊥
+newly_off plan count None new other on = absurd cc
+newly_off plan count (Some l) new other on =
+    let apart = eqb-false l plan.notice other in
+    let within = noticed_from plan.notice l on in
+    omega (arith, new.0, apart, within.1)
+
+change_on : (plan : Plan) (count : ℕ) (before left : Option ℕ) (c n m : Configuration) (change : ℕ) → LeftBy plan count before n left m → is_first_noticed plan.notice left ≡ false
+    → KeepsChange plan.notice before c n change → HasChange plan.notice left c m change
+change_on plan count None left c n m change g other h on = absurd (newly_off plan count left g other on)
+change_on plan count (Some l) left c n m change g other h on =
+    let apart = eqb-false l plan.notice (subst (λ (o : Option ℕ). is_first_noticed plan.notice o ≡ false) g.0 other) in
+    let within = noticed_from plan.notice l (subst (λ (o : Option ℕ). is_noticed plan.notice o ≡ true) g.0 on) in
+    h (omega (arith, apart, within.1)) ∙ ap (λ (x : Configuration). bits_of (change_of c x)) (sym g.1)
+
+change_known : (plan : Plan) (s u : State) (change : ℕ) → Links plan s u → (b : Bool) → is_due s.left ≡ b → is_first_noticed plan.notice u.left ≡ false → KeepsChange plan.notice s.left s.current s.next change
+    → HasChange plan.notice u.left u.current u.next change
+change_known plan s u change link true due other h on = absurd (newly_off plan s.count u.left (link.due due) other on)
+change_known plan s u change link false due other h on =
+    change_on plan s.count s.left u.left s.current s.next u.next change (link.left due) other h on ∙ ap (λ (x : Configuration). bits_of (change_of x u.next)) (sym (link.current due))
+
+change_later : (notice : ℕ) (left : Option ℕ) (c n : Configuration) (change : ℕ) → IsAhead left → HasChange notice left c n change → KeepsChange notice (left_after_frame left) c n change
+change_later notice None c n change a h = tt
+change_later notice (Some l) c n change a h = λ earlier. h (noticed notice l a (omega (arith, earlier, a)))
+
 -- ---- a frame
 
 same_pages : (mode : Mode) (pages : PhasePages) (ms ns : List Marked) (turn page : ℕ) → ns ≡ ms → page ≡ turn → Keeps mode ms turn pages → Keeps mode ns page pages
@@ -71,17 +105,27 @@ frame_ready p s steps pages h =
       kept = λ no_phase.
           let sent = sends p h.played.typed.0 (code_of p s h.played) s (played_holds p s h.played) no_phase ms s.turn (record { sent = h.phase.sent; turn_is = refl }) in
           same_pages p.plan.mode pages ms (sent_entries p.plan (shown p s)) s.turn (shown p s).turn sent.entries sent.turn_is h.phase.keeps;
+      change = λ other.
+          let link = links p h.played.typed.0 (code_of p s h.played) s (played_holds p s h.played) in
+          change_known p.plan s (shown p s) pages.change link (is_due s.left) refl other h.phase.change;
     }
 
 pub frame_goes : (p : Program) (s : State) (steps : ℕ) (pages after : PhasePages) → IsGoing p s steps pages
-    → Keeps p.plan.mode (sent_entries p.plan (shown p s)) (after_frame p s).turn after → IsGoing p (after_frame p s) (frame_steps p s) after
-frame_goes p s steps pages after h keeps =
+    → Keeps p.plan.mode (sent_entries p.plan (shown p s)) (after_frame p s).turn after → HasChange p.plan.notice (shown p s).left (shown p s).current (shown p s).next after.change
+    → IsGoing p (after_frame p s) (frame_steps p s) after
+frame_goes p s steps pages after h keeps change =
     let u : State = shown p s in
     let frame = (typed_code_runs p s (Frame ∷ []) h.played).allowed.0 in
-    let next = after_goes p.plan u (airs p h.played.typed.0 (code_of p s h.played) s (played_holds p s h.played)) (sent_entries p.plan u) refl in
+    let air = airs p h.played.typed.0 (code_of p s h.played) s (played_holds p s h.played) in
+    let next = after_goes p.plan u air (sent_entries p.plan u) refl in
     record {
       played = frame_plays p s h.played;
-      phase = record { entries = sent_entries p.plan u; sent = next.sent; keeps = keeps };
+      phase = record {
+        entries = sent_entries p.plan u;
+        sent = next.sent;
+        keeps = keeps;
+        change = change_later p.plan.notice u.left u.current u.next after.change air.ahead change;
+      };
       within = omega (arith, frame.counted, frame.within);
     }
 
@@ -90,11 +134,13 @@ pub lent_ready : (p q : Program) (s : State) (steps : ℕ) (pages : PhasePages) 
 lent_ready p q s steps pages e h = subst (λ (x : Program). IsFrameReady x s pages) (sym e) (frame_ready p s steps pages h)
 
 pub lent_goes : (p q : Program) (s t : State) (steps made : ℕ) (pages after : PhasePages) → q ≡ p → IsGoing p s steps pages → t ≡ after_frame q s → made ≡ frame_steps q s
-    → Keeps q.plan.mode (sent_entries q.plan (shown q s)) (after_frame q s).turn after → IsGoing p t made after
-lent_goes p q s t steps made pages after e h state count keeps =
+    → Keeps q.plan.mode (sent_entries q.plan (shown q s)) (after_frame q s).turn after → HasChange q.plan.notice (shown q s).left (shown q s).current (shown q s).next after.change → IsGoing p t made after
+lent_goes p q s t steps made pages after e h state count keeps change =
     let here : Keeps p.plan.mode (sent_entries p.plan (shown p s)) (after_frame p s).turn after =
     subst (λ (x : Program). Keeps x.plan.mode (sent_entries x.plan (shown x s)) (after_frame x s).turn after) e keeps in
-    let on = frame_goes p s steps pages after h here in
+    let flags : HasChange p.plan.notice (shown p s).left (shown p s).current (shown p s).next after.change =
+    subst (λ (x : Program). HasChange x.plan.notice (shown x s).left (shown x s).current (shown x s).next after.change) e change in
+    let on = frame_goes p s steps pages after h here flags in
     let state_is : t ≡ after_frame p s = state ∙ ap (λ (x : Program). after_frame x s) e in
     let count_is : made ≡ frame_steps p s = count ∙ ap (λ (x : Program). frame_steps x s) e in
     subst (λ (u : State). IsGoing p u made after) (sym state_is) (subst (λ (n : ℕ). IsGoing p (after_frame p s) n after) (sym count_is) on)
@@ -104,7 +150,7 @@ lent_goes p q s t steps made pages after e h state count keeps =
 pub contact_goes : (p : Program) (s : State) (steps : ℕ) (pages : PhasePages) (c : ℕ) (closed : Bool) → IsGoing p s steps pages → c < 16 → IsGoing p (happens p s (Contact c closed)) steps pages
 contact_goes p s steps pages c closed h below = record {
   played = record { program = h.played.program; typed = h.played.typed; reached = reached_is_kept p s (Contact c closed ∷ []) h.played.reached (below, tt) };
-  phase = record { entries = h.phase.entries; sent = h.phase.sent; keeps = h.phase.keeps };
+  phase = record { entries = h.phase.entries; sent = h.phase.sent; keeps = h.phase.keeps; change = h.phase.change };
   within = h.within;
 }
 
@@ -120,6 +166,7 @@ start_goes p start s pages formed typed range starts none =
         entries = ms;
         sent = subst (λ (o : Option ℕ). SentBy p.plan o s.current s.next ms) (sym starts.left) sent;
         keeps = subst (λ (n : ℕ). Keeps p.plan.mode ms n pages) (sym starts.turn) (none p.plan.mode ms);
+        change = subst (λ (o : Option ℕ). KeepsChange p.plan.notice o s.current s.next pages.change) (sym starts.left) tt;
       };
       within = omega arith;
     }

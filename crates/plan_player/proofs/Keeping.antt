@@ -41,7 +41,7 @@ each_more mode ms made pages page room kept each n below false e =
 
 pub one_more : (mode : Mode) (ms : List Marked) (p : PhasePages) (place : ℕ) (page : KeptPage) (count : ℕ) (cursor : Cursor) → Keeps mode ms p.made p → place ≡ p.made → p.made < 60
     → IsKept mode ms p.made page → count ≡ rounds mode ms → StandsAt mode ms (page_after (rounds mode ms) p.made) cursor
-    → Keeps mode ms p.made (record { pages = slice_set p.pages place (Some page); made = p.made + 1; count = count; cursor = cursor })
+    → Keeps mode ms p.made (record { pages = slice_set p.pages place (Some page); made = p.made + 1; count = count; cursor = cursor; change = p.change })
 one_more mode ms p place page count cursor k at room kept counted stands = record {
   whole = length-set p.pages place (Some page) ∙ k.whole;
   room = omega (arith, room);

@@ -1,6 +1,8 @@
 -- The pages of a phase that a player keeps. No public contract needs them to be believed: a frame's bytes are those of
 -- its page, made anew.
-use Rattle.std.specs.Prelude.{◌≡◌, ℕ, ◌<◌, ◌≤◌, true, false, List, length, Option, Some, slice_get}
+use Rattle.std.specs.Prelude.{◌≡◌, ℕ, ◌<◌, ◌≤◌, true, false, List, length, Option, Some, None, slice_get}
+use Rattle.mux_config.specs.Configuration.{Configuration}
+use Rattle.mux_config.specs.Change.{change_of, bits_of}
 use Rattle.mux_config.specs.Facts.{Marked}
 use Rattle.fib_codec.specs.declared.modes.Mode.{Mode}
 use Rattle.fib_carousel.specs.declared.kept_page.KeptPage.{KeptPage}
@@ -10,7 +12,7 @@ use Rattle.fib_carousel.specs.Walk.{StandsAt}
 use Rattle.plan_code.specs.declared.plan.Plan.{Plan}
 use Rattle.plan_code.specs.Program.{Program}
 use Rattle.plan_code.specs.Machine.{State}
-use Rattle.plan_runs.specs.Frames.{ready, shown, sent_entries, sent_rounds, begins_phase}
+use Rattle.plan_runs.specs.Frames.{ready, is_noticed, is_first_noticed, shown, sent_entries, sent_rounds, begins_phase}
 use Rattle.plan_runs.specs.Phases.{SentBy}
 use Rattle.plan_runs.specs.TypedRuns.{IsPlayed, CanBeSent}
 use Rattle.plan_machine.specs.Positions.{CanRun}
@@ -32,20 +34,33 @@ pub record Keeps (mode : Mode) (ms : List Marked) (turn : ℕ) (p : PhasePages) 
   pub counted : 1 ≤ p.made → p.count ≡ rounds mode ms
   pub cursor : p.made < rounds mode ms → StandsAt mode ms p.made p.cursor
 
--- the pages kept are those that the next frame sends, unless it begins a phase
+-- these are the change flags of a frame, where it is one of a notice
+abbrev pub HasChange : ℕ → Option ℕ → Configuration → Configuration → ℕ → Type 0
+HasChange notice left current next change = is_noticed notice left ≡ true → change ≡ bits_of (change_of current next)
+
+-- these are the change flags of the frames to come of a notice that has begun
+abbrev pub KeepsChange : ℕ → Option ℕ → Configuration → Configuration → ℕ → Type 0
+KeepsChange notice None current next change = Unit {0}
+KeepsChange notice (Some left) current next change = left < notice → change ≡ bits_of (change_of current next)
+
+-- the pages kept are those that the next frame sends, unless it begins a phase, and the change flags those of its notice
 pub record IsInPhase (plan : Plan) (s : State) (p : PhasePages) : Type 0 where
   pub entries : List Marked
   pub sent : SentBy plan s.left s.current s.next entries
   pub keeps : Keeps plan.mode entries s.turn p
+  pub change : KeepsChange plan.notice s.left s.current s.next p.change
 
 -- what the next frame rests on: its instructions can be run, and then what it sends can be sent; where it begins a
--- phase, page 0 is in turn, and else the pages kept are those that it sends
+-- phase, page 0 is in turn, and else the pages kept are those that it sends; the change flags are known but where a notice
+-- begins
 pub record IsFrameReady (p : Program) (s : State) (pages : PhasePages) : Type 0 where
   pub runs : CanRun p (ready s)
   pub sent : CanBeSent p.plan (shown p s)
   pub few : sent_rounds p.plan (shown p s) ≤ 60
   pub first : begins_phase p s ≡ true → (shown p s).turn ≡ 0
   pub kept : begins_phase p s ≡ false → Keeps p.plan.mode (sent_entries p.plan (shown p s)) (shown p s).turn pages
+  pub change : is_first_noticed p.plan.notice (shown p s).left ≡ false
+      → HasChange p.plan.notice (shown p s).left (shown p s).current (shown p s).next pages.change
 
 -- what holds of a player between frames
 pub record IsGoing (p : Program) (s : State) (steps : ℕ) (pages : PhasePages) : Type 0 where

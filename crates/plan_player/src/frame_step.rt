@@ -1,22 +1,25 @@
 //! One frame, from its swap to its counts.
 
 ghost use Rattle.std.specs.Prelude.{◌≡◌, ℕ, ◌<◌, ◌≤◌, List, true, false};
+ghost use Rattle.mux_config.specs.Change.{change_of, bits_of};
 ghost use Rattle.mux_config.specs.Facts.{Marked};
 ghost use Rattle.fib_codec.specs.declared.modes.Mode.{Mode};
 ghost use Rattle.fib_carousel.specs.Pages.{page_after};
 ghost use Rattle.fib_carousel.specs.Bytes.{page_bytes};
 ghost use Rattle.fib_carousel.specs.Kept.{IsKept};
-ghost use Rattle.plan_runs.specs.Frames.{shown, shown_bytes, sent_entries, sent_rounds, with_next_counts, frame_bytes, frame_steps, after_frame};
+ghost use Rattle.plan_runs.specs.Frames.{is_first_noticed, shown, shown_bytes, sent_entries, sent_rounds, with_next_counts, frame_bytes, frame_steps, after_frame};
 ghost use Rattle.plan_runs.specs.TypedRuns.{CanBeSent};
 ghost use Rattle.plan_machine.specs.Positions.{state_of};
-ghost use Rattle.plan_player.specs.Phase.{Keeps, IsFrameReady};
+ghost use Rattle.plan_player.specs.Phase.{Keeps, HasChange, IsFrameReady};
 
-use crate::phase_pages::{PhasePages, page_in_turn};
+use crate::phase_pages::{PhasePages, held, make_if_new};
 use fib_carousel::KeptPage;
 use fib_codec::FibFrame;
-use mux_config::{Ensemble, Store};
+use mux_config::{Ensemble, Store, change};
 use plan_code::{Code, Plan};
-use plan_machine::{Machine, begin, begin_notice, ensemble, next_sent, page_after, pass, run};
+use plan_machine::{
+    Machine, begin, begin_notice, ensemble, is_first_noticed, next_sent, page_after, pass, run,
+};
 
 /// The FIBs of a page, with this FIG 0/0 where there is one.
 fn with_ensemble(page: &KeptPage, ensemble: Option<Ensemble>) -> FibFrame
@@ -29,21 +32,36 @@ fn with_ensemble(page: &KeptPage, ensemble: Option<Ensemble>) -> FibFrame
     }
 }
 
-/// The page in turn of what the machine sends.
-fn page_to_send<S: Store>(plan: &Plan, machine: &Machine<S>, pages: &mut PhasePages) -> KeptPage
+/// Makes the page in turn of what the machine sends, where it wasn't yet in this phase.
+fn make_page_to_send<S: Store>(plan: &Plan, machine: &Machine<S>, pages: &mut PhasePages)
     requires keeps { let s = state_of S.content machine.now in
         Keeps plan.now.mode (sent_entries plan.now s) s.turn pages.old }
     requires within { let s = state_of S.content machine.now in s.turn < sent_rounds plan.now s }
     requires few { sent_rounds plan.now (state_of S.content machine.now) ≤ 60 }
-    ensures page { let s = state_of S.content machine.now in
-        IsKept plan.now.mode (sent_entries plan.now s) s.turn result }
     ensures keeps { let s = state_of S.content machine.now in
         Keeps plan.now.mode (sent_entries plan.now s) s.turn pages.new }
     ensures made { machine.now.turn < pages.new.made }
     ensures count { pages.new.count ≡ sent_rounds plan.now (state_of S.content machine.now) }
+    ensures change { pages.new.change ≡ pages.old.change }
 {
     let next = next_sent(plan, machine);
-    page_in_turn(pages, plan.mode, machine.turn, &machine.current, next)
+    make_if_new(pages, plan.mode, machine.turn, &machine.current, next);
+}
+
+/// The page that the machine sends, which was made.
+fn page_to_send<'a, S: Store>(
+    plan: &Plan,
+    machine: &Machine<S>,
+    pages: &'a PhasePages,
+) -> &'a KeptPage
+    requires keeps { let s = state_of S.content machine.now in
+        Keeps plan.now.mode (sent_entries plan.now s) s.turn pages.now }
+    requires made { machine.now.turn < pages.now.made }
+    ensures { let s = state_of S.content machine.now in
+        IsKept plan.now.mode (sent_entries plan.now s) s.turn result.now }
+{
+    let _notice = plan.notice;
+    held(&pages.pages, machine.turn)
 }
 
 /// Sends the page in turn, and takes the counts forward.
@@ -52,15 +70,19 @@ fn send<S: Store>(plan: &Plan, machine: &mut Machine<S>, pages: &mut PhasePages)
     requires few { sent_rounds plan.now (state_of S.content machine.old) ≤ 60 }
     requires keeps { let s = state_of S.content machine.old in
         Keeps plan.now.mode (sent_entries plan.now s) s.turn pages.old }
+    requires change { let s = state_of S.content machine.old in
+        HasChange plan.now.notice s.left s.current s.next pages.old.change }
     ensures bytes { result ≡ shown_bytes plan.now (state_of S.content machine.old) }
     ensures state { state_of S.content machine.new ≡
         with_next_counts plan.now (state_of S.content machine.old) }
     ensures keeps { let s = state_of S.content machine.old in
         let turn = page_after (sent_rounds plan.now s) s.turn in
         Keeps plan.now.mode (sent_entries plan.now s) turn pages.new }
+    ensures change { pages.new.change ≡ pages.old.change }
 {
-    let page = page_to_send(plan, machine, pages);
-    let frame = with_ensemble(&page, ensemble(plan, machine));
+    make_page_to_send(plan, machine, pages);
+    let ensemble = ensemble(plan, machine, pages.change);
+    let frame = with_ensemble(page_to_send(plan, machine, pages), ensemble);
     pass(page_after(pages.count, machine.turn), machine);
     frame
 }
@@ -69,9 +91,25 @@ fn send<S: Store>(plan: &Plan, machine: &mut Machine<S>, pages: &mut PhasePages)
 fn renew(begins: bool, pages: &mut PhasePages)
     ensures began { begins ≡ true → (mode : Mode) (ms : List Marked) → Keeps mode ms 0 pages.new }
     ensures stays { begins ≡ false → pages.new ≡ pages.old }
+    ensures change { pages.new.change ≡ pages.old.change }
 {
     if begins {
         pages.restart();
+    }
+}
+
+/// Takes note of the change flags, where a notice begins with this frame.
+fn note_change<S: Store>(plan: &Plan, machine: &Machine<S>, pages: &mut PhasePages)
+    requires { let s = state_of S.content machine.now in
+        is_first_noticed plan.now.notice s.left ≡ false →
+        HasChange plan.now.notice s.left s.current s.next pages.old.change }
+    ensures change { let s = state_of S.content machine.now in
+        HasChange plan.now.notice s.left s.current s.next pages.new.change }
+    ensures keeps { (mode : Mode) (ms : List Marked) (turn : ℕ) →
+        Keeps mode ms turn pages.old → Keeps mode ms turn pages.new }
+{
+    if is_first_noticed(plan.notice, machine.left) {
+        pages.change = change(&machine.current, &machine.next).bits();
     }
 }
 
@@ -90,6 +128,7 @@ fn prepare<S: Store>(
     ensures steps { result ≡ frame_steps code.now (state_of S.content machine.old) }
     ensures keeps { let u = shown code.now (state_of S.content machine.old) in
         Keeps code.now.plan.mode (sent_entries code.now.plan u) u.turn pages.new }
+    ensures change { pages.new.change ≡ pages.old.change }
 {
     let swapped = begin(machine);
     let steps = run(code, machine);
@@ -112,8 +151,11 @@ pub(crate) fn make_frame<S: Store>(
     ensures keeps { let u = shown code.now (state_of S.content machine.old) in
         let t = after_frame code.now (state_of S.content machine.old) in
         Keeps code.now.plan.mode (sent_entries code.now.plan u) t.turn pages.new }
+    ensures change { let u = shown code.now (state_of S.content machine.old) in
+        HasChange code.now.plan.notice u.left u.current u.next pages.new.change }
 {
     let plan = code.plan();
     let steps = prepare(code, &plan, machine, pages);
+    note_change(&plan, machine, pages);
     (send(&plan, machine, pages), steps)
 }

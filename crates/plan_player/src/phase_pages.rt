@@ -5,7 +5,6 @@ ghost use Rattle.std.specs.Option.{option_copied};
 ghost use Rattle.mux_config.specs.Facts.{Marked};
 ghost use Rattle.fib_codec.specs.declared.modes.Mode.{Mode};
 ghost use Rattle.fib_carousel.specs.Pages.{page_set_of, rounds};
-ghost use Rattle.fib_carousel.specs.Kept.{IsKept};
 ghost use Rattle.plan_player.specs.Phase.{HasPage, Keeps};
 
 use fib_carousel::{Cursor, KeptPage};
@@ -27,14 +26,16 @@ pub(crate) struct PhasePages {
     pub(crate) count: usize,
     /// Where the next one to be made starts.
     pub(crate) cursor: Cursor,
+    /// The change flags of the notice, once it has begun.
+    pub(crate) change: u8,
 }
 
-/// A page that is held.
-fn held(pages: &[Option<KeptPage>; MOST_PAGES], number: u8) -> KeptPage
+/// A page that was made in this phase.
+pub(crate) fn held(pages: &[Option<KeptPage>; MOST_PAGES], number: u8) -> &KeptPage
     requires { (mode : Mode) × (ms : List Marked) × HasPage mode ms number pages.now }
-    ensures { slice_get pages.now number ≡ Some (Some result) }
+    ensures { slice_get pages.now number ≡ Some (Some result.now) }
 {
-    pages[usize::from(number)].unwrap()
+    pages[usize::from(number)].as_ref().unwrap()
 }
 
 /// How many pages the phase has.
@@ -65,6 +66,7 @@ fn make<'a, 'b, S: Store>(pages: &mut PhasePages, mode: Mode, current: &'a S, ne
     ensures keeps { let ms = page_set_of S.content current.now (option_copied next.entry) in
         Keeps mode ms pages.old.made pages.new }
     ensures made { pages.new.made ≡ pages.old.made + 1 }
+    ensures change { pages.new.change ≡ pages.old.change }
 {
     let count = count_of(pages, mode, current, next);
     let page = pages.cursor.kept_page(mode, current, next);
@@ -74,8 +76,8 @@ fn make<'a, 'b, S: Store>(pages: &mut PhasePages, mode: Mode, current: &'a S, ne
     pages.made += 1;
 }
 
-/// Makes the page in turn where it wasn't yet in this phase.
-fn make_if_new<'a, 'b, S: Store>(
+/// Makes the page in turn of these configurations where it wasn't yet in this phase.
+pub(crate) fn make_if_new<'a, 'b, S: Store>(
     pages: &mut PhasePages,
     mode: Mode,
     turn: u8,
@@ -89,6 +91,9 @@ fn make_if_new<'a, 'b, S: Store>(
     ensures keeps { let ms = page_set_of S.content current.now (option_copied next.entry) in
         Keeps mode ms turn pages.new }
     ensures made { turn < pages.new.made }
+    ensures count { let ms = page_set_of S.content current.now (option_copied next.entry) in
+        pages.new.count ≡ rounds mode ms }
+    ensures change { pages.new.change ≡ pages.old.change }
 {
     if turn < pages.made {
         return;
@@ -106,38 +111,16 @@ impl PhasePages {
             made: 0,
             count: 1,
             cursor: Cursor::new(),
+            change: 0,
         }
     }
 
     /// Lets the pages go, as a phase begins.
     pub(crate) fn restart(&mut self)
-        ensures { (mode : Mode) (ms : List Marked) → Keeps mode ms 0 self.new }
+        ensures pages { (mode : Mode) (ms : List Marked) → Keeps mode ms 0 self.new }
+        ensures change { self.new.change ≡ self.old.change }
     {
         self.made = 0;
         self.cursor.restart();
     }
-}
-
-/// The page in turn of these configurations. It is made where it wasn't yet in this phase.
-pub(crate) fn page_in_turn<'a, 'b, S: Store>(
-    pages: &mut PhasePages,
-    mode: Mode,
-    turn: u8,
-    current: &'a S,
-    next: Option<&'b S>,
-) -> KeptPage
-    requires keeps { let ms = page_set_of S.content current.now (option_copied next) in
-        Keeps mode ms turn pages.old }
-    requires within { turn < rounds mode (page_set_of S.content current.now (option_copied next)) }
-    requires few { turn < 60 }
-    ensures page { let ms = page_set_of S.content current.now (option_copied next.entry) in
-        IsKept mode ms turn result }
-    ensures keeps { let ms = page_set_of S.content current.now (option_copied next.entry) in
-        Keeps mode ms turn pages.new }
-    ensures made { turn < pages.new.made }
-    ensures count { let ms = page_set_of S.content current.now (option_copied next.entry) in
-        pages.new.count ≡ rounds mode ms }
-{
-    make_if_new(pages, mode, turn, current, next);
-    held(&pages.pages, turn)
 }

@@ -1,14 +1,15 @@
 //! A machine that is driven frame by frame.
 
-ghost use Rattle.std.specs.Prelude.{◌≡◌};
+ghost use Rattle.std.specs.Prelude.{◌≡◌, IfSome};
+ghost use Rattle.fib_codec.specs.Ranges.{IsEnsembleInformation};
 ghost use Rattle.plan_runs.specs.Runs.{IsInRange};
 ghost use Rattle.plan_runs.specs.TypedRuns.{IsPlayed};
-ghost use Rattle.plan_runs.specs.Frames.{after_frame};
+ghost use Rattle.plan_runs.specs.Frames.{after_frame, ensemble_sent};
 ghost use Rattle.plan_machine.specs.Positions.{state_of};
 
 use crate::{Machine, advance, begin, begin_notice, ensemble, laws, rounds, run};
-use mux_config::{Ensemble, Store};
-use plan_code::ContactId;
+use mux_config::{Ensemble, Store, change};
+use plan_code::{ContactId, Plan};
 use plan_runs::Start;
 use plan_verifier::Verified;
 use std::alloc::{AllocError, Global};
@@ -50,6 +51,15 @@ fn started<S: Store>(code: &Verified, start: Start) -> Machine<S>
     Machine::start(code, start)
 }
 
+/// The FIG 0/0 of a frame.
+fn ensemble_of<S: Store>(plan: &Plan, machine: &Machine<S>) -> Option<Ensemble>
+    requires { IfSome (ensemble_sent plan.now (state_of S.content machine.now))
+        IsEnsembleInformation }
+{
+    let flags = change(&machine.current, &machine.next).bits();
+    ensemble(plan, machine, flags)
+}
+
 /// One frame of a machine that plays a typed code.
 fn frame<S: Store>(code: &Verified, machine: &mut Machine<S>) -> (Shown, Option<Ensemble>)
     requires { IsPlayed code.now (state_of S.content machine.old) }
@@ -63,7 +73,7 @@ fn frame<S: Store>(code: &Verified, machine: &mut Machine<S>) -> (Shown, Option<
     let swapped = begin(machine);
     let steps = run(code.code(), machine);
     let begun = begin_notice(&plan, machine);
-    let ensemble = ensemble(&plan, machine);
+    let ensemble = ensemble_of(&plan, machine);
     let pages = rounds(&plan, machine);
     advance(&plan, pages, machine);
     let left = machine.left;

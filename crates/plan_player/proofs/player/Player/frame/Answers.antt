@@ -18,14 +18,14 @@ invariant_of-self g c =
     let i = c.self.inside in
     let made = c.make_frame-frame in
     lent_goes i.code.now c.code-code.result.now (state_of g.S.Store.content i.machine) (state_of g.S.Store.content made.new.machine) i.steps made.result.1 i.pages made.new.pages
-    c.code-code.ensures.value c.self.invariant made.ensures.state made.ensures.steps made.ensures.keeps
+    c.code-code.ensures.value c.self.invariant made.ensures.state made.ensures.steps made.ensures.keeps made.ensures.change
 
 pub returns-clause-played : goal.returns-clause-played
 returns-clause-played g c =
     let i = c.self.inside in
     let made = c.make_frame-frame in
     (lent_goes i.code.now c.code-code.result.now (state_of g.S.Store.content i.machine) (state_of g.S.Store.content made.new.machine) i.steps made.result.1 i.pages made.new.pages
-    c.code-code.ensures.value c.self.invariant made.ensures.state made.ensures.steps made.ensures.keeps).played
+    c.code-code.ensures.value c.self.invariant made.ensures.state made.ensures.steps made.ensures.keeps made.ensures.change).played
 
 pub returns-clause-bytes : goal.returns-clause-bytes
 returns-clause-bytes g c =

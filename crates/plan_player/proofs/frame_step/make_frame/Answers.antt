@@ -1,0 +1,16 @@
+use Rattle.std.proofs.Common.{sym, subst}
+use Rattle.plan_code.specs.declared.plan.Plan.{Plan}
+use Rattle.plan_code.specs.Machine.{State}
+use Rattle.plan_runs.specs.Frames.{sent_entries}
+use Rattle.plan_machine.specs.Positions.{state_of}
+use Rattle.plan_player.specs.Phase.{Keeps}
+use Rattle.plan_player.proofs.frame_step.make_frame.Goals as goal
+
+pub send-requires-clause-keeps : goal.send-requires-clause-keeps
+send-requires-clause-keeps g c =
+    let p = c.args.code.now in
+    let pages = c.prepare-steps.new.pages in
+    let s : State = state_of g.S.Store.content c.prepare-steps.new.machine in
+    let at = subst (λ (u : State). Keeps p.plan.mode (sent_entries p.plan u) u.turn pages) (sym c.prepare-steps.ensures.state) c.prepare-steps.ensures.keeps in
+    let here = subst (λ (q : Plan). Keeps q.mode (sent_entries q s) s.turn pages) (sym c.plan-plan.ensures.value) at in
+    c.note_change.ensures.keeps c.plan-plan.result.mode (sent_entries c.plan-plan.result s) s.turn here
