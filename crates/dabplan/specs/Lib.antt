@@ -1,3 +1,4 @@
+pub mod Compiled
 pub mod Digits
 pub mod Frame
 pub mod Lines

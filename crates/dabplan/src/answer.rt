@@ -6,7 +6,7 @@ use crate::command_line::{self, Request, Unasked};
 use crate::ending::{Failure, Status};
 use crate::files::Files;
 use crate::output::Output;
-use crate::{debug, frame, listen, play, verify};
+use crate::{compile, debug, frame, listen, play, verify};
 use std::alloc::{AllocError, Global};
 use std::convert::AsStr;
 use std::io::{self, ErrorKind, Write};
@@ -66,6 +66,10 @@ fn obey<S: AsStr, F: Files, W: Write>(
     match command_line::request_of(alloc, words) {
         Ok(Request::Frame(request)) => told(frame::show_frame(alloc, &request, files, out), out),
         Ok(Request::Listen(path)) => told(listen::show_heard(alloc, path, files, out), out),
+        Ok(Request::Compile(request)) => told(
+            compile::show_compile(alloc, &request, files, out),
+            out,
+        ),
         Ok(Request::Verify(path)) => told(verify::show_verdict(alloc, path, files, out), out),
         Ok(Request::Play(request)) => told(play::show_play(alloc, &request, files, out), out),
         Ok(Request::Debug(request)) => told(debug::show_debug(alloc, &request, files, out), out),
@@ -96,7 +100,7 @@ fn explain<W: Write>(alloc: Global, unasked: Unasked<'_>, out: &mut W) -> io::Re
             "error: invalid value '{value}' for '{option}': four digits 0-9 A-F are wanted"
         ),
         Unasked::Nothing =>
-            "error: a command is wanted: frame, listen, verify, play, debug or help".to_string(
+            "error: a command is wanted: frame, listen, compile, verify, play, debug or help".to_string(
                 alloc,
             ),
         Unasked::NoText => "error: a word of the command line is not UTF-8".to_string(alloc),

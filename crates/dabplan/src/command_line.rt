@@ -12,6 +12,9 @@ use plan_code::Contacts;
 use std::alloc::{AllocError, Global};
 use std::convert::AsStr;
 
+/// The version of the program, as CHANGELOG.md counts.
+const VERSION: &str = "0.1.0";
+
 /// What is asked for.
 #[derive(Drop)]
 pub enum Request<'a> {
@@ -19,12 +22,23 @@ pub enum Request<'a> {
     Frame(FrameRequest<'a>),
     /// `listen`, and the path of its file.
     Listen(&'a str),
+    /// `compile`.
+    Compile(CompileRequest<'a>),
     /// `verify`, and the path of its code file.
     Verify(&'a str),
     /// `play`.
     Play(PlayRequest<'a>),
     /// `debug`.
     Debug(DebugRequest<'a>),
+}
+
+/// The files of `compile`.
+#[derive(Clone, Copy)]
+pub struct CompileRequest<'a> {
+    /// The path of the script.
+    pub script: &'a str,
+    /// The path of the code file that is made.
+    pub out: &'a str,
 }
 
 /// The files and options of `play`.
@@ -78,7 +92,7 @@ pub struct FrameRequest<'a> {
 /// Why the words ask for nothing that the program does.
 #[derive(Drop)]
 pub enum Unasked<'a> {
-    /// They ask for help: its text.
+    /// They ask for help, or for the version: its text.
     Help(clap::Error),
     /// They are wrong: a text whose first lines say how.
     Mistake(clap::Error),
@@ -99,7 +113,7 @@ impl From<clap::Error> for Unasked<'_> {
     fn from(error: clap::Error) -> Self {
         match error.kind() {
             ErrorKind::OutOfMemory => Unasked::Memory,
-            ErrorKind::DisplayHelp => Unasked::Help(error),
+            ErrorKind::DisplayHelp | ErrorKind::DisplayVersion => Unasked::Help(error),
             _ => Unasked::Mistake(error),
         }
     }
@@ -117,6 +131,7 @@ pub fn request_of<'a, S: AsStr>(alloc: Global, words: &'a [S]) -> Result<Request
     match matches.subcommand() {
         Some(("frame", options)) => frame_request(options),
         Some(("listen", options)) => listen_request(options),
+        Some(("compile", options)) => compile_request(options),
         Some(("verify", options)) => verify_request(options),
         Some(("play", options)) => play_request(options),
         Some(("debug", options)) => debug_request(options),
@@ -127,11 +142,13 @@ pub fn request_of<'a, S: AsStr>(alloc: Global, words: &'a [S]) -> Result<Request
 fn program<'a>(alloc: Global) -> Result<Command<'a>, AllocError> {
     Command::new(alloc, "dabplan")
         .no_binary_name(true)
+        .version(VERSION)
         .about(help::PROGRAM)
         .after_help(help::AFTER_PROGRAM)
         .override_usage("dabplan <COMMAND>")
         .subcommand(frame(alloc)?)?
         .subcommand(listen(alloc)?)?
+        .subcommand(compile(alloc)?)?
         .subcommand(verify(alloc)?)?
         .subcommand(play(alloc)?)?
         .subcommand(debug(alloc)?)
@@ -193,6 +210,24 @@ fn listen<'a>(alloc: Global) -> Result<Command<'a>, AllocError> {
         .after_long_help(help::AFTER_LISTEN)
         .override_usage(help::LISTEN_USAGE)
         .arg(file)
+}
+
+fn compile<'a>(alloc: Global) -> Result<Command<'a>, AllocError> {
+    let script = Arg::new(alloc, "script")
+        .value_name("SCRIPT")
+        .required(true)
+        .help("The script");
+    let out = Arg::new(alloc, "out")
+        .value_name("OUT")
+        .required(true)
+        .help("The code file that is made");
+    Command::new(alloc, "compile")
+        .about(help::COMPILE)
+        .long_about(help::LONG_COMPILE)
+        .after_long_help(help::AFTER_COMPILE)
+        .override_usage(help::COMPILE_USAGE)
+        .arg(script)?
+        .arg(out)
 }
 
 fn verify<'a>(alloc: Global) -> Result<Command<'a>, AllocError> {
@@ -326,6 +361,12 @@ fn mode_of(number: u16) -> Option<Mode>
 fn listen_request<'a>(options: &ArgMatches<'a>) -> Result<Request<'a>, Unasked<'a>> {
     let file = options.get_str("file").ok_or(Unasked::Nothing)?;
     Ok(Request::Listen(file))
+}
+
+fn compile_request<'a>(options: &ArgMatches<'a>) -> Result<Request<'a>, Unasked<'a>> {
+    let script = options.get_str("script").ok_or(Unasked::Nothing)?;
+    let out = options.get_str("out").ok_or(Unasked::Nothing)?;
+    Ok(Request::Compile(CompileRequest { script, out }))
 }
 
 fn verify_request<'a>(options: &ArgMatches<'a>) -> Result<Request<'a>, Unasked<'a>> {

@@ -2,8 +2,8 @@
 
 pub const PROGRAM: &str = "\
 Writes and hears what the Fast Information Channel of a DAB ensemble says of its multiplex:
-sub-channels, services and their components (EN 300 401, FIG 0/0 to 0/3), and verifies, plays
-and debugs plans of its reconfigurations.";
+sub-channels, services and their components (EN 300 401, FIG 0/0 to 0/3), and compiles,
+verifies, plays and debugs plans of its reconfigurations.";
 
 pub const AFTER_PROGRAM: &str = "\
 What goes in and comes out:
@@ -11,6 +11,7 @@ What goes in and comes out:
           packet components there are, and then each of them, field by field. It prints the
           three FIBs of a frame, in mode 3 four, of 32 bytes each as hexadecimal digits.
   listen  reads a binary file of FIBs, and prints the multiplex that they describe.
+  compile reads a script, the text of a plan of reconfigurations, and writes its code file.
   verify  reads a code file, the binary form of a plan of reconfigurations. It says whether the
           plan can be played without going wrong, or what is wrong with it and where.
   play    plays a plan over a file of events, frames and changes of contacts, and writes the
@@ -99,6 +100,56 @@ Example: the FIBs that 'dabplan frame' writes, heard again
 Exit status:
   0  the listing was printed
   1  the file holds no whole FIBs or more than 64 services or packet components, or can't be read
+  2  the command line is wrong";
+
+pub const COMPILE: &str = "Compiles a script into a code file";
+
+pub const LONG_COMPILE: &str = "\
+Compiles a script into a code file.
+
+In goes a script, the text of a plan of reconfigurations: the configuration that it begins with, and
+what changes when. Out comes the code file that 'verify', 'play' and 'debug' read. A script that is
+compiled gives a plan that 'verify' accepts.";
+
+pub const COMPILE_USAGE: &str = "dabplan compile <SCRIPT> <OUT>";
+
+pub const AFTER_COMPILE: &str = "\
+A script:
+  ensemble E1C5                     the EId
+  period 4 notice 24 budget 20      frames to read a configuration in, frames of a notice, and the
+                                    most instructions in a frame
+  sub 1 at 0 eep 3-A 128            sub-channel 1 at capacity unit 0, of 128 kbit/s
+  service C221
+  audio 63 sub 1 in C221            audio of type 63 on sub-channel 1, for that service
+  begin                             and then what happens:
+  forever {
+    wait contact 3 closed
+    rate sub 1 96                   edits change the next configuration
+    commit in 24                    and a commit announces it, for a swap after 24 frames or more
+    join                            waits for the swap
+    wait contact 3 open
+    rate sub 1 128
+    commit in 24
+    join
+  }
+
+The line:
+  instructions 9 labels 1 configurations 1
+  1:10: Number                  line 1, column 10 is no number in range; also Byte, Expected, Depth,
+                                NameUsed, NameUnknown and Limit
+  refused line 7: Mismatch      the plan could go wrong at line 7; 'dabplan help verify' lists the
+                                causes
+  refused: Limit                the code would be too long
+
+OUT is made last: where the script is refused it stays as it was.
+
+Example: a lower rate at night
+  dabplan compile docs/examples/night_rate.plan night.code
+  dabplan verify night.code
+
+Exit status:
+  0  OUT holds the code file
+  1  the script is refused, or a file can't be read or written
   2  the command line is wrong";
 
 pub const VERIFY: &str = "Tells whether a plan of reconfigurations can be played";

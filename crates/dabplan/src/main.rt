@@ -1,5 +1,6 @@
 //! The program `dabplan`: what the Fast Information Channel of a DAB ensemble says of its multiplex
-//! (EN 300 401), written and heard, and plans of its reconfigurations, verified, played and debugged.
+//! (EN 300 401), written and heard, and plans of its reconfigurations, compiled,
+//! verified, played and debugged.
 //!
 //! `answer` is the whole program over its words, its files and its output. `command_line` reads the words,
 //! and each subcommand has a file of its own.
@@ -7,6 +8,7 @@
 
 mod answer;
 mod command_line;
+mod compile;
 mod debug;
 mod ending;
 mod files;

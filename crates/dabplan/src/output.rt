@@ -72,7 +72,7 @@ impl<W: Write> Write for Output<'_, W> {
 }
 
 /// Writes until all is written or a write fails, and answers how many bytes were taken.
-fn write_out<W: Write>(bytes: &[u8], out: &mut W) -> (usize, io::Result<()>)
+pub(crate) fn write_out<W: Write>(bytes: &[u8], out: &mut W) -> (usize, io::Result<()>)
     ensures bound { result.0 ≤ length bytes.now }
     ensures all { OnOk result.1 (result.0 ≡ length bytes.now) }
     ensures taken { Appends (W.contents out.old) (W.contents out.new) (take result.0 bytes.now) }

@@ -5,8 +5,7 @@ use crate::ending::{Failure, Status};
 use crate::files::Files;
 use plan_code::CodeFault;
 use plan_events::EventFault;
-use plan_playback::{RunFault, run};
-use plan_player::Writer;
+use plan_playback::{RunFault, run_into};
 use std::alloc::Global;
 use std::io::Write;
 use std::str;
@@ -32,15 +31,14 @@ pub fn show_play<'a, F: Files, W: Write>(
     let file = files
         .create(request.out)
         .map_err(|fault| Failure::of_output(fault, request.out))?;
-    let mut sink = Writer::new(file);
-    let ended = run(
+    let (ended, _file) = run_into(
         alloc,
         code.as_slice(),
         events,
         request.start.count,
         request.start.day,
         request.start.contacts,
-        &mut sink,
+        file,
     );
     match ended {
         Ok(frames) => {

@@ -1,4 +1,5 @@
 mod command_line;
+mod compile;
 mod debug;
 mod fake;
 mod frame;

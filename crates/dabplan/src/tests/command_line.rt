@@ -10,7 +10,7 @@ fn wrong_command_lines(rt: HostRuntime) -> Result<(), Fail> {
     for (line, wanted) in [
         (
             "",
-            "error: a command is wanted: frame, listen, verify, play, debug or help\n",
+            "error: a command is wanted: frame, listen, compile, verify, play, debug or help\n",
         ),
         (
             "fram",
@@ -120,6 +120,10 @@ fn words_that_are_no_text(rt: HostRuntime) -> Result<(), Fail> {
 fn help_is_no_fault(rt: HostRuntime) -> Result<(), Fail> {
     for (line, usage) in [
         ("--help", "Usage: dabplan <COMMAND>"),
+        ("--version", "dabplan 0.1.0\n"),
+        ("-V", "dabplan 0.1.0\n"),
+        ("compile --help", "Usage: dabplan compile <SCRIPT> <OUT>"),
+        ("debug --help", "Usage: dabplan debug <CODE> <COMMANDS>"),
         ("-h", "Usage: dabplan <COMMAND>"),
         ("help", "Usage: dabplan <COMMAND>"),
         (

@@ -73,6 +73,21 @@ fn faults_in_their_order(rt: HostRuntime) -> Result<(), Fail> {
     Ok(())
 }
 
+/// A file that takes no more says so after what it took, also where that is known at the end alone.
+#[test]
+fn a_file_without_room(rt: HostRuntime) -> Result<(), Fail> {
+    for (calls, wanted) in [
+        (0, "write failed after 0 frames and 0 bytes\n"),
+        (1, "write failed after 1 frames and 0 bytes\n"),
+        (1100, "write failed after 1100 frames and 0 bytes\n"),
+    ] {
+        let (status, printed) = played(rt.alloc(), NOTHING, "frames 2000", calls, "")?;
+        assert_eq!(rt; printed.as_str(), wanted);
+        assert_eq!(rt; status, 1);
+    }
+    Ok(())
+}
+
 #[test]
 fn a_code_that_is_refused(rt: HostRuntime) -> Result<(), Fail> {
     let code = "44 41 42 50 01 E1 C5 04 18 14 00 01 00 01 00 01 00 00 00 \
