@@ -17,6 +17,9 @@ use std::test::Fail;
 
 const MODES: [Mode; 4] = [Mode::I, Mode::II, Mode::III, Mode::IV];
 
+/// How many listeners hear at once: each hears as many frames, more than a notice, a swap and a period.
+const LISTENERS: usize = 72;
+
 /// What a frame is: whether it has FIG 0/0, and whether it begins a phase by a swap or by a notice.
 #[derive(Clone, Copy)]
 struct Moment {
@@ -88,15 +91,13 @@ impl Hearing {
     }
 }
 
-/// A code and its start, the levels that contact 3 gets before frames of these numbers, how many frames are made before
-/// the first listener is started, and how many are made then.
+/// A code and its start, the levels that contact 3 gets before frames of these numbers, and how many frames are made.
 #[derive(Clone, Copy)]
 struct Scene<'a> {
     code: &'a Verified,
     start: Start,
     levels: &'a [(u16, bool)],
-    passed: u16,
-    heard: u16,
+    frames: u16,
 }
 
 /// The times that a listener had to know the current configuration: after a period, and after a swap.
@@ -168,12 +169,13 @@ fn play_to_all(rt: &impl Abort, alloc: Global, scene: &Scene) -> Result<Times, F
         periods: 0,
         swaps: 0,
     };
-    for number in 0..scene.passed.saturating_add(scene.heard) {
+    for number in 0..scene.frames {
         set_levels(&mut player, scene.levels, number);
         let (frame, moment) = make(&mut player, plan);
-        if number >= scene.passed {
-            hearings.push(Hearing::new())?;
+        if hearings.len() == LISTENERS {
+            let _first = hearings.remove(0);
         }
+        hearings.push(Hearing::new())?;
         let now = hear_all(
             rt,
             &mut hearings,
@@ -204,8 +206,7 @@ fn a_first_swap_is_heard(rt: HostRuntime) -> Result<(), Fail> {
             code: &code,
             start: start_at(4990),
             levels: &[],
-            passed: 0,
-            heard: 60,
+            frames: 60,
         };
         is_heard(&rt, rt.alloc(), &scene)?;
     }
@@ -220,8 +221,7 @@ fn a_swap_at_a_count_is_heard(rt: HostRuntime) -> Result<(), Fail> {
             code: &code,
             start: start_at(1000),
             levels: &[],
-            passed: 4960,
-            heard: 60,
+            frames: 5020,
         };
         is_heard(&rt, rt.alloc(), &scene)?;
     }
@@ -236,8 +236,7 @@ fn swaps_there_and_back_are_heard(rt: HostRuntime) -> Result<(), Fail> {
             code: &code,
             start: start_at(0),
             levels: &[(1, true), (1, false), (1, true), (40, false)],
-            passed: 0,
-            heard: 70,
+            frames: 70,
         };
         is_heard(&rt, rt.alloc(), &scene)?;
     }
@@ -255,8 +254,7 @@ fn settles(rt: &impl Abort, alloc: Global, code: &Verified) -> Result<(), Fail> 
         code,
         start: closed,
         levels: &[],
-        passed: 0,
-        heard: 70,
+        frames: 70,
     };
     is_heard(rt, alloc, &first)?;
     let second = Scene {
@@ -292,8 +290,7 @@ fn a_swap_while_an_hour_comes_is_heard(rt: HostRuntime) -> Result<(), Fail> {
                 code: &code,
                 start,
                 levels: &[],
-                passed: 0,
-                heard: 40,
+                frames: 40,
             };
             is_heard(&rt, rt.alloc(), &scene)?;
         }
@@ -321,8 +318,7 @@ fn a_swap_of_many_pages_is_heard(rt: HostRuntime) -> Result<(), Fail> {
             code: &code,
             start: start_at(0),
             levels: &[],
-            passed: 0,
-            heard: 60,
+            frames: 60,
         };
         is_heard(&rt, rt.alloc(), &scene)?;
     }
