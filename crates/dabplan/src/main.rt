@@ -2,34 +2,20 @@
 //! (EN 300 401), written and heard, and plans of its reconfigurations, compiled,
 //! verified, played and debugged.
 //!
-//! `answer` is the whole program over its words, its files and its output. `command_line` reads the words,
-//! and each subcommand has a file of its own.
+//! The whole program over its words, its files and its output is `answer` of the crate `commands`.
 #![tactic(auto)]
 
-mod answer;
-mod command_line;
-mod compile;
-mod debug;
-mod ending;
-mod files;
-mod frame;
-mod help;
-mod hexadecimal;
-mod listen;
-mod listing;
-mod output;
-mod play;
-mod verify;
-
+use commands::answer::{answer, answer_without_words};
+use console::files::System;
 use std::process::ExitCode;
 use std::{env, io};
 
 fn main(rt: HostRuntime) -> io::Result<ExitCode> {
-    let mut files = files::System::new(&rt);
+    let mut files = System::new(&rt);
     let mut out = io::writer(&rt);
     let status = match words(&rt) {
-        Ok(words) => answer::answer(rt.alloc(), words.as_slice(), &mut files, &mut out),
-        Err(error) => answer::answer_without_words(rt.alloc(), &error, &mut out),
+        Ok(words) => answer(rt.alloc(), words.as_slice(), &mut files, &mut out),
+        Err(error) => answer_without_words(rt.alloc(), &error, &mut out),
     };
     Ok(ExitCode::from(status))
 }

@@ -1,9 +1,13 @@
-mod command_line;
 mod compile;
 mod debug;
+mod failures;
 mod fake;
 mod frame;
 mod listen;
 mod output;
 mod play;
+mod rows;
+mod scripts;
+mod shelf;
+mod usage;
 mod verify;

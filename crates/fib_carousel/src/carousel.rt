@@ -43,11 +43,14 @@ pub fn page<'a, 'b, S: Store>(
         (ns : List ℕ) → IsPacking mode ms ns → AreFibs (figs_by mode ns ensemble page ms) result }
 {
     let mut position = Position::start();
+    let mut frame = FibFrame::new(mode);
     write_page(
         &PageSet::new(current, next),
         mode,
         &mut position,
         page,
         ensemble,
-    )
+        &mut frame,
+    );
+    frame
 }

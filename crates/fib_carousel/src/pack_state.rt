@@ -53,7 +53,13 @@ pub(crate) fn room(mode: Mode, fib: usize) -> u8
     ensures value { result ≡ room mode fib }
     ensures bound { result ≤ 30 }
 {
-    if fib % mode.fibs() == 0 { 23 } else { 30 }
+    let is_first = match mode {
+        Mode::I => fib % 3 == 0,
+        Mode::II => fib % 3 == 0,
+        Mode::III => fib % 4 == 0,
+        Mode::IV => fib % 3 == 0,
+    };
+    if is_first { 23 } else { 30 }
 }
 
 /// Whether two entries can share a FIG.

@@ -55,6 +55,13 @@ impl Cursor {
         *self = Cursor::new();
     }
 
+    /// The number of the page at which it stands, from 0.
+    pub fn number(&self) -> usize
+        ensures { result ≡ cursor_page self.now }
+    {
+        self.page
+    }
+
     /// Goes on behind the page that was packed: to the page after it, and after the last to page 0.
     fn advance<L: EntryList>(&mut self, list: &L, mode: Mode)
         requires within { self.old.page < rounds mode (L.entries list.now) }
@@ -91,7 +98,15 @@ impl Cursor {
             StandsAt mode ms (page_after (rounds mode ms) (cursor_page self.old)) self.new }
     {
         let set = PageSet::new(current, next);
-        let frame = write_page(&set, mode, &mut self.position, self.page, ensemble);
+        let mut frame = FibFrame::new(mode);
+        write_page(
+            &set,
+            mode,
+            &mut self.position,
+            self.page,
+            ensemble,
+            &mut frame,
+        );
         self.advance(&set, mode);
         frame
     }
@@ -113,7 +128,8 @@ impl Cursor {
             StandsAt mode ms (page_after (rounds mode ms) (cursor_page self.old)) self.new }
     {
         let set = PageSet::new(current, next);
-        let plain = write_page(&set, mode, &mut self.position, self.page, None);
+        let mut plain = FibFrame::new(mode);
+        write_page(&set, mode, &mut self.position, self.page, None, &mut plain);
         self.advance(&set, mode);
         KeptPage::new(plain)
     }

@@ -84,6 +84,32 @@ fn entry_count<S: Store>(store: &S) -> u16
     (store.sub_count() + store.service_count() + store.packet_count()) as u16
 }
 
+/// The sub-channel at an index of a store's configuration.
+fn sub_item<S: Store>(store: &S, index: usize) -> Item<'_>
+    requires { let c = S.content store.now in index < length c.subs }
+    ensures { IsItemAt (S.content store.now) index result }
+{
+    Item::Sub(store.sub_at(index))
+}
+
+/// The service at an index of a store's configuration, counted behind the sub-channels.
+fn service_item<S: Store>(store: &S, index: usize) -> Item<'_>
+    requires from { let c = S.content store.now in length c.subs ≤ index }
+    requires below { let c = S.content store.now in index < length c.subs + length c.services }
+    ensures { IsItemAt (S.content store.now) index result }
+{
+    Item::Service(store.service_at(index - store.sub_count()))
+}
+
+/// The packet component at an index of a store's configuration, counted behind the others.
+fn packet_item<S: Store>(store: &S, index: usize) -> Item<'_>
+    requires from { let c = S.content store.now in length c.subs + length c.services ≤ index }
+    requires below { index < length (config_entries (S.content store.now)) }
+    ensures { IsItemAt (S.content store.now) index result }
+{
+    Item::Packet(store.packet_at(index - store.sub_count() - store.service_count()))
+}
+
 /// The member of a store's configuration at an index, where sub-channels, services and packet components are
 /// counted one after another from 0.
 fn item_at<S: Store>(store: &S, index: u16) -> Item<'_>
@@ -93,13 +119,12 @@ fn item_at<S: Store>(store: &S, index: u16) -> Item<'_>
     let index = usize::from(index);
     let subs = store.sub_count();
     if index < subs {
-        return Item::Sub(store.sub_at(index));
+        return sub_item(store, index);
     }
-    let services = store.service_count();
-    if index - subs < services {
-        return Item::Service(store.service_at(index - subs));
+    if index < subs + store.service_count() {
+        return service_item(store, index);
     }
-    Item::Packet(store.packet_at(index - subs - services))
+    packet_item(store, index)
 }
 
 /// The head and the size of the entry at an index of a store's configuration, marked with this C/N flag.
@@ -119,7 +144,17 @@ fn put_at<S: Store>(store: &S, index: u16, fib: &mut Fib)
     ensures { (e : Entry) × (slice_get (config_entries (S.content store.now)) index ≡ Some e)
         × (fib.new ≡ fib.old ++ entry_bytes e) }
 {
-    item_at(store, index).put(fib);
+    let index = usize::from(index);
+    let subs = store.sub_count();
+    if index < subs {
+        sub_item(store, index).put(fib);
+        return;
+    }
+    if index < subs + store.service_count() {
+        service_item(store, index).put(fib);
+        return;
+    }
+    packet_item(store, index).put(fib);
 }
 
 /// The entries of the pages: those of the current configuration, marked with C/N 0, and then those of the

@@ -1,6 +1,6 @@
 //! The entries of a FIB put into FIGs, and the FIBs of a page written one after another.
 
-ghost use Rattle.std.specs.Prelude.{◌≡◌, ◌+◌, ◌-◌, ◌%◌, ◌<◌, ◌≤◌, ◌++◌, List, length, IsSome, IfSome, Option, None};
+ghost use Rattle.std.specs.Prelude.{◌≡◌, ◌+◌, ◌-◌, ◌*◌, ◌%◌, ◌<◌, ◌≤◌, ◌++◌, List, length, IsSome, IfSome, Option, None};
 ghost use Rattle.fib_codec.specs.Modes.{fib_count};
 ghost use Rattle.fib_codec.specs.Spelling.{entries_bytes, figs_bytes, fib_bytes};
 ghost use Rattle.fib_codec.specs.Ranges.{IsEnsembleInformation};
@@ -126,18 +126,20 @@ fn fib<L: EntryList>(
     fib.finish()
 }
 
-/// The FIBs of a page, with FIG 0/0 first where it is given. The position stands before the page's first FIB,
-/// and then behind its last.
+/// Writes the FIBs of a page over those of a frame, with FIG 0/0 first where it is given. The position stands before
+/// the page's first FIB, and then behind its last.
 pub(crate) fn write_page<L: EntryList>(
     list: &L,
     mode: Mode,
     position: &mut Position,
     page: usize,
     ensemble: Option<Ensemble>,
-) -> FibFrame
+    frame: &mut FibFrame,
+)
     requires page { page < rounds mode (L.entries list.now) }
+    requires size { length frame.old ≡ 32 * fib_count mode }
     requires stands { StandsBefore mode (L.entries list.now) (first_fib mode page) position.old }
-    ensures bytes { result ≡ page_bytes mode ensemble page (L.entries list.now) }
+    ensures bytes { frame.new ≡ page_bytes mode ensemble page (L.entries list.now) }
     ensures pageable { IsPageable ensemble (L.entries list.now) }
     ensures next { let next = first_fib mode page + fib_count mode in
         StandsBefore mode (L.entries list.now) next position.new }
@@ -146,10 +148,8 @@ pub(crate) fn write_page<L: EntryList>(
 {
     let len = list.len();
     let first = mode.fibs() * page;
-    let mut frame = FibFrame::new(mode);
     frame.write_fib(0, &fib(list, len, mode, position, first, ensemble));
     for slot in 1..mode.fibs() {
         frame.write_fib(slot, &fib(list, len, mode, position, first + slot, None));
     }
-    frame
 }

@@ -44,6 +44,3 @@ pub use record_writer::write_config;
 pub use sound::soundness;
 pub use store::Store;
 pub use table::{Keyed, Table};
-
-#[cfg(test)]
-mod tests;

@@ -35,6 +35,3 @@ pub use instr::{Instr, Line};
 pub use label::{Label, Swap};
 pub use numbers::{ContactId, CounterId, DayFrame, Delay, Frames, Times};
 pub use plan::Plan;
-
-#[cfg(test)]
-mod tests;

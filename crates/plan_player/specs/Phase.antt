@@ -17,6 +17,8 @@ use Rattle.plan_runs.specs.Phases.{SentBy}
 use Rattle.plan_runs.specs.TypedRuns.{IsPlayed, CanBeSent}
 use Rattle.plan_machine.specs.Positions.{CanRun}
 use Rattle.plan_player.specs.declared.phase_pages.PhasePages.{PhasePages}
+use Rattle.plan_player.specs.declared.phase_pages.Sent.{Sent}
+use Rattle.plan_player.specs.declared.phase_pages.Sent.TheVariants.{Kept, Headed}
 
 -- a place of the table holds page n
 pub record HasPage (mode : Mode) (ms : List Marked) (n : ℕ) (pages : List (Option KeptPage)) : Type 0 where
@@ -31,8 +33,17 @@ pub record Keeps (mode : Mode) (ms : List Marked) (turn : ℕ) (p : PhasePages) 
   pub room : p.made ≤ 60
   pub turn_in : turn ≤ p.made
   pub each : (n : ℕ) → n < p.made → HasPage mode ms n p.pages
-  pub counted : 1 ≤ p.made → p.count ≡ rounds mode ms
+  pub all : p.is_whole ≡ true → p.made ≡ rounds mode ms
+  pub more : p.is_whole ≡ false → p.made < rounds mode ms
   pub cursor : p.made < rounds mode ms → StandsAt mode ms p.made p.cursor
+
+-- the last frame was this one: a page that is kept, or one with a FIG 0/0 of its own
+abbrev pub ShowsAs : Sent → List (Option KeptPage) → List ℕ → List ℕ → Type 0
+ShowsAs (Kept n) pages headed bytes = (page : KeptPage) × (slice_get pages n ≡ Some (Some page)) × (page.plain ≡ bytes)
+ShowsAs Headed pages headed bytes = headed ≡ bytes
+
+abbrev pub Shows : PhasePages → List ℕ → Type 0
+Shows p bytes = ShowsAs p.sent p.pages p.headed bytes
 
 -- these are the change flags of a frame, where it is one of a notice
 abbrev pub HasChange : ℕ → Option ℕ → Configuration → Configuration → ℕ → Type 0

@@ -9,26 +9,9 @@ ghost use Rattle.plan_player.specs.Delivery.{frames_of, bytes_of, next_frame, St
 
 use crate::fault::PlayFault;
 use crate::player::Player;
-use crate::sink::{Sink, put_all};
+use crate::sink::Sink;
 use mux_config::Store;
 use plan_runs::{Event, laws};
-
-/// Makes the next frame, and puts it into the sink.
-fn play_frame<'a, S: Store, K: Sink>(player: &mut Player<'a, S>, sink: &mut K) -> Result<(), usize>
-    requires working { K.has_failed sink.old ≡ false }
-    ensures state { player.new ≡ played player.old (Frame ∷ []) }
-    ensures bytes { OnOk result
-        (Appends (K.taken sink.old) (K.taken sink.new) (next_frame player.old)) }
-    ensures works { OnOk result (K.has_failed sink.new ≡ false) }
-    ensures bound { IfErr result (λ n. n < length (next_frame player.old)) }
-    ensures part { IfErr result (λ n.
-        Appends (K.taken sink.old) (K.taken sink.new) (take n (next_frame player.old))) }
-    ensures fails { OnErr result (K.has_failed sink.new ≡ true) }
-{
-    let frame = player.frame();
-    put_all(sink, frame.bytes())?;
-    Ok(())
-}
 
 /// Plays one event. How many frames it made is the result. `Err`: the event is a frame, of which the sink took so many
 /// bytes, fewer than all.
@@ -56,7 +39,7 @@ fn play_event<'a, S: Store, K: Sink>(
             Ok(0)
         }
         Event::Frame => {
-            play_frame(player, sink)?;
+            player.put_frame(sink)?;
             Ok(1)
         }
     }

@@ -6,31 +6,17 @@ ghost use Rattle.mux_config.specs.Facts.{Marked};
 ghost use Rattle.fib_codec.specs.declared.modes.Mode.{Mode};
 ghost use Rattle.fib_carousel.specs.Pages.{page_after};
 ghost use Rattle.fib_carousel.specs.Bytes.{page_bytes};
-ghost use Rattle.fib_carousel.specs.Kept.{IsKept};
 ghost use Rattle.plan_runs.specs.Frames.{is_first_noticed, shown, shown_bytes, sent_entries, sent_rounds, with_next_counts, frame_bytes, frame_steps, after_frame};
 ghost use Rattle.plan_runs.specs.TypedRuns.{CanBeSent};
 ghost use Rattle.plan_machine.specs.Positions.{state_of};
-ghost use Rattle.plan_player.specs.Phase.{Keeps, HasChange, IsFrameReady};
+ghost use Rattle.plan_player.specs.Phase.{HasPage, Keeps, Shows, HasChange, IsFrameReady};
 
-use crate::phase_pages::{PhasePages, held, make_if_new};
-use fib_carousel::KeptPage;
-use fib_codec::FibFrame;
+use crate::phase_pages::{PhasePages, Sent, held, make_if_new};
 use mux_config::{Ensemble, Store, change};
 use plan_code::{Code, Plan};
 use plan_machine::{
     Machine, begin, begin_notice, ensemble, is_first_noticed, next_sent, page_after, pass, run,
 };
-
-/// The FIBs of a page, with this FIG 0/0 where there is one.
-fn with_ensemble(page: &KeptPage, ensemble: Option<Ensemble>) -> FibFrame
-    ensures { (mode : Mode) (ms : List Marked) (k : ℕ)
-        → IsKept mode ms k page.now → result ≡ page_bytes mode ensemble k ms }
-{
-    match ensemble {
-        Some(ensemble) => page.with_ensemble(ensemble),
-        None => page.without_ensemble(),
-    }
-}
 
 /// Makes the page in turn of what the machine sends, where it wasn't yet in this phase.
 fn make_page_to_send<S: Store>(plan: &Plan, machine: &Machine<S>, pages: &mut PhasePages)
@@ -41,38 +27,40 @@ fn make_page_to_send<S: Store>(plan: &Plan, machine: &Machine<S>, pages: &mut Ph
     ensures keeps { let s = state_of S.content machine.now in
         Keeps plan.now.mode (sent_entries plan.now s) s.turn pages.new }
     ensures made { machine.now.turn < pages.new.made }
-    ensures count { pages.new.count ≡ sent_rounds plan.now (state_of S.content machine.now) }
     ensures change { pages.new.change ≡ pages.old.change }
 {
     let next = next_sent(plan, machine);
     make_if_new(pages, plan.mode, machine.turn, &machine.current, next);
 }
 
-/// The page that the machine sends, which was made.
-fn page_to_send<'a, S: Store>(
-    plan: &Plan,
-    machine: &Machine<S>,
-    pages: &'a PhasePages,
-) -> &'a KeptPage
-    requires keeps { let s = state_of S.content machine.now in
-        Keeps plan.now.mode (sent_entries plan.now s) s.turn pages.now }
-    requires made { machine.now.turn < pages.now.made }
-    ensures { let s = state_of S.content machine.now in
-        IsKept plan.now.mode (sent_entries plan.now s) s.turn result.now }
+/// Makes a frame of the page of this number, which was made: with this FIG 0/0 where there is one.
+fn show(pages: &mut PhasePages, number: u8, ensemble: Option<Ensemble>)
+    requires { (mode : Mode) × (ms : List Marked) × HasPage mode ms number pages.old.pages }
+    ensures bytes { (mode : Mode) (ms : List Marked) → HasPage mode ms number pages.old.pages
+        → Shows pages.new (page_bytes mode ensemble number ms) }
+    ensures keeps { (mode : Mode) (ms : List Marked) (turn : ℕ) →
+        Keeps mode ms turn pages.old → Keeps mode ms turn pages.new }
+    ensures made { pages.new.made ≡ pages.old.made }
+    ensures change { pages.new.change ≡ pages.old.change }
 {
-    let _notice = plan.notice;
-    held(&pages.pages, machine.turn)
+    match ensemble {
+        Some(ensemble) => {
+            held(&pages.pages, number).with_ensemble(ensemble, &mut pages.headed);
+            pages.sent = Sent::Headed;
+        }
+        None => pages.sent = Sent::Kept(number),
+    }
 }
 
-/// Sends the page in turn, and takes the counts forward.
-fn send<S: Store>(plan: &Plan, machine: &mut Machine<S>, pages: &mut PhasePages) -> FibFrame
+/// Makes a frame of the page in turn, and takes the counts forward.
+fn send<S: Store>(plan: &Plan, machine: &mut Machine<S>, pages: &mut PhasePages)
     requires sent { CanBeSent plan.now (state_of S.content machine.old) }
     requires few { sent_rounds plan.now (state_of S.content machine.old) ≤ 60 }
     requires keeps { let s = state_of S.content machine.old in
         Keeps plan.now.mode (sent_entries plan.now s) s.turn pages.old }
     requires change { let s = state_of S.content machine.old in
         HasChange plan.now.notice s.left s.current s.next pages.old.change }
-    ensures bytes { result ≡ shown_bytes plan.now (state_of S.content machine.old) }
+    ensures bytes { Shows pages.new (shown_bytes plan.now (state_of S.content machine.old)) }
     ensures state { state_of S.content machine.new ≡
         with_next_counts plan.now (state_of S.content machine.old) }
     ensures keeps { let s = state_of S.content machine.old in
@@ -82,9 +70,8 @@ fn send<S: Store>(plan: &Plan, machine: &mut Machine<S>, pages: &mut PhasePages)
 {
     make_page_to_send(plan, machine, pages);
     let ensemble = ensemble(plan, machine, pages.change);
-    let frame = with_ensemble(page_to_send(plan, machine, pages), ensemble);
-    pass(page_after(pages.count, machine.turn), machine);
-    frame
+    show(pages, machine.turn, ensemble);
+    pass(page_after(pages.count(), machine.turn), machine);
 }
 
 /// Lets the pages go, where a phase begins.
@@ -137,15 +124,15 @@ fn prepare<S: Store>(
     steps
 }
 
-/// Makes one frame. How many instructions it carried out is the second result.
+/// Makes one frame, which the pages then show. How many instructions it carried out is the result.
 pub(crate) fn make_frame<S: Store>(
     code: &Code,
     machine: &mut Machine<S>,
     pages: &mut PhasePages,
-) -> (FibFrame, u8)
+) -> u8
     requires ready { IsFrameReady code.now (state_of S.content machine.old) pages.old }
-    ensures bytes { result.0 ≡ frame_bytes code.now (state_of S.content machine.old) }
-    ensures steps { result.1 ≡ frame_steps code.now (state_of S.content machine.old) }
+    ensures bytes { Shows pages.new (frame_bytes code.now (state_of S.content machine.old)) }
+    ensures steps { result ≡ frame_steps code.now (state_of S.content machine.old) }
     ensures state { state_of S.content machine.new ≡
         after_frame code.now (state_of S.content machine.old) }
     ensures keeps { let u = shown code.now (state_of S.content machine.old) in
@@ -157,5 +144,6 @@ pub(crate) fn make_frame<S: Store>(
     let plan = code.plan();
     let steps = prepare(code, &plan, machine, pages);
     note_change(&plan, machine, pages);
-    (send(&plan, machine, pages), steps)
+    send(&plan, machine, pages);
+    steps
 }

@@ -1,21 +1,24 @@
 //! The player.
 
-ghost use Rattle.std.specs.Prelude.{◌≡◌, ◌≤◌, Some, None, IfOk};
+ghost use Rattle.std.specs.Prelude.{◌≡◌, ◌<◌, ◌≤◌, [], ◌∷◌, length, take, true, false, Some, None, IfOk, IfErr, OnOk, OnErr};
 ghost use Rattle.std.specs.Result.{result_err};
+ghost use Rattle.std.specs.Io.KnownBytes.{Appends};
 ghost use Rattle.mux_config.specs.Sound.{IsSound};
 ghost use Rattle.plan_code.specs.Program.{line_at};
-ghost use Rattle.plan_runs.specs.declared.event.Event.TheVariants.{Contact};
+ghost use Rattle.plan_runs.specs.declared.event.Event.TheVariants.{Contact, Frame};
 ghost use Rattle.plan_runs.specs.Frames.{frame_bytes, frame_steps, after_frame};
 ghost use Rattle.plan_runs.specs.Runs.{IsInRange, happens};
 ghost use Rattle.plan_runs.specs.TypedRuns.{IsPlayed};
 ghost use Rattle.plan_runs.specs.Announced.{FrameRuns, heard_of};
 ghost use Rattle.plan_runs.specs.RightBytes.{FrameIsRight};
 ghost use Rattle.plan_machine.specs.Positions.{state_of};
-ghost use Rattle.plan_player.specs.Playing.{start_fault, BeginsWith};
+ghost use Rattle.plan_player.specs.Playing.{start_fault, BeginsWith, played};
+ghost use Rattle.plan_player.specs.Delivery.{next_frame};
 
 use crate::fault::StartFault;
 use crate::frame_step::make_frame;
 use crate::phase_pages::PhasePages;
+use crate::sink::{Sink, put_all};
 use fib_codec::FibFrame;
 use mux_config::Store;
 use plan_code::limits::{COUNTS, FRAMES_A_DAY};
@@ -127,9 +130,25 @@ impl<'a, S: Store> Player<'a, S> {
     {
         let code = self.code.code();
         promise(code, &self.machine);
-        let (frame, steps) = make_frame(code, &mut self.machine, &mut self.pages);
-        self.steps = steps;
-        frame
+        self.steps = make_frame(code, &mut self.machine, &mut self.pages);
+        *self.pages.frame()
+    }
+
+    /// Makes the next frame, and puts it into the sink. `Err`: the sink took so many of its bytes, fewer than all.
+    pub(crate) fn put_frame<K: Sink>(&mut self, sink: &mut K) -> Result<(), usize>
+        requires working { K.has_failed sink.old ≡ false }
+        ensures state { self.new ≡ played self.old (Frame ∷ []) }
+        ensures bytes { OnOk result
+            (Appends (K.taken sink.old) (K.taken sink.new) (next_frame self.old)) }
+        ensures works { OnOk result (K.has_failed sink.new ≡ false) }
+        ensures bound { IfErr result (λ n. n < length (next_frame self.old)) }
+        ensures part { IfErr result (λ n.
+            Appends (K.taken sink.old) (K.taken sink.new) (take n (next_frame self.old))) }
+        ensures fails { OnErr result (K.has_failed sink.new ≡ true) }
+    {
+        let code = self.code.code();
+        self.steps = make_frame(code, &mut self.machine, &mut self.pages);
+        put_all(sink, self.pages.frame().bytes())
     }
 
     /// The current configuration, in every state a sound one.

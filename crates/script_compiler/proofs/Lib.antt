@@ -1,3 +1,4 @@
+mod Paths
 mod Trees
 mod Weight
 mod Arms

@@ -1,12 +1,18 @@
 -- The table of configurations grows at its end.
-use Rattle.std.proofs.Common.{◌≡◌, ◌≢◌, ℕ, zero, suc, ◌+◌, ◌<◌, ◌≤◌, ◌⊎◌, List, [], ◌∷◌, ◌++◌, length, Some, refl, sym, ap, ◌∙◌, subst, arith, inl, inr, get_or, drop, drop-cons, add-one, append_assoc, append-nil}
+use Rattle.std.proofs.Common.{◌≡◌, ◌≢◌, ℕ, zero, suc, ◌+◌, ◌<◌, ◌≤◌, ◌⊎◌, List, [], ◌∷◌, ◌++◌, length, Some, refl, sym, ap, ◌∙◌, subst, arith, inl, inr, get_or, drop, drop-cons, Contains, add-one, append_assoc, append-nil}
 use Rattle.std.proofs.lemmas.List.{drop_all}
-use Rattle.std.specs.Prelude.{slice_get}
+use Rattle.std.specs.Prelude.{slice_get, slice_index}
+use Rattle.std.proofs.lemmas.List.Elements.{Contains-push_cases}
 use Rattle.std.proofs.lemmas.Option.{slice_get_within, slice_get-get_or}
 use Rattle.mux_config.specs.Configuration.{Configuration}
 use Rattle.plan_code.specs.declared.label.Label.{Label}
 use Rattle.script_scheme.specs.declared.flow.Mark.{Mark}
-use Rattle.script_scheme.specs.Compiled.{Added, Tabled, IsLabelOf, AreLabelsOf, first_counters}
+use Rattle.plan_code.specs.declared.instr.Line.{Line}
+use Rattle.plan_code.specs.Program.{Program}
+use Rattle.script_scheme.specs.Need.{IsNeed}
+use Rattle.script_scheme.specs.Compiled.{Added, Tabled, IsLabelOf, AreLabelsOf, CostsItsNeeds, first_counters, instrs_of}
+use Rattle.script_compiler.specs.Longest.{longest, Priced}
+use Rattle.script_compiler.proofs.Paths.{within_from, is_need}
 use Rattle.script_compiler.specs.Laying.{Grows, Names}
 
 pub stays : (xs ys : List Configuration) (i : ℕ) (c : Configuration) → slice_get xs i ≡ Some c → slice_get (xs ++ ys) i ≡ Some c
@@ -96,3 +102,34 @@ told_all ms k labels table le told =
     let first = told.tabled table (subst (λ (xs : List Mark). Tabled table xs table) (sym none) refl) in
     let second = told.labelled table [] (λ i c e. e) (subst (λ (xs : List Mark). AreLabelsOf table xs []) (sym none) refl) in
     (first, subst (λ (xs : List Label). AreLabelsOf table ms xs) (append-nil labels) second)
+
+-- ---- what labels cost
+
+-- labels of the first marks, with their table and their costs
+pub record Made (needs : List ℕ) (table : List Configuration) (labels : List Label) (ms : List Mark) (k : ℕ) : Type 0 where
+  pub told : Told table labels ms k
+  pub priced : Priced needs labels
+
+priced_push : (needs : List ℕ) (labels : List Label) (l : Label) → l.cost ≡ slice_index needs l.pc → Priced needs labels → Priced needs (labels ++ l ∷ [])
+priced_push needs labels l cost priced = λ x has. elim (Contains-push_cases labels l x has) [
+  | inl before ↦ priced x before
+  | inr same ↦ subst (λ (y : Label). y.cost ≡ slice_index needs y.pc) same cost
+]
+
+pub made_next : (needs : List ℕ) (ms : List Mark) (k : ℕ) (m : Mark) (l : Label) (labels new : List Label) (table both : List Configuration) → m ≡ get_or ms k m → k < length ms → new ≡ labels ++ l ∷ []
+    → Names table m l both → length both ≤ 256 → l.cost ≡ slice_index needs l.pc → Made needs table labels ms k → Made needs both new ms (k + 1)
+made_next needs ms k m l labels new table both is lt e n room cost made =
+    subst (λ (xs : List Label). Made needs both xs ms (k + 1)) (sym e) (record { told = told_next ms k m l labels table both is lt n room made.told; priced = priced_push needs labels l cost made.priced })
+
+pub made_first : (needs : List ℕ) (ms : List Mark) → Made needs [] [] ms 0
+made_first needs ms = record { told = told_first ms; priced = λ x has. absurd (omega (arith, has.1)) }
+
+-- labels that cost the numbers of the longest paths cost what the code needs, where these are within the budget
+pub costs_needs : (code : Program) (lines : List Line) (labels : List Label) (needs : List ℕ) (budget : ℕ) → code.lines ≡ lines → code.labels ≡ labels
+    → ((pc : ℕ) → slice_index needs pc ≡ longest (instrs_of lines) (budget + 1) pc) → ((pc : ℕ) → slice_index needs pc ≤ budget) → Priced needs labels → CostsItsNeeds code
+costs_needs code lines labels needs budget same_lines same_labels each within priced l has =
+    let has' : Contains labels l = subst (λ (ls : List Label). Contains ls l) same_labels has in
+    let all = within_from (instrs_of lines) budget (λ pc. let e = each pc in let h = within pc in omega (arith, e, h)) in
+    let cost : l.cost ≡ longest (instrs_of lines) (budget + 1) l.pc = priced l has' ∙ each l.pc in
+    let need : IsNeed (instrs_of lines) l.pc l.cost = subst (λ n. IsNeed (instrs_of lines) l.pc n) (sym cost) (is_need (instrs_of lines) budget l.pc all) in
+    subst (λ (ls : List Line). IsNeed (instrs_of ls) l.pc l.cost) (sym same_lines) need

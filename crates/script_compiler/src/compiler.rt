@@ -1,10 +1,16 @@
 //! From scripts to codes.
 
-ghost use Rattle.std.specs.Prelude.{◌≡◌, ◌≤◌, length, map, IfOk};
+ghost use Rattle.std.specs.Prelude.{◌≡◌, ◌≢◌, ℕ, ◌<◌, ◌≤◌, length, map, slice_index, IsOk, IfOk, IfErr};
 ghost use Rattle.script_scheme.specs.Scheme.{falls_out, all_places, marks_of};
-ghost use Rattle.script_scheme.specs.Compiled.{plan_of, lines_of, body_of, beginning, IsCodeOf};
+ghost use Rattle.script_scheme.specs.Compiled.{plan_of, lines_of, body_of, beginning, opening_of, places_of, instrs_of, AreFine, IsCodeOf, CostsItsNeeds};
+ghost use Rattle.script_scheme.specs.Need.{IsWithin};
+ghost use Rattle.mux_config.specs.Configuration.{nothing};
+ghost use Rattle.mux_config.specs.Sound.{IsSound};
 ghost use Rattle.script_compiler.specs.Laying.{tables, lays_nothing};
-ghost use Rattle.plan_verifier.specs.Typing.{IsTyped};
+ghost use Rattle.script_compiler.specs.declared.fault.CompileFault.TheVariants.{Memory};
+ghost use Rattle.plan_code.specs.Program.{IsProgram};
+ghost use Rattle.plan_verifier.specs.Typing.{IsTyped, pages_alone};
+ghost use Rattle.script_meaning.specs.Meaning.{PlaysAsItReads};
 
 use crate::accepted::test_typed;
 use crate::cost::first_round;
@@ -18,6 +24,7 @@ use mux_config::Config;
 use plan_code::{Code, Line, Plan};
 use plan_verifier::Cause;
 use script_front::{Script, Statement};
+use script_meaning::laws;
 use script_scheme::{Flow, Spot};
 use std::alloc::{AllocError, Global};
 
@@ -65,6 +72,7 @@ fn lay(alloc: Global, plan: &Plan, script: &Script, config: &Config) -> Result<W
         script.now.last_line (body_of script.now) (beginning config.now))) }
     ensures marks { IfOk result (λ w. w.marks.items ≡ marks_of 0 (all_places plan.now
         script.now.last_line (body_of script.now) (beginning config.now))) }
+    ensures room { IfOk result (λ w. length w.lines.items ≤ 4096) }
 {
     let known = known_of(alloc, script.blocks())?;
     let silent = silent_of(alloc, script.blocks())?;
@@ -105,12 +113,11 @@ fn line_at(lines: &[Line], pc: usize) -> u16 {
 
 /// Whether every need is within the budget: refused is `Cost`, at the first instruction that goes back on a round
 /// without a suspension, and where there is none at the first whose need is over the budget.
-fn test_costs(
-    alloc: Global,
-    lines: &[Line],
-    needs: &[u16],
-    budget: u8,
-) -> Result<(), CompileFault> {
+fn test_costs(alloc: Global, lines: &[Line], needs: &[u16], budget: u8) -> Result<(), CompileFault>
+    ensures within { IsOk result → (pc : ℕ) → slice_index needs.now pc ≤ budget }
+    ensures refused { IfErr result (λ e. e ≢ Memory → (pc : ℕ) × (budget
+        < slice_index needs.now pc)) }
+{
     let Some(over) = first_over(needs, budget) else {
         return Ok(());
     };
@@ -121,9 +128,23 @@ fn test_costs(
     Err(refused(line_at(lines, pc), Cause::Cost))
 }
 
+/// The law of scripts, of a code that is a script's.
+fn promise(script: &Script, code: &Code)
+    requires formed { IsProgram code.now }
+    requires code { IsCodeOf script.now code.now }
+    requires typed { IsTyped code.now }
+    ensures { PlaysAsItReads script.now code.now }
+{
+    laws::scripts();
+}
+
 /// The code of a script: what its statements lay down, one after another, after the opening that its items make. Its
-/// instructions, its lines, its labels and its table of configurations are those of `IsCodeOf`, and it is typed, so that
-/// the verifier accepts it; its labels' costs are at least what a typed code needs.
+/// instructions, its lines, its labels and its table of configurations are those of `IsCodeOf`; each label costs what the
+/// code needs from there, the most instructions that can run in one frame; and it is typed, so that the verifier accepts
+/// it. It plays as the script reads: from every start in range, over every list of contact changes and frames, the
+/// current and the next configuration, the frames until the swap and the CIF count are those to which the statements of
+/// the script lead. There is a code only where the items have no fault, the opening that they make is sound and goes out
+/// within the period, and no path of the code is longer than the budget.
 ///
 /// # Errors
 ///
@@ -134,7 +155,15 @@ fn test_costs(
 /// budget can run in one frame.
 pub fn compile(alloc: Global, script: &Script) -> Result<Code, CompileFault>
     ensures code { IfOk result (λ c. IsCodeOf script.now c) }
+    ensures costs { IfOk result (λ c. CostsItsNeeds c) }
+    ensures made { IsOk result → AreFine script.now.items nothing }
+    ensures sound { IsOk result → IsSound (opening_of script.now) }
+    ensures within_period { IsOk result → pages_alone (plan_of script.now)
+        (opening_of script.now) ≤ script.now.header.period }
+    ensures within_budget { IsOk result → IsWithin script.now.header.budget
+        (instrs_of (lines_of (places_of script.now))) }
     ensures typed { IfOk result (λ c. IsTyped c) }
+    ensures plays { IfOk result (λ c. PlaysAsItReads script.now c) }
 {
     let plan = plan_of(script);
     let config = built(script.items())?;
@@ -145,7 +174,10 @@ pub fn compile(alloc: Global, script: &Script) -> Result<Code, CompileFault>
     let made = labels_of(alloc, &work.marks, &costs)?;
     test_typed(alloc, plan, &made.configs, &made.labels, &work.lines)?;
     match Code::new(plan, made.configs, made.labels, work.lines) {
-        Some(code) => Ok(code),
+        Some(code) => {
+            promise(script, &code);
+            Ok(code)
+        }
         None => Err(CompileFault::Limit),
     }
 }

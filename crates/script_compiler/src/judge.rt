@@ -3,7 +3,7 @@
 ghost use Rattle.std.specs.Prelude.{◌≡◌, OnOk};
 ghost use Rattle.mux_config.specs.Edits.{changed};
 ghost use Rattle.plan_code.specs.declared.instr.Instr.TheVariants.{CommitIn, CommitAt};
-ghost use Rattle.plan_verifier.specs.Typing.{swapped, waited, paused, perhaps_swapped, settled};
+ghost use Rattle.plan_verifier.specs.Typing.{pages_alone, swapped, waited, paused, perhaps_swapped, settled};
 ghost use Rattle.script_scheme.specs.Scheme.{known_at, flow_of, moved, instr_of};
 
 use crate::fault::CompileFault;
@@ -54,7 +54,9 @@ fn change(edit: Edit, flow: &mut Flow) -> Result<(), Cause>
 }
 
 /// How many pages a configuration takes by itself.
-pub(crate) fn pages_alone(plan: &Plan, config: &Config) -> usize {
+pub(crate) fn pages_alone(plan: &Plan, config: &Config) -> usize
+    ensures { result ≡ pages_alone plan.now config.now }
+{
     let alone: Option<&Config> = None;
     pages(plan.mode, config, alone)
 }

@@ -1,11 +1,12 @@
 //! The labels of a code, and the configurations that they name.
 
-ghost use Rattle.std.specs.Prelude.{◌≡◌, ◌≤◌, [], ◌∷◌, ◌++◌, length, OnOk, IfOk, IfSome};
+ghost use Rattle.std.specs.Prelude.{◌≡◌, ℕ, ◌≤◌, [], ◌∷◌, ◌++◌, length, slice_index, OnOk, IfOk, IfSome};
 ghost use Rattle.script_scheme.specs.Compiled.{first_counters, Tabled, AreLabelsOf};
 ghost use Rattle.script_compiler.specs.Laying.{Names};
+ghost use Rattle.script_compiler.specs.Longest.{Priced};
 
 use crate::fault::CompileFault;
-use crate::needs::{at, cost_of};
+use crate::needs::at;
 use crate::table::index_of;
 use mux_config::Config;
 use plan_code::{CounterId, Counters, Label};
@@ -35,9 +36,11 @@ fn first_counters(count: u8) -> Option<Counters>
 
 /// The label that stands at a mark.
 fn label_of(mark: &Mark, needs: &[u16], configs: &mut Vec<Config>) -> Result<Label, CompileFault>
-    requires { length configs.old.items ≤ 256 }
+    requires room { length configs.old.items ≤ 256 }
+    requires bytes { (pc : ℕ) → slice_index needs.now pc ≤ 255 }
     ensures room { OnOk result (length configs.new.items ≤ 256) }
     ensures made { IfOk result (λ l. Names configs.old.items mark.now l configs.new.items) }
+    ensures cost { IfOk result (λ l. l.cost ≡ slice_index needs.now l.pc) }
 {
     let Some(counters) = first_counters(mark.repeats) else {
         return Err(CompileFault::Limit);
@@ -50,7 +53,7 @@ fn label_of(mark: &Mark, needs: &[u16], configs: &mut Vec<Config>) -> Result<Lab
         next,
         pending: mark.flow.pending,
         counters,
-        cost: cost_of(at(needs, usize::from(mark.pc))),
+        cost: at(needs, usize::from(mark.pc)) as u8,
     })
 }
 
@@ -74,8 +77,10 @@ pub(crate) fn labels_of(
     marks: &[Mark],
     needs: &[u16],
 ) -> Result<Labels, CompileFault>
+    requires { (pc : ℕ) → slice_index needs.now pc ≤ 255 }
     ensures table { IfOk result (λ l. Tabled [] marks.now l.configs.items) }
     ensures labels { IfOk result (λ l. AreLabelsOf l.configs.items marks.now l.labels.items) }
+    ensures costs { IfOk result (λ l. Priced needs.now l.labels.items) }
 {
     let mut configs = Vec::new(alloc);
     let mut labels = Vec::new(alloc);

@@ -21,6 +21,3 @@ mod work;
 
 pub use compiler::compile;
 pub use fault::CompileFault;
-
-#[cfg(test)]
-mod tests;

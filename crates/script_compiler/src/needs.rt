@@ -1,6 +1,8 @@
 //! How many instructions can run from each place of a code in one frame.
 
-ghost use Rattle.std.specs.Prelude.{◌≡◌, ◌≤◌, ◌<◌, ℕ, length, slice_index, IfOk};
+ghost use Rattle.std.specs.Prelude.{◌≡◌, ◌+◌, ◌≤◌, ◌<◌, ℕ, length, slice_get, slice_index, Some, None, IfOk, IfSome, max};
+ghost use Rattle.script_scheme.specs.Compiled.{instrs_of};
+ghost use Rattle.script_compiler.specs.Longest.{need_at, longest};
 
 use plan_code::{Instr, Line};
 use std::alloc::{AllocError, Global};
@@ -16,44 +18,42 @@ pub(crate) fn at(numbers: &[u16], place: usize) -> u16
 }
 
 /// The greater of two.
-fn greater(a: u16, b: u16) -> u16 {
+fn greater(a: u16, b: u16) -> u16
+    ensures { result ≡ max a b }
+{
     if a < b { b } else { a }
 }
 
-/// One more than a need; it stays at 256, which is over every budget.
-fn one_more(need: u16) -> u16
-    ensures { result ≤ 256 }
-{
-    if need < 255 { need + 1 } else { 256 }
-}
-
 /// The longest path from one place, where those of one instruction less are known.
-fn need_of(instr: Instr, pc: usize, further: &[u16]) -> u16 {
+fn need_of(instr: Instr, pc: usize, further: &[u16]) -> u16
+    requires bound { (to : ℕ) → slice_index further.now to ≤ 256 }
+    requires place { pc < 4096 }
+    ensures { result ≡ need_at (Some instr) pc (λ to. slice_index further.now to) }
+{
     match instr {
         Instr::Wait(_) => 1,
         Instr::Until(_) => 1,
         Instr::WaitContact { .. } => 1,
         Instr::Join => 1,
         Instr::End => 1,
-        Instr::Jump(target) => one_more(at(further, usize::from(target))),
+        Instr::Jump(target) => 1 + at(further, usize::from(target)),
         Instr::Test { target, .. } => {
-            one_more(greater(
-                at(further, pc.saturating_add(1)),
-                at(further, usize::from(target)),
-            ))
+            1 + greater(at(further, pc + 1), at(further, usize::from(target)))
         }
         Instr::Loop { target, .. } => {
-            one_more(greater(
-                at(further, pc.saturating_add(1)),
-                at(further, usize::from(target)),
-            ))
+            1 + greater(at(further, pc + 1), at(further, usize::from(target)))
         }
-        _ => one_more(at(further, pc.saturating_add(1))),
+        _ => 1 + at(further, pc + 1),
     }
 }
 
 /// The longest paths by one instruction more.
-fn round(alloc: Global, lines: &[Line], further: &[u16]) -> Result<Vec<u16>, AllocError> {
+fn round(alloc: Global, lines: &[Line], further: &[u16]) -> Result<Vec<u16>, AllocError>
+    requires bound { (to : ℕ) → slice_index further.now to ≤ 256 }
+    requires room { length lines.now ≤ 4096 }
+    ensures { IfOk result (λ v. (pc : ℕ) → slice_index v.items pc
+        ≡ need_at (slice_get (instrs_of lines.now) pc) pc (λ to. slice_index further.now to)) }
+{
     let mut next = Vec::new(alloc);
     for (pc, line) in lines.iter().enumerate() {
         next.push(need_of(line.instr, pc, further))?;
@@ -61,8 +61,12 @@ fn round(alloc: Global, lines: &[Line], further: &[u16]) -> Result<Vec<u16>, All
     Ok(next)
 }
 
-/// The longest paths of at most so many instructions and one.
-pub(crate) fn needs(alloc: Global, lines: &[Line], budget: u8) -> Result<Vec<u16>, AllocError> {
+/// The longest paths of at most so many instructions and one. Where none is over the budget, they are the needs.
+pub(crate) fn needs(alloc: Global, lines: &[Line], budget: u8) -> Result<Vec<u16>, AllocError>
+    requires room { length lines.now ≤ 4096 }
+    ensures { IfOk result (λ v. (pc : ℕ) → slice_index v.items pc
+        ≡ longest (instrs_of lines.now) (budget + 1) pc) }
+{
     let mut further = Vec::new(alloc);
     for _turn in 0..u16::from(budget) + 1 {
         further = round(alloc, lines, &further)?;
@@ -71,16 +75,14 @@ pub(crate) fn needs(alloc: Global, lines: &[Line], budget: u8) -> Result<Vec<u16
 }
 
 /// The first place whose need is over the budget, if there is one.
-pub(crate) fn first_over(needs: &[u16], budget: u8) -> Option<usize> {
+pub(crate) fn first_over(needs: &[u16], budget: u8) -> Option<usize>
+    ensures none { result ≡ None → (pc : ℕ) → slice_index needs.now pc ≤ budget }
+    ensures some { IfSome result (λ pc. budget < slice_index needs.now pc) }
+{
     for (pc, need) in needs.iter().enumerate() {
         if *need > u16::from(budget) {
             return Some(pc);
         }
     }
     None
-}
-
-/// A need as a label's cost; one over 255 is over every budget.
-pub(crate) fn cost_of(need: u16) -> u8 {
-    if need < 255 { need as u8 } else { 255 }
 }

@@ -1,9 +1,11 @@
 //! The configuration that a script begins with.
 
-ghost use Rattle.std.specs.Prelude.{◌≡◌, OnOk, IfOk};
+ghost use Rattle.std.specs.Prelude.{◌≡◌, ◌≤◌, None, OnOk, IsOk, IfOk};
 ghost use Rattle.mux_config.specs.Configuration.{nothing};
-ghost use Rattle.mux_config.specs.Edits.{changed};
-ghost use Rattle.script_scheme.specs.Compiled.{with_items};
+ghost use Rattle.mux_config.specs.Edits.{changed, edit_fault};
+ghost use Rattle.mux_config.specs.Sound.{IsSound};
+ghost use Rattle.plan_verifier.specs.Typing.{pages_alone};
+ghost use Rattle.script_scheme.specs.Compiled.{with_items, AreFine};
 
 use crate::fault::CompileFault;
 use crate::judge::pages_alone;
@@ -15,7 +17,8 @@ use script_front::Item;
 
 /// One item: refused is `Edit` at its line.
 fn add(item: &Item, config: &mut Config) -> Result<(), CompileFault>
-    ensures { OnOk result (config.new ≡ changed item.now.edit config.old) }
+    ensures made { OnOk result (config.new ≡ changed item.now.edit config.old) }
+    ensures fine { IsOk result → edit_fault item.now.edit config.old ≡ None }
 {
     if let Err(fault) = item.edit.apply(config) {
         return Err(refused(item.line, Cause::Edit(fault)));
@@ -25,7 +28,8 @@ fn add(item: &Item, config: &mut Config) -> Result<(), CompileFault>
 
 /// The items, one after another, on the empty configuration: refused is `Edit` at the item's line.
 pub(crate) fn built(items: &[Item]) -> Result<Config, CompileFault>
-    ensures { IfOk result (λ c. c ≡ with_items items.now nothing) }
+    ensures made { IfOk result (λ c. c ≡ with_items items.now nothing) }
+    ensures fine { IsOk result → AreFine items.now nothing }
 {
     let mut config = Config::empty();
     for item in items {
@@ -37,7 +41,10 @@ pub(crate) fn built(items: &[Item]) -> Result<Config, CompileFault>
 }
 
 /// Whether a script can begin so: refused are `Config` and `Round`.
-pub(crate) fn test(plan: &Plan, config: &Config, line: u16) -> Result<(), CompileFault> {
+pub(crate) fn test(plan: &Plan, config: &Config, line: u16) -> Result<(), CompileFault>
+    ensures sound { IsOk result → IsSound config.now }
+    ensures within { IsOk result → pages_alone plan.now config.now ≤ plan.now.period }
+{
     if let Err(fault) = soundness(config) {
         return Err(refused(line, Cause::Config(fault)));
     }

@@ -368,9 +368,10 @@ impl Work {
 
     /// The end of a script: an end follows, where it falls out.
     pub(crate) fn close(&mut self, falls: bool, line: u16) -> Result<(), CompileFault>
-        requires { length self.old.lines.items ≤ 4096 }
+        requires room { length self.old.lines.items ≤ 4096 }
         ensures lays { OnOk result (Lays self.old self.new (onward (way falls self.old) []
             (alone line End 0))) }
+        ensures room { OnOk result (length self.new.lines.items ≤ 4096) }
     {
         if !falls {
             return Ok(());

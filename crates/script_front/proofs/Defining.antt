@@ -1,5 +1,5 @@
 -- Items and defined blocks, one more at a time.
-use Rattle.std.proofs.Common.{◌≡◌, ◌≢◌, ℕ, zero, suc, ◌+◌, ◌<◌, List, [], ◌∷◌, ◌++◌, length, length-append, Some, slice_get, refl, sym, ap, ◌∙◌, subst, arith}
+use Rattle.std.proofs.Common.{◌≡◌, ◌≢◌, ℕ, zero, suc, ◌+◌, ◌<◌, List, [], ◌∷◌, ◌++◌, length, length-append, append_assoc, Some, slice_get, refl, sym, ap, ◌∙◌, subst, arith}
 use Rattle.std.specs.Prelude.{Vec}
 use Rattle.std.specs.Global.{Global}
 use Rattle.std.specs.List.{All}
@@ -15,6 +15,7 @@ use Rattle.script_front.specs.Words.{letters}
 use Rattle.script_front.specs.Reading.{Input, Passes, line_at, line_of}
 use Rattle.script_front.specs.Spelled.{Spelled, name_at, block_words, header_words, items_words, defined_words, begin_words, ItemsOn, BlockOn, DefinedOn}
 use Rattle.script_front.specs.Parsing.{IsRead, IsDefined, AreDefined, AreItems, IsSpelled, bodies}
+use Rattle.script_front.proofs.Undefined.{one_defined}
 use Rattle.script_front.proofs.Definitions.{name_front, name_last, words_agree, on_agree, defined_agree, defined_on_agree, definition_words, one_definition, defined_more, defined_on_more}
 
 append_nil : (xs : List (List ℕ)) → xs ++ [] ≡ xs
@@ -32,6 +33,7 @@ none_defined n names i is = rw (is) (record {
   spells = refl;
   lined = tt;
   same = refl;
+  only = λ all others rest can. record { later = all; others = others; front = refl; can = can; counts = refl };
 })
 
 fit_more : (k : ℕ) (bs : List (List Statement)) (b : List Statement) → AllFit k bs → Fits (k + length bs) 15 (block_of [] b) → AllFit k (bs ++ b ∷ [])
@@ -104,6 +106,17 @@ define_more names more old mid new i j k bs cs b is room d h =
       spells = rw (bodies_more bs b) spelled.1;
       lined = rw (bodies_more bs b) (more_lined names d.name i.lines j k (bodies bs) b.items len h.fit body.fits spelled.0 h.lined on);
       same = body.same ∙ d.begins.1 ∙ h.same;
+      only = λ all others rest can. (
+          let x = h.only all others rest can in
+          let y = one_defined names d.name mid new j d.middle k (block_of [] b.items) x.later x.others rest d.begins body x.can in
+          record {
+            later = y.later;
+            others = y.others;
+            front = x.front ∙ ap (λ (ns : List (List ℕ)). names ++ ns) y.first ∙ sym (append_assoc names (d.name ∷ []) y.later);
+            can = y.can;
+            counts = (let p = x.counts in let q = y.counts in omega (arith, p, q));
+          }
+          );
     })
 
 -- a name that stands nowhere is none of them

@@ -11,6 +11,11 @@ use Rattle.script_front.specs.Reading.{words_of, lines_of}
 use Rattle.script_front.specs.Tree.{Tree}
 use Rattle.script_front.specs.Spelled.{tree_words, HasLines}
 use Rattle.script_front.specs.Denoting.{words_in, IsScriptOf}
+use Rattle.std.specs.Prelude.{Result, Ok}
+use Rattle.script_front.specs.declared.fault.ScriptFault.{ScriptFault}
+use Rattle.script_front.specs.declared.token.Inside.TheVariants.{Nothing}
+use Rattle.script_front.specs.Lexing.{lexed}
+use Rattle.script_front.proofs.Pieces.{texts_are_cut}
 
 after_byte : (p : Place) (k : Kind) → (place_after p k).at ≡ p.at + 1
 after_byte p LineEnd = refl
@@ -65,3 +70,24 @@ is_script text tokens t h spelled lined =
       short = h.0;
       within = subst (λ (ts : List Token). AllFit script_limits ts) (sym cut.are) cut.within;
     }
+
+-- the tokens of a text that is a script's are those of its words
+pub are_tokens : (text : List ℕ) (t : Tree) → (s : IsScriptOf text t) → AreTokens text (tokens_of first_place s.pieces)
+are_tokens text t s = (s.short, record { pieces = s.pieces; formed = s.formed; whole = s.whole; are = refl; within = s.within })
+
+ok_same : (x y : List Token) (r : Result (List Token) ScriptFault) → r ≡ Ok x → r ≡ Ok y → x ≡ y
+ok_same x y r e f = let g = sym e ∙ f in cc
+
+-- they are its only ones
+pub are_its_tokens : (text : List ℕ) (tokens : List Token) (t : Tree) → AreTokens text tokens → (s : IsScriptOf text t) → tokens ≡ tokens_of first_place s.pieces
+are_its_tokens text tokens t h s =
+    let there = are_tokens text t s in
+    let one : lexed script_limits Nothing first_place text ≡ Ok tokens = (texts_are_cut script_limits text tokens).1 h.1 in
+    let other : lexed script_limits Nothing first_place text ≡ Ok (tokens_of first_place s.pieces) = (texts_are_cut script_limits text (tokens_of first_place s.pieces)).1 there.1 in
+    ok_same _ _ _ one other
+
+pub denoted_words : (text : List ℕ) (tokens : List Token) (t : Tree) → AreTokens text tokens → IsScriptOf text t → words_of text tokens ≡ tree_words t
+denoted_words text tokens t h s =
+    let same = are_its_tokens text tokens t h s in
+    let first : words_of (text_of s.pieces) (tokens_of first_place s.pieces) ≡ words_in s.pieces = slices [] first_place s.pieces refl in
+    ap (λ (ts : List Token). words_of text ts) same ∙ ap (λ (b : List ℕ). words_of b (tokens_of first_place s.pieces)) (sym s.whole) ∙ first ∙ s.spelled

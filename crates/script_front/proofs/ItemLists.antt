@@ -1,9 +1,19 @@
 -- Items, one more at a time.
-use Rattle.std.proofs.Common.{◌≡◌, ℕ, List, [], ◌∷◌, ◌++◌, refl, sym, ap, ◌∙◌, subst, append_assoc}
+use Rattle.std.proofs.Common.{◌≡◌, ◌≢◌, ℕ, suc, true, ◌+◌, List, [], ◌∷◌, ◌++◌, length, refl, sym, ap, ◌∙◌, subst, append_assoc, arith}
+use Rattle.std.specs.List.{All}
+use Rattle.mux_config.specs.declared.edit.Edit.{Edit}
+use Rattle.mux_config.specs.declared.edit.Edit.TheVariants.{AddSub, DropSub, MoveSub, RateSub, AddService, DropService, AddComponent, DropComponent, AddPacket, DropPacket}
+use Rattle.mux_config.specs.declared.parts.Component.TheVariants.{Sound, Stream, Packet as InPackets}
+use Rattle.plan_code.specs.Program.{IsEdit}
+use Rattle.script_front.specs.declared.keyword.Keyword.{Keyword}
+use Rattle.script_front.specs.Words.{letters, begins_item}
+use Rattle.script_front.specs.Tree.{IsItem, Adds}
+use Rattle.script_front.proofs.Edits.{same_edit}
+use Rattle.script_front.proofs.Refusing.{edit_key, edit_begins}
 use Rattle.script_front.specs.declared.tree.Item.{Item}
 use Rattle.script_front.specs.Reading.{Input, line_of}
 use Rattle.script_front.specs.Spelled.{Spelled, edit_words, items_words, ItemsOn}
-use Rattle.script_front.specs.Parsing.{IsOneMore, AreItems}
+use Rattle.script_front.specs.Parsing.{IsOneMore, AreItems, NoneOf, BeginsItem, BeginsNoItem, NoItems}
 
 pub no_items : (i : Input) → AreItems [] i i
 no_items i = record { spells = (refl, refl); lined = tt }
@@ -25,3 +35,88 @@ more_items is js i j k one h = rw (one.more) (record {
   lined = on_more i.lines is one.item k.words (subst (λ (ws : Spelled). ItemsOn i.lines is ws) one.spells.0 h.lined)
       (one.line ∙ ap (λ (ls : List ℕ). line_of ls j.words) h.spells.1 ∙ ap (line_of i.lines) one.spells.0);
 })
+
+-- ---- where no item follows
+
+-- what is left of items behind those that were read
+pub record GoOn (old : List Item) (read : ℕ) (words after : Spelled) : Type 0 where
+  pub more : List Item
+  pub formed : All IsItem more
+  pub counts : length old ≡ read + length more
+  pub words_are : words ≡ items_words more ++ after
+
+pub item_first : (i : Item) (is : List Item) (after : Spelled) → items_words (i ∷ is) ++ after ≡ edit_words i.edit ++ (items_words is ++ after)
+item_first i is after = append_assoc (edit_words i.edit) (items_words is) after
+
+pub all_later : (x : Item) (xs : List Item) → All IsItem (x ∷ xs) → All IsItem xs
+all_later x xs h k d lt = h (suc k) d (omega (arith, lt))
+
+adds_first : (e : Edit) → Adds e → begins_item (edit_key e) ≡ true
+adds_first (AddSub s) h = refl
+adds_first (AddService sid) h = refl
+adds_first (AddComponent sid (Sound ty sub)) h = refl
+adds_first (AddComponent sid (Stream ty sub)) h = refl
+adds_first (AddComponent sid (InPackets scid)) h = refl
+adds_first (AddPacket p) h = refl
+adds_first (DropSub id) h = absurd h
+adds_first (MoveSub id start) h = absurd h
+adds_first (RateSub id kbits) h = absurd h
+adds_first (DropService sid) h = absurd h
+adds_first (DropComponent sid m) h = absurd h
+adds_first (DropPacket scid) h = absurd h
+
+-- where no item begins, there is none
+pub none_here : (words : Spelled) (is : List Item) (after : Spelled) → All IsItem is → BeginsNoItem words → words ≡ items_words is ++ after → is ≡ []
+none_here words [] after h none e = refl
+none_here words (i ∷ is) after h none e =
+    absurd (none (edit_key i.edit) _ (adds_first i.edit (h 0 i (omega arith)).1) (e ∙ item_first i is after ∙ edit_begins i.edit (items_words is ++ after)))
+
+pub left_items : (is js : List Item) (after words : Spelled) → All IsItem is → All IsItem js → BeginsNoItem after → items_words js ++ words ≡ items_words is ++ after → GoOn is (length js) words after
+left_items is [] after words h k none e = record { more = is; formed = h; counts = omega arith; words_are = e }
+left_items [] (j ∷ js) after words h k none e =
+    let f = none_here after (j ∷ js) words k none (sym e) in let l = ap length f in absurd (omega (arith, l))
+left_items (i ∷ is) (j ∷ js) after words h k none e =
+    let f : edit_words j.edit ++ (items_words js ++ words) ≡ edit_words i.edit ++ (items_words is ++ after) = sym (item_first j js words) ∙ e ∙ item_first i is after in
+    let s = same_edit j.edit i.edit _ _ (k 0 j (omega arith)).0 (h 0 i (omega arith)).0 f in
+    let g = left_items is js after words (all_later i is h) (all_later j js k) none s.rest in
+    record { more = g.more; formed = g.formed; counts = (let c = g.counts in omega (arith, c)); words_are = g.words_are }
+
+-- an item begins here, and so one is left
+record IsNext (more : List Item) (words after : Spelled) : Type 0 where
+  pub item : Item
+  pub others : List Item
+  pub is : more ≡ item ∷ others
+
+next_item : (more : List Item) (words after : Spelled) → BeginsItem words → BeginsNoItem after → words ≡ items_words more ++ after → IsNext more words after
+next_item [] words after h none e = absurd (none h.first h.rest h.among (sym e ∙ h.begins))
+next_item (x ∷ xs) words after h none e = record { item = x; others = xs; is = refl }
+
+-- no more items may follow, and one does
+pub items_over : (old left : ℕ) (js : List Item) (i j : Input) → All IsItem js → length js + left ≡ old → left ≡ 0 → AreItems js i j → BeginsItem j.words → NoItems old i.words
+items_over old left js i j k count over read begins is after h few none e =
+    let g = left_items is js after j.words h k none (sym read.spells.0 ∙ e) in
+    let n = next_item g.more j.words after begins none g.words_are in
+    let l = ap length n.is in
+    let c = g.counts in
+    omega (arith, l, c, few, count, over)
+
+-- the next item is refused
+pub item_refused : (old left : ℕ) (js : List Item) (i j : Input) → All IsItem js → AreItems js i j → BeginsItem j.words → NoneOf Edit (λ e. IsEdit e × Adds e) edit_words j → NoItems old i.words
+item_refused old left js i j k read begins refuse is after h few none e =
+    let g = left_items is js after j.words h k none (sym read.spells.0 ∙ e) in
+    let n = next_item g.more j.words after begins none g.words_are in
+    let good : All IsItem (n.item ∷ n.others) = subst (All IsItem) n.is g.formed in
+    let f : j.words ≡ items_words (n.item ∷ n.others) ++ after = g.words_are ∙ ap (λ (xs : List Item). items_words xs ++ after) n.is in
+    refuse n.item.edit (items_words n.others ++ after) (good 0 n.item (omega arith)) (f ∙ item_first n.item n.others after)
+
+-- all items were read
+pub all_items : (is js : List Item) (i j : Input) (after : Spelled) → All IsItem is → All IsItem js → BeginsNoItem after → AreItems js i j → BeginsNoItem j.words → i.words ≡ items_words is ++ after
+    → (j.words ≡ after) × (length is ≡ length js)
+all_items is js i j after h k none read stops e =
+    let g = left_items is js after j.words h k none (sym read.spells.0 ∙ e) in
+    let empty = none_here j.words g.more after g.formed stops g.words_are in
+    (g.words_are ∙ ap (λ (xs : List Item). items_words xs ++ after) empty, (let c = g.counts in let l = ap length empty in omega (arith, c, l)))
+
+-- no word of the grammar stands there
+pub no_item_word : (i : Input) → ((k : Keyword) (rest : Spelled) → i.words ≢ letters k ∷ rest) → NoneOf Edit (λ e. IsEdit e × Adds e) edit_words i
+no_item_word i none e rest h eq = none (edit_key e) _ (eq ∙ edit_begins e rest)

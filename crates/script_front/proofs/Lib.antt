@@ -1,11 +1,16 @@
+mod Alike
 mod Atoms
+mod Blocks
 mod Defining
 mod Definitions
 mod Denoted
 mod Denoting
 mod Digits
+mod Edits
 mod Ending
+mod Finding
 mod ItemLists
+mod Keys
 mod Lexing
 mod Listing
 mod Naming
@@ -13,6 +18,10 @@ mod Parsing
 mod Pieces
 pub mod Spans
 mod Numerals
+mod OneScript
 mod Printed
+mod Refusing
+mod Undefined
+mod Unread
 mod Vectors
 mod Wording

@@ -1,5 +1,5 @@
 -- Statements that are read stay within their ranges, are counted, and are those that the words spell.
-use Rattle.std.proofs.Common.{◌≡◌, ℕ, ◌+◌, ◌-◌, ◌<◌, ◌≤◌, List, [], ◌∷◌, ◌++◌, refl, sym, ap, ◌∙◌, subst, append_assoc, arith}
+use Rattle.std.proofs.Common.{◌≡◌, ◌≢◌, inl, inr, length, drop, ℕ, ◌+◌, ◌-◌, ◌<◌, ◌≤◌, List, [], ◌∷◌, ◌++◌, refl, sym, ap, ◌∙◌, subst, append_assoc, arith}
 use Rattle.script_front.specs.declared.tree.Act.{Act}
 use Rattle.script_front.specs.declared.tree.Statement.{Statement}
 use Rattle.script_front.specs.declared.keyword.Keyword.{Keyword}
@@ -9,11 +9,15 @@ use Rattle.script_front.specs.Words.{letters}
 use Rattle.script_front.specs.Reading.{Input, Passes, behind, line_of}
 use Rattle.script_front.specs.Block.{Block, Before, nothing, basic, stop, when, either, repeat, forever, apply, before, and_then, block_of}
 use Rattle.script_front.specs.Spelled.{Spelled, name_at, act_words, braced, block_words, BlockOn}
-use Rattle.script_front.specs.Tree.{IsAct}
+use Rattle.script_front.specs.Tree.{IsAct, counted}
 use Rattle.script_front.specs.Parsing.{IsRead, IsBody, IsApplied}
+use Rattle.script_front.proofs.Keys.{rest_is}
+use Rattle.script_front.proofs.Edits.{same_act}
+use Rattle.script_front.proofs.Refusing.{act_key, act_begins}
+use Rattle.script_front.proofs.Blocks.{key_is, act_key_begins, after_act, after_stop, after_apply, after_forever, after_repeat, after_if, no_else, all_read}
 
 pub none_read : (names : List (List ℕ)) (depth n : ℕ) (i : Input) → IsRead names depth n n i i (and_then [] [])
-none_read names depth n i = record { fits = λ b h. h; counts = λ b. refl; spells = λ b rest e. e; lined = λ b rest e h. h; same = refl }
+none_read names depth n i = record { fits = λ b h. h; counts = λ b. refl; spells = λ b rest e. e; lined = λ b rest e h. h; same = refl; only = λ b rest can. record { next = b; can = can; counts = refl } }
 
 and_then_more : (ss : List Statement) (s : Statement) (b : Block) → and_then [] (ss ++ s ∷ []) b ≡ and_then [] ss (before [] s b)
 and_then_more [] s b = refl
@@ -31,6 +35,11 @@ more_read names depth old mid new i j k ss ts s is h l = rw (is) (record {
       rw (and_then_more ss s b) (h.lined (before [] s b) rest (l.spells b rest e) more)
       );
   same = l.same ∙ h.same;
+  only = λ b rest can. (
+      let x = h.only b rest can in
+      let y = l.only x.next rest x.can in
+      record { next = y.next; can = y.can; counts = (let p = x.counts in let q = y.counts in omega (arith, p, q)) }
+      );
 })
 
 -- the input is the one before a word that was passed
@@ -49,6 +58,12 @@ act_spells names line act i j b rest p e = p ∙ ap (λ (ws : Spelled). act_word
 pub act_read : (names : List (List ℕ)) (depth old line : ℕ) (act : Act) (i j : Input) (added : Before) → ((b : Block) → added b ≡ basic line act b) → 1 ≤ old → IsAct act
     → Passes (act_words act) i j → line ≡ line_of i.lines i.words → IsRead names depth old (old - 1) i j added
 act_read names depth old line act i j added is some formed p at = record {
+  only = λ b rest can. (
+      let k = key_is names b rest (act_key act) (drop 1 (act_words act ++ j.words)) can.stops (sym can.spelled ∙ p.0 ∙ act_begins act j.words) in
+      let a = after_act names (length names) depth (act_key act) (drop 1 (act_words act ++ j.words)) b rest (act_key_begins act) k can.fits (sym (act_begins act j.words) ∙ sym p.0 ∙ can.spelled) in
+      let s = same_act act a.act j.words (block_words names a.next ++ rest) formed a.formed (act_begins act j.words ∙ a.words) in
+      record { next = a.next; can = record { fits = a.fits; stops = can.stops; spelled = s.rest }; counts = (let c = a.counts in omega (arith, c, some)) }
+      );
   fits = λ b f. rw (is b) (formed, f);
   counts = λ b. rw (is b) (omega arith);
   spells = λ b rest e. rw (is b) (act_spells names line act i j b rest p.0 e);
@@ -59,6 +74,11 @@ act_read names depth old line act i j added is some formed p at = record {
 pub stop_read : (names : List (List ℕ)) (depth old line : ℕ) (i j : Input) (added : Before) → ((b : Block) → added b ≡ stop line b) → 1 ≤ old
     → Passes (letters the.End ∷ []) i j → line ≡ line_of i.lines i.words → IsRead names depth old (old - 1) i j added
 stop_read names depth old line i j added is some p at = record {
+  only = λ b rest can. (
+      let k = key_is names b rest the.End j.words can.stops (sym can.spelled ∙ p.0) in
+      let a = after_stop names (length names) depth j.words b rest k can.fits (sym p.0 ∙ can.spelled) in
+      record { next = a.next; can = record { fits = a.fits; stops = can.stops; spelled = a.words }; counts = (let c = a.counts in omega (arith, c, some)) }
+      );
   fits = λ b f. rw (is b) f;
   counts = λ b. rw (is b) (omega arith);
   spells = λ b rest e. rw (is b) (p.0 ∙ ap (λ (ws : Spelled). letters the.End ∷ ws) e);
@@ -73,6 +93,11 @@ apply_spells names line number i j k b rest p q e = p ∙ ap (λ (ws : Spelled).
 pub apply_read : (names : List (List ℕ)) (depth old line : ℕ) (i j k : Input) (added : Before) → 1 ≤ old → Passes (letters the.Apply ∷ []) i j → IsApplied names line j k added
     → line ≡ line_of i.lines i.words → IsRead names depth old (old - 1) i k added
 apply_read names depth old line i j k added some p a at = record {
+  only = λ b rest can. (
+      let key = key_is names b rest the.Apply j.words can.stops (sym can.spelled ∙ p.0) in
+      let x = after_apply names (length names) depth j.words b rest key can.fits (sym p.0 ∙ can.spelled) in
+      record { next = x.next; can = record { fits = x.fits; stops = can.stops; spelled = rest_is _ _ _ _ (sym a.spells.0 ∙ x.words) }; counts = (let c = x.counts in omega (arith, c, some)) }
+      );
   fits = λ b f. rw (a.is b) (a.known, f);
   counts = λ b. rw (a.is b) (omega arith);
   spells = λ b rest e. rw (a.is b) (apply_spells names line a.number i j k b rest p.0 a.spells.0 e);
@@ -100,8 +125,21 @@ if_spells names line contact i j k first b rest p q e =
 
 pub when_read : (names : List (List ℕ)) (depth old new line contact : ℕ) (i j k : Input) (first : Block) (added : Before) → ((b : Block) → added b ≡ when line contact first b) → contact < 16
     → Passes (letters the.Contact ∷ decimal contact ∷ []) i j → IsBody names depth old new j k first → line ≡ line_of i.lines (letters the.If ∷ i.words)
-    → IsRead names depth (old + 1) new (behind the.If i) k added
-when_read names depth old new line contact i j k first added is small p h at = record {
+    → ((ws : Spelled) → k.words ≢ letters the.Else ∷ ws) → IsRead names depth (old + 1) new (behind the.If i) k added
+when_read names depth old new line contact i j k first added is small p h at other = record {
+  only = λ b rest can. (
+      let key = key_is names b rest the.If i.words can.stops (sym can.spelled) in
+      let x = after_if names (length names) depth i.words b rest key can.fits can.spelled in
+      let g = h.only x.first x.later x.within (rest_is _ _ _ _ (rest_is _ _ _ _ (sym p.0 ∙ x.words))) in
+      elim x.goes_on [
+        | inl a ↦ record {
+          next = a.next;
+          can = record { fits = a.fits; stops = can.stops; spelled = g.words ∙ a.words };
+          counts = (let c = x.counts in let d = a.same in let f = g.counts in omega (arith, c, d, f));
+        }
+        | inr a ↦ absurd (other _ (g.words ∙ a.words))
+      ]
+      );
   fits = λ b f. rw (is b) (h.room, small, h.fits, f);
   counts = λ b. (let x = h.counts in rw (is b) (omega (arith, x)));
   spells = λ b rest e. rw (is b) (if_spells names line contact i j k first b rest p.0 h.spells e);
@@ -125,6 +163,22 @@ pub either_read : (names : List (List ℕ)) (depth old mid new line contact : �
     → Passes (letters the.Contact ∷ decimal contact ∷ []) i j → IsBody names depth old mid j k first → Passes (letters the.Else ∷ []) k l → IsBody names depth mid new l m second
     → line ≡ line_of i.lines (letters the.If ∷ i.words) → IsRead names depth (old + 1) new (behind the.If i) m added
 either_read names depth old mid new line contact i j k l m first second added is small p h q g at = record {
+  only = λ b rest can. (
+      let key = key_is names b rest the.If i.words can.stops (sym can.spelled) in
+      let x = after_if names (length names) depth i.words b rest key can.fits can.spelled in
+      let y = h.only x.first x.later x.within (rest_is _ _ _ _ (rest_is _ _ _ _ (sym p.0 ∙ x.words))) in
+      elim x.goes_on [
+        | inl a ↦ absurd (no_else names a.next rest l.words can.stops (sym q.0 ∙ y.words ∙ a.words))
+        | inr a ↦ (
+            let z = g.only a.second (block_words names a.next ++ rest) a.within (rest_is _ _ _ _ (sym q.0 ∙ y.words ∙ a.words)) in
+            record {
+              next = a.next;
+              can = record { fits = a.fits; stops = can.stops; spelled = z.words };
+              counts = (let c = x.counts in let d = a.same in let e = y.counts in let f = z.counts in omega (arith, c, d, e, f));
+            }
+            )
+      ]
+      );
   fits = λ b f. rw (is b) (h.room, small, h.fits, g.fits, f);
   counts = λ b. (let x = h.counts in let y = g.counts in rw (is b) (omega (arith, x, y)));
   spells = λ b rest e. rw (is b) (either_spells names line contact i j k first second b rest p.0 h.spells (else_spells names k l m second b rest q.0 g.spells e));
@@ -150,6 +204,12 @@ pub repeat_read : (names : List (List ℕ)) (depth old new line times : ℕ) (i 
     → Passes (decimal times ∷ []) i j → IsBody names depth old new j k body → line ≡ line_of i.lines (letters the.Repeat ∷ i.words)
     → IsRead names depth (old + 1) new (behind the.Repeat i) k added
 repeat_read names depth old new line times i j k body added is some small p h at = record {
+  only = λ b rest can. (
+      let key = key_is names b rest the.Repeat i.words can.stops (sym can.spelled) in
+      let x = after_repeat names (length names) depth i.words b rest key can.fits can.spelled in
+      let g = h.only x.body (block_words names x.next ++ rest) x.within (rest_is _ _ _ _ (sym p.0 ∙ x.words)) in
+      record { next = x.next; can = record { fits = x.fits; stops = can.stops; spelled = g.words }; counts = (let c = x.counts in let f = g.counts in omega (arith, c, f)) }
+      );
   fits = λ b f. rw (is b) (h.room, some, small, h.fits, f);
   counts = λ b. (let x = h.counts in rw (is b) (omega (arith, x)));
   spells = λ b rest e. rw (is b) (repeat_spells names line times i j k body b rest p.0 h.spells e);
@@ -166,6 +226,12 @@ pub forever_read : (names : List (List ℕ)) (depth old new line : ℕ) (i k : I
     → IsBody names depth old new i k body → line ≡ line_of i.lines (letters the.Forever ∷ i.words)
     → IsRead names depth (old + 1) new (behind the.Forever i) k added
 forever_read names depth old new line i k body added is h at = record {
+  only = λ b rest can. (
+      let key = key_is names b rest the.Forever i.words can.stops (sym can.spelled) in
+      let x = after_forever names (length names) depth i.words b rest key can.fits can.spelled in
+      let g = h.only x.body (block_words names x.next ++ rest) x.within x.words in
+      record { next = x.next; can = record { fits = x.fits; stops = can.stops; spelled = g.words }; counts = (let c = x.counts in let f = g.counts in omega (arith, c, f)) }
+      );
   fits = λ b f. rw (is b) (h.room, h.fits, f);
   counts = λ b. (let x = h.counts in rw (is b) (omega (arith, x)));
   spells = λ b rest e. rw (is b) (forever_spells names line i k body b rest h.spells e);
@@ -189,4 +255,10 @@ body_read names depth old new i j k l ss room p h q = record {
   spells = p.0 ∙ ap (λ (ws : Spelled). letters the.OpenBrace ∷ ws) (h.spells nothing (letters the.CloseBrace ∷ l.words) q.0);
   lined = subst (λ (ls : List ℕ). BlockOn names ls (block_of [] ss) (letters the.CloseBrace ∷ l.words)) p.1 (h.lined nothing (letters the.CloseBrace ∷ l.words) q.0 tt);
   same = q.1 ∙ h.same ∙ p.1;
+  only = λ other rest fits e. (
+      let x = h.only other (letters the.CloseBrace ∷ rest) (record { fits = fits; stops = refl; spelled = rest_is _ _ _ _ (sym p.0 ∙ e) }) in
+      let none = all_read names x.next (letters the.CloseBrace ∷ rest) k.words refl (rw (q.0) refl) x.can.spelled in
+      let words : k.words ≡ letters the.CloseBrace ∷ rest = x.can.spelled ∙ ap (λ (b : Block). block_words names b ++ letters the.CloseBrace ∷ rest) none in
+      record { words = rest_is _ _ _ _ (sym q.0 ∙ words); counts = (let c = x.counts in let d = ap counted none in omega (arith, c, d)) }
+      );
 }

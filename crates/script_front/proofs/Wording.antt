@@ -22,7 +22,10 @@ use Rattle.mux_eep.specs.Sizes.{Profile}
 use Rattle.mux_config.specs.declared.numbers.Sid.{Sid}
 use Rattle.mux_config.specs.declared.numbers.Sid.TheVariants.{Short, Long}
 use Rattle.mux_config.specs.Configuration.{IsSid}
-use Rattle.std.specs.Prelude.{◌==◌}
+use Rattle.std.specs.Prelude.{◌==◌, slice_index_or}
+use Rattle.std.specs.Str.{IsUtf8}
+use Rattle.std.proofs.lemmas.Str.{IsUtf8-from_ascii}
+use Rattle.std.proofs.lemmas.Str.Ascii.{IsAscii-from_all}
 use Rattle.std.proofs.lemmas.Bool.{eqb-true}
 use Rattle.script_front.specs.Tree.{is_lower, is_name_byte, IsName}
 use Rattle.script_front.specs.Spelled.{Spelled}
@@ -354,3 +357,29 @@ time_letters s small =
     let b = two_letters (s / 60 % 60) (omega arith) in
     let c = two_letters (s % 60) (omega arith) in
     (a.0, (a.1.0, (refl, (b.0, (b.1.0, (refl, (c.0, (c.1.0, tt))))))))
+
+pub name_letters_of : (bs : List ℕ) → IsName bs → AreLetters bs
+name_letters_of [] h = tt
+name_letters_of (b ∷ bs) h =
+    let first = lower_range b (and_left (is_lower b) (list_all is_name_byte bs) h.formed) in
+    (letter_lower b first.0 first.1, name_letters bs (and_right (is_lower b) (list_all is_name_byte bs) h.formed))
+
+small_byte : (b : ℕ) → is_name_byte b ≡ true → b < 128
+small_byte b e = elim (name_range b e) [
+  | inl r ↦ omega (arith, r.1)
+  | inr s ↦ elim s [ inl r ↦ omega (arith, r.1) | inr is ↦ omega (arith, is) ]
+]
+
+small_bytes : (bs : List ℕ) → list_all is_name_byte bs ≡ true → (k d : ℕ) → k < length bs → slice_index_or bs k d < 128
+small_bytes [] e k d lt = absurd (omega (arith, lt))
+small_bytes (b ∷ bs) e zero d lt = small_byte b (and_left (is_name_byte b) (list_all is_name_byte bs) e)
+small_bytes (b ∷ bs) e (suc k) d lt = small_bytes bs (and_right (is_name_byte b) (list_all is_name_byte bs) e) k d (omega (arith, lt))
+
+small_name : (bs : List ℕ) → IsName bs → (k d : ℕ) → k < length bs → slice_index_or bs k d < 128
+small_name [] h k d lt = absurd (omega (arith, lt))
+small_name (b ∷ bs) h zero d lt = let r = lower_range b (and_left (is_lower b) (list_all is_name_byte bs) h.formed) in omega (arith, r.1)
+small_name (b ∷ bs) h (suc k) d lt = small_bytes bs (and_right (is_lower b) (list_all is_name_byte bs) h.formed) k d (omega (arith, lt))
+
+-- names are text
+pub name_utf8 : (bs : List ℕ) → IsName bs → IsUtf8 bs
+name_utf8 bs h = IsUtf8-from_ascii bs (IsAscii-from_all bs (small_name bs h))

@@ -3,7 +3,7 @@ use Rattle.std.specs.Prelude.{◌≡◌, ℕ, ◌≤◌, List, [], ◌∷◌, le
 use Rattle.script_front.specs.Bytes.{first_place}
 use Rattle.script_front.specs.Texts.{Piece, blank, comment, brace, atom, text_of, AreText, tokens_of, AllFit, script_limits, MOST_BYTES}
 use Rattle.script_front.specs.Reading.{lines_of}
-use Rattle.script_front.specs.Tree.{Tree}
+use Rattle.script_front.specs.Tree.{Tree, IsScript}
 use Rattle.script_front.specs.Spelled.{Spelled, tree_words, HasLines}
 
 -- the words among pieces: braces and atoms
@@ -34,3 +34,7 @@ pub record IsScriptOf (text : List ℕ) (t : Tree) : Type 0 where
   pub lined : HasLines (lines_of (tokens_of first_place pieces)) t
   pub short : length text ≤ MOST_BYTES
   pub within : AllFit script_limits (tokens_of first_place pieces)
+
+-- the text is that of no script: none with every number in range, names well formed and different, and no limit passed
+abbrev pub IsNoScript : List ℕ → Type 0
+IsNoScript text = (t : Tree) → IsScript t → IsScriptOf text t → ⊥

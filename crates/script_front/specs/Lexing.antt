@@ -1,4 +1,4 @@
--- Cutting a text into tokens byte by byte. The contract of `cut` cites it; a relation apart from any machine is still to come.
+-- Cutting a text into tokens byte by byte. The contract of `cut` cites it; which texts are cut so stands in `Texts.antt`.
 use Rattle.std.specs.Prelude.{◌≡◌, ℕ, ◌+◌, ◌<◌, ◌≤◌, ◌&&◌, Bool, true, false, if◌then◌else◌, nat_le, List, [], ◌∷◌, ◌++◌, Result, Ok, Err}
 use Rattle.script_front.specs.declared.fault.ScriptFault.{ScriptFault}
 use Rattle.script_front.specs.declared.fault.ScriptFault.TheVariants.{Byte, Limit, Memory}

@@ -1,3 +1,4 @@
+pub mod Alike
 pub mod Block
 pub mod Bytes
 pub mod Denoting

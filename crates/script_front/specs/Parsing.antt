@@ -1,5 +1,5 @@
 -- What has been read of a script. No public contract needs this to be believed.
-use Rattle.std.specs.Prelude.{◌≡◌, ◌≢◌, ℕ, ◌+◌, ◌-◌, ◌<◌, ◌≤◌, List, [], ◌∷◌, ◌++◌, length, map}
+use Rattle.std.specs.Prelude.{◌≡◌, ◌≢◌, true, ℕ, ◌+◌, ◌-◌, ◌<◌, ◌≤◌, List, [], ◌∷◌, ◌++◌, length, map}
 use Rattle.std.specs.List.{All}
 use Rattle.std.specs.Prelude.{Vec}
 use Rattle.std.specs.Global.{Global}
@@ -7,10 +7,95 @@ use Rattle.script_front.specs.declared.tree.Item.{Item}
 use Rattle.script_front.specs.declared.tree.Statement.{Statement}
 use Rattle.script_front.specs.Block.{Block, Before, nothing, apply}
 use Rattle.script_front.specs.declared.keyword.Keyword.TheVariants as the
-use Rattle.script_front.specs.Words.{letters}
+use Rattle.script_front.specs.declared.keyword.Keyword.{Keyword}
+use Rattle.script_front.specs.Words.{letters, begins_item}
 use Rattle.script_front.specs.Reading.{Input, Passes, line_of}
 use Rattle.script_front.specs.Spelled.{Spelled, edit_words, items_words, name_at, block_words, defined_words, tree_words, ItemsOn, BlockOn, DefinedOn, HasLines}
-use Rattle.script_front.specs.Tree.{Tree, IsItem, Fits, AllFit, IsName, AreDifferent, counted, counted_in}
+use Rattle.script_front.specs.Tree.{Tree, IsScript, IsItem, Fits, AllFit, IsName, AreDifferent, counted, counted_in}
+
+-- the words that are left begin with those of no such value
+abbrev pub NoneOf : (A : Type 0) → (A → Type 0) → (A → Spelled) → Input → Type 0
+NoneOf A In words input = (a : A) (rest : Spelled) → In a → input.words ≢ words a ++ rest
+
+-- statements end here: no word is left, or a brace closes
+abbrev pub Stops : Spelled → Type 0
+Stops [] = Unit {0}
+Stops (w ∷ ws) = w ≡ letters the.CloseBrace
+
+-- these words are those of this block, in range, before others that no statement begins
+pub record CanBe (names : List (List ℕ)) (depth : ℕ) (words : Spelled) (b : Block) (rest : Spelled) : Type 0 where
+  pub fits : Fits (length names) depth b
+  pub stops : Stops rest
+  pub spelled : words ≡ block_words names b ++ rest
+
+-- what is left of such a block, behind what was read of it
+pub record GoesOn (names : List (List ℕ)) (depth old new : ℕ) (after : Spelled) (b : Block) (rest : Spelled) : Type 0 where
+  pub next : Block
+  pub can : CanBe names depth after next rest
+  pub counts : counted b + new ≡ counted next + old
+
+-- so much of a block was read, and all of it
+pub record IsPassed (old new : ℕ) (after : Spelled) (b : Block) (rest : Spelled) : Type 0 where
+  pub words : after ≡ rest
+  pub counts : counted b + new ≡ old
+
+-- no block in range, of so many statements at most, has these words
+abbrev pub NoBlock : (names : List (List ℕ)) (depth left : ℕ) → Spelled → Type 0
+NoBlock names depth left words = All IsName names → (b : Block) (rest : Spelled) → counted b ≤ left → CanBe names depth words b rest → ⊥
+
+-- nor does one in braces
+abbrev pub NoBody : (names : List (List ℕ)) (depth left : ℕ) → Spelled → Type 0
+NoBody names depth left words = All IsName names → (b : Block) (rest : Spelled) → 1 ≤ depth → Fits (length names) (depth - 1) b → counted b ≤ left
+    → words ≢ letters the.OpenBrace ∷ (block_words names b ++ letters the.CloseBrace ∷ rest)
+
+-- no defined block has the name that stands here
+abbrev pub NoApplied : (names : List (List ℕ)) → Spelled → Type 0
+NoApplied names words = All IsName names → (number : ℕ) (rest : Spelled) → number < length names → words ≢ name_at names number ∷ rest
+
+-- no item begins here
+abbrev pub BeginsNoItem : Spelled → Type 0
+BeginsNoItem words = (k : Keyword) (rest : Spelled) → begins_item k ≡ true → words ≢ letters k ∷ rest
+
+-- an item begins here
+pub record BeginsItem (words : Spelled) : Type 0 where
+  pub first : Keyword
+  pub rest : Spelled
+  pub among : begins_item first ≡ true
+  pub begins : words ≡ letters first ∷ rest
+
+-- so many items at most, before what is none, are not what these words are
+abbrev pub NoItems : (left : ℕ) → Spelled → Type 0
+NoItems left words = (items : List Item) (after : Spelled) → All IsItem items → length items ≤ left → BeginsNoItem after → words ≢ items_words items ++ after
+
+-- these words are the definitions of these blocks by these names, where others are known, and then what is none
+pub record CanDefine (known : List (List ℕ)) (words : Spelled) (later : List (List ℕ)) (blocks : List (List Statement)) (rest : Spelled) : Type 0 where
+  pub named : All IsName (known ++ later)
+  pub different : AreDifferent (known ++ later)
+  pub each : length later ≡ length blocks
+  pub few : length known + length blocks ≤ 64
+  pub fit : AllFit (length known) blocks
+  pub spelled : words ≡ defined_words (known ++ later) (length known) blocks ++ rest
+  pub ends : (ws : Spelled) → rest ≢ letters the.Define ∷ ws
+
+-- what is left of such definitions, behind what was read of them
+pub record DefinesOn (names : List (List ℕ)) (old new : ℕ) (after : Spelled) (all : List (List ℕ)) (blocks : List (List Statement)) (rest : Spelled) : Type 0 where
+  pub later : List (List ℕ)
+  pub others : List (List Statement)
+  pub front : all ≡ names ++ later
+  pub can : CanDefine names after later others rest
+  pub counts : counted_in blocks + new ≡ counted_in others + old
+
+-- no definitions within the limits have these words
+abbrev pub NoDefinitions : (known : List (List ℕ)) (left : ℕ) → Spelled → Type 0
+NoDefinitions known left words = (later : List (List ℕ)) (blocks : List (List Statement)) (rest : Spelled) → counted_in blocks ≤ left → CanDefine known words later blocks rest → ⊥
+
+-- no name that is new, and may be one, stands here
+abbrev pub NoNewName : (names : List (List ℕ)) → Spelled → Type 0
+NoNewName names words = (name : List ℕ) (rest : Spelled) → IsName name → All (λ other. other ≢ name) names → words ≢ name ∷ rest
+
+-- the words of no script
+abbrev pub SpellsNone : Spelled → Type 0
+SpellsNone words = (t : Tree) → IsScript t → words ≢ tree_words t
 
 -- statements before a block: in range, counted and spelled; `old` and `new` are how many more may follow
 pub record IsRead (names : List (List ℕ)) (depth old new : ℕ) (before after : Input) (added : Before) : Type 0 where
@@ -20,6 +105,7 @@ pub record IsRead (names : List (List ℕ)) (depth old new : ℕ) (before after 
   pub lined : (b : Block) (rest : Spelled) → after.words ≡ block_words names b ++ rest → BlockOn names before.lines b rest
       → BlockOn names before.lines (added b) rest
   pub same : after.lines ≡ before.lines
+  pub only : (b : Block) (rest : Spelled) → CanBe names depth before.words b rest → GoesOn names depth old new after.words b rest
 
 -- a block in braces
 pub record IsBody (names : List (List ℕ)) (depth old new : ℕ) (before after : Input) (b : Block) : Type 0 where
@@ -29,6 +115,8 @@ pub record IsBody (names : List (List ℕ)) (depth old new : ℕ) (before after 
   pub spells : before.words ≡ letters the.OpenBrace ∷ (block_words names b ++ letters the.CloseBrace ∷ after.words)
   pub lined : BlockOn names before.lines b (letters the.CloseBrace ∷ after.words)
   pub same : after.lines ≡ before.lines
+  pub only : (other : Block) (rest : Spelled) → Fits (length names) (depth - 1) other
+      → before.words ≡ letters the.OpenBrace ∷ (block_words names other ++ letters the.CloseBrace ∷ rest) → IsPassed old new after.words other rest
 
 abbrev pub bodies : List (Vec Statement Global) → List (List Statement)
 bodies blocks = map (λ b. b.items) blocks
@@ -44,6 +132,7 @@ pub record AreDefined (names : List (List ℕ)) (old new : ℕ) (before after : 
   pub spells : before.words ≡ defined_words names 0 (bodies blocks) ++ after.words
   pub lined : DefinedOn names before.lines 0 (bodies blocks) after.words
   pub same : after.lines ≡ before.lines
+  pub only : (all : List (List ℕ)) (others : List (List Statement)) (rest : Spelled) → CanDefine [] before.words all others rest → DefinesOn names old new after.words all others rest
 
 -- one more name, that was not among them
 pub record IsNamed (old new : List (List ℕ)) (name : List ℕ) : Type 0 where

@@ -1,5 +1,5 @@
 -- The words of the grammar, as the bytes that spell them.
-use Rattle.std.specs.Prelude.{◌≢◌, ℕ, List, [], ◌∷◌, codes, if◌then◌else◌}
+use Rattle.std.specs.Prelude.{◌≢◌, ℕ, Bool, true, false, List, [], ◌∷◌, codes, if◌then◌else◌}
 use Rattle.std.specs.Str.{bytes_eq}
 use Rattle.script_front.specs.declared.keyword.Keyword.{Keyword}
 use Rattle.script_front.specs.declared.keyword.Keyword.TheVariants.{Ensemble, Mode, Period, Notice, Budget, Define, Begin, Sub, At, Eep, Service, Audio, In, Data, Carry, Packet, Groups, Raw, TypeWord, Address, Drop, Component, Move, Rate, Wait, Contact, Closed, Open, Until, Commit, Join, Settle, End, If, Else, Repeat, Forever, Apply, OpenBrace, CloseBrace}
@@ -65,3 +65,29 @@ word_of bytes = word_among keywords bytes
 
 abbrev pub IsNoKeyword : List ℕ → Type 0
 IsNoKeyword bytes = (k : Keyword) → bytes ≢ letters k
+
+-- the words with which an item begins, and those with which a statement does
+abbrev pub begins_item : Keyword → Bool
+begins_item Sub = true
+begins_item Service = true
+begins_item Audio = true
+begins_item Data = true
+begins_item Carry = true
+begins_item Packet = true
+begins_item _ = false
+
+abbrev pub begins_statement : Keyword → Bool
+begins_statement Drop = true
+begins_statement Move = true
+begins_statement Rate = true
+begins_statement Wait = true
+begins_statement Until = true
+begins_statement Commit = true
+begins_statement Join = true
+begins_statement Settle = true
+begins_statement End = true
+begins_statement If = true
+begins_statement Repeat = true
+begins_statement Forever = true
+begins_statement Apply = true
+begins_statement k = begins_item k

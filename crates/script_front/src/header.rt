@@ -7,6 +7,11 @@ ghost use Rattle.script_front.specs.Words.{letters};
 ghost use Rattle.script_front.specs.Reading.{Passes, behind};
 ghost use Rattle.script_front.specs.Spelled.{mode_words, header_words};
 ghost use Rattle.script_front.specs.Tree.{IsHeader};
+ghost use Rattle.script_front.specs.Parsing.{NoneOf};
+ghost use Rattle.std.specs.Prelude.{◌≢◌, ◌++◌, ℕ, List, OnErr};
+ghost use Rattle.script_front.specs.declared.tree.Header.{Header};
+ghost use Rattle.fib_codec.specs.declared.modes.Mode.{Mode};
+ghost use Rattle.fib_codec.specs.declared.modes.Mode.TheVariants.{I};
 
 use crate::fault::ScriptFault;
 use crate::keyword::Keyword;
@@ -20,6 +25,8 @@ fn declared(reader: &mut Reader, keyword: Keyword, low: u8, high: u8) -> Result<
     ensures spells { IfOk result (λ n. Passes (letters keyword ∷ decimal n ∷ []) reader.old
         reader.new) }
     ensures range { IfOk result (λ n. (low ≤ n) × (n ≤ high)) }
+    ensures none { OnErr result (NoneOf ℕ (λ n. (low ≤ n) × (n ≤ high)) (λ n. letters keyword ∷
+        decimal n ∷ []) reader.old) }
     ensures shorter { OnOk result (length reader.new.words < length reader.old.words) }
 {
     reader.expect(keyword)?;
@@ -30,21 +37,27 @@ fn declared(reader: &mut Reader, keyword: Keyword, low: u8, high: u8) -> Result<
 /// `mode MODE`, or mode I where no `mode` stands
 fn mode(reader: &mut Reader) -> Result<Mode, ScriptFault>
     ensures spells { IfOk result (λ m. Passes (mode_words m) reader.old reader.new) }
+    ensures none { OnErr result (NoneOf Mode (λ m. Unit {0}) (λ m. mode_words m ++ letters
+        the.Period ∷ []) reader.old) }
+    ensures only { OnOk result ((m : Mode) (rest : List (List ℕ))
+        → reader.old.words ≡ mode_words m ++ letters the.Period ∷ rest → reader.new.words ≡
+        letters the.Period ∷ rest) }
     ensures shorter { OnOk result (length reader.new.words ≤ length reader.old.words) }
 {
-    match reader.keyword() {
-        Some(Keyword::Mode) => {
-            reader.advance();
-            later_mode(reader)
-        }
-        _ => Ok(Mode::I),
+    if !reader.is_next(Keyword::Mode) {
+        return Ok(Mode::I);
     }
+    reader.advance();
+    let mode = later_mode(reader)?;
+    Ok(mode)
 }
 
 /// A mode from II to IV, as 2, 3 or 4
 fn later_mode(reader: &mut Reader) -> Result<Mode, ScriptFault>
+    ensures later { IfOk result (λ m. m ≢ I) }
     ensures spells { IfOk result (λ m. Passes (mode_words m) (behind the.Mode reader.old)
         reader.new) }
+    ensures none { OnErr result (NoneOf Mode (λ m. m ≢ I) mode_words (behind the.Mode reader.old)) }
     ensures shorter { OnOk result (length reader.new.words < length reader.old.words) }
 {
     let number = decimal(reader, 2, 4)?;
@@ -59,6 +72,9 @@ fn later_mode(reader: &mut Reader) -> Result<Mode, ScriptFault>
 pub fn header(reader: &mut Reader) -> Result<Header, ScriptFault>
     ensures spells { IfOk result (λ h. Passes (header_words h) reader.old reader.new) }
     ensures range { IfOk result IsHeader }
+    ensures none { OnErr result (NoneOf Header IsHeader header_words reader.old) }
+    ensures only { OnOk result ((h : Header) (rest : List (List ℕ))
+        → reader.old.words ≡ header_words h ++ rest → reader.new.words ≡ rest) }
     ensures shorter { OnOk result (length reader.new.words < length reader.old.words) }
 {
     reader.expect(Keyword::Ensemble)?;

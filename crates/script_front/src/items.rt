@@ -5,13 +5,22 @@ ghost use Rattle.std.specs.List.{All};
 ghost use Rattle.mux_config.specs.Configuration.{IsSid, IsComponent};
 ghost use Rattle.plan_code.specs.Program.{IsEdit, IsNewSub, IsNewPacket, IsCarrier};
 ghost use Rattle.std.specs.Fmt.{decimal};
-ghost use Rattle.mux_config.specs.declared.edit.Edit.TheVariants.{AddSub, AddPacket};
+ghost use Rattle.mux_config.specs.declared.edit.Edit.TheVariants.{AddSub, AddPacket, AddComponent, MoveSub, RateSub};
 ghost use Rattle.script_front.specs.declared.keyword.Keyword.TheVariants as the;
 ghost use Rattle.script_front.specs.Words.{letters};
 ghost use Rattle.script_front.specs.Reading.{Passes, behind, line_of};
 ghost use Rattle.script_front.specs.Spelled.{in_words, groups_word, carried_words, carrier_words, edit_words, level_word, act_words, items_words};
 ghost use Rattle.script_front.specs.Tree.{IsAct, IsItem, Adds};
-ghost use Rattle.script_front.specs.Parsing.{IsOneMore, AreItems};
+ghost use Rattle.script_front.specs.Parsing.{IsOneMore, AreItems, NoneOf, BeginsItem, BeginsNoItem, NoItems};
+ghost use Rattle.std.specs.Prelude.{true, false, ◌≢◌, OnErr, IfErr, Bool};
+ghost use Rattle.script_front.specs.declared.fault.ScriptFault.TheVariants.{Memory};
+ghost use Rattle.script_front.specs.declared.tree.Act.{Act};
+ghost use Rattle.mux_config.specs.declared.edit.Edit.{Edit};
+ghost use Rattle.mux_config.specs.declared.numbers.Sid.{Sid};
+ghost use Rattle.mux_config.specs.declared.parts.Sub.{Sub};
+ghost use Rattle.mux_config.specs.declared.parts.Packet.{Packet};
+ghost use Rattle.mux_config.specs.declared.parts.Component.{Component};
+ghost use Rattle.mux_config.specs.declared.parts.Carrier.{Carrier};
 
 use crate::fault::ScriptFault;
 use crate::keyword::Keyword;
@@ -28,6 +37,8 @@ fn sub(reader: &mut Reader) -> Result<SubId, ScriptFault>
     ensures spells { IfOk result (λ s. Passes (letters the.Sub ∷ decimal s ∷ []) reader.old
         reader.new) }
     ensures range { IfOk result (λ s. s < 64) }
+    ensures none { OnErr result (NoneOf ℕ (λ s. s < 64) (λ s. letters the.Sub ∷ decimal s ∷ [])
+        reader.old) }
     ensures shorter { OnOk result (length reader.new.words < length reader.old.words) }
 {
     reader.expect(Keyword::Sub)?;
@@ -38,6 +49,7 @@ fn sub(reader: &mut Reader) -> Result<SubId, ScriptFault>
 fn in_service(reader: &mut Reader) -> Result<Sid, ScriptFault>
     ensures spells { IfOk result (λ s. Passes (in_words s) reader.old reader.new) }
     ensures range { IfOk result IsSid }
+    ensures none { OnErr result (NoneOf Sid IsSid in_words reader.old) }
     ensures shorter { OnOk result (length reader.new.words < length reader.old.words) }
 {
     reader.expect(Keyword::In)?;
@@ -49,6 +61,8 @@ fn new_sub(reader: &mut Reader) -> Result<NewSub, ScriptFault>
     ensures spells { IfOk result (λ s. Passes (edit_words (AddSub s)) (behind the.Sub reader.old)
         reader.new) }
     ensures range { IfOk result IsNewSub }
+    ensures none { OnErr result (NoneOf Sub IsNewSub (λ s. edit_words (AddSub s)) (behind
+        the.Sub reader.old)) }
     ensures shorter { OnOk result (length reader.new.words < length reader.old.words) }
 {
     let id = sub_id(reader)?;
@@ -65,6 +79,8 @@ fn new_packet(reader: &mut Reader) -> Result<Packet, ScriptFault>
     ensures spells { IfOk result (λ p. Passes (edit_words (AddPacket p)) (behind the.Packet
         reader.old) reader.new) }
     ensures range { IfOk result IsNewPacket }
+    ensures none { OnErr result (NoneOf Packet IsNewPacket (λ p. edit_words (AddPacket p))
+        (behind the.Packet reader.old)) }
     ensures shorter { OnOk result (length reader.new.words < length reader.old.words) }
 {
     let scid = sc_id(reader)?;
@@ -86,14 +102,18 @@ fn new_packet(reader: &mut Reader) -> Result<Packet, ScriptFault>
 /// `groups`, which is sent as 0, or `raw`, which is sent as 1
 fn data_groups(reader: &mut Reader) -> Result<bool, ScriptFault>
     ensures spells { IfOk result (λ b. Passes (groups_word b ∷ []) reader.old reader.new) }
+    ensures none { OnErr result (NoneOf Bool (λ b. Unit {0}) (λ b. groups_word b ∷ []) reader.old) }
     ensures shorter { OnOk result (length reader.new.words < length reader.old.words) }
 {
-    match reader.keyword() {
-        Some(Keyword::Groups) => {
+    let Some(found) = reader.keyword() else {
+        return Err(reader.expected());
+    };
+    match found {
+        Keyword::Groups => {
             reader.advance();
             Ok(false)
         }
-        Some(Keyword::Raw) => {
+        Keyword::Raw => {
             reader.advance();
             Ok(true)
         }
@@ -106,6 +126,8 @@ fn typed_sub(reader: &mut Reader) -> Result<(ScTy, SubId), ScriptFault>
     ensures spells { IfOk result (λ p. Passes (decimal p.0 ∷ letters the.Sub ∷ decimal p.1 ∷ [])
         reader.old reader.new) }
     ensures range { IfOk result (λ p. (p.0 < 64) × (p.1 < 64)) }
+    ensures none { OnErr result (NoneOf (ℕ × ℕ) (λ p. (p.0 < 64) × (p.1 < 64)) (λ p. decimal p.0
+        ∷ letters the.Sub ∷ decimal p.1 ∷ []) reader.old) }
     ensures shorter { OnOk result (length reader.new.words < length reader.old.words) }
 {
     let ty = sc_ty(reader)?;
@@ -118,6 +140,8 @@ fn component(reader: &mut Reader, first: Keyword) -> Result<Edit, ScriptFault>
     ensures spells { IfOk result (λ e. Passes (edit_words e) (behind first reader.old) reader.new) }
     ensures range { IfOk result IsEdit }
     ensures adds { IfOk result Adds }
+    ensures none { OnErr result (NoneOf (Sid × Component) (λ p. IsSid p.0 × IsComponent p.1) (λ
+        p. edit_words (AddComponent p.0 p.1)) (behind first reader.old)) }
     ensures shorter { OnOk result (length reader.new.words < length reader.old.words) }
 {
     let component = carried(reader, first)?;
@@ -130,6 +154,8 @@ fn carried(reader: &mut Reader, first: Keyword) -> Result<Component, ScriptFault
     ensures spells { IfOk result (λ m. Passes (carried_words m) (behind first reader.old)
         reader.new) }
     ensures range { IfOk result IsComponent }
+    ensures none { OnErr result (NoneOf Component IsComponent carried_words (behind first
+        reader.old)) }
     ensures shorter { OnOk result (length reader.new.words < length reader.old.words) }
 {
     match first {
@@ -154,6 +180,8 @@ fn item(reader: &mut Reader, first: Keyword) -> Result<Edit, ScriptFault>
     ensures spells { IfOk result (λ e. Passes (edit_words e) (behind first reader.old) reader.new) }
     ensures range { IfOk result IsEdit }
     ensures adds { IfOk result Adds }
+    ensures none { OnErr result (NoneOf Edit (λ e. IsEdit e × Adds e) edit_words (behind first
+        reader.old)) }
     ensures shorter { OnOk result (length reader.new.words < length reader.old.words) }
 {
     match first {
@@ -177,15 +205,19 @@ fn item(reader: &mut Reader, first: Keyword) -> Result<Edit, ScriptFault>
 fn carrier(reader: &mut Reader) -> Result<Carrier, ScriptFault>
     ensures spells { IfOk result (λ m. Passes (carrier_words m) reader.old reader.new) }
     ensures range { IfOk result IsCarrier }
+    ensures none { OnErr result (NoneOf Carrier IsCarrier carrier_words reader.old) }
     ensures shorter { OnOk result (length reader.new.words < length reader.old.words) }
 {
-    match reader.keyword() {
-        Some(Keyword::Sub) => {
+    let Some(found) = reader.keyword() else {
+        return Err(reader.expected());
+    };
+    match found {
+        Keyword::Sub => {
             reader.advance();
             let id = sub_id(reader)?;
             Ok(Carrier::Sub(id))
         }
-        Some(Keyword::Packet) => {
+        Keyword::Packet => {
             reader.advance();
             let scid = sc_id(reader)?;
             Ok(Carrier::Packet(scid))
@@ -199,15 +231,19 @@ fn dropped(reader: &mut Reader) -> Result<Edit, ScriptFault>
     ensures spells { IfOk result (λ e. Passes (edit_words e) (behind the.Drop reader.old)
         reader.new) }
     ensures range { IfOk result IsEdit }
+    ensures none { OnErr result (NoneOf Edit IsEdit edit_words (behind the.Drop reader.old)) }
     ensures shorter { OnOk result (length reader.new.words < length reader.old.words) }
 {
-    match reader.keyword() {
-        Some(Keyword::Service) => {
+    let Some(found) = reader.keyword() else {
+        return Err(reader.expected());
+    };
+    match found {
+        Keyword::Service => {
             reader.advance();
             let sid = sid(reader)?;
             Ok(Edit::DropService(sid))
         }
-        Some(Keyword::Component) => {
+        Keyword::Component => {
             reader.advance();
             let carrier = carrier(reader)?;
             let sid = in_service(reader)?;
@@ -222,6 +258,7 @@ fn dropped_carrier(reader: &mut Reader) -> Result<Edit, ScriptFault>
     ensures spells { IfOk result (λ e. Passes (edit_words e) (behind the.Drop reader.old)
         reader.new) }
     ensures range { IfOk result IsEdit }
+    ensures none { OnErr result (NoneOf Carrier IsCarrier carrier_words reader.old) }
     ensures shorter { OnOk result (length reader.new.words < length reader.old.words) }
 {
     match carrier(reader)? {
@@ -235,6 +272,8 @@ fn moved(reader: &mut Reader) -> Result<Edit, ScriptFault>
     ensures spells { IfOk result (λ e. Passes (edit_words e) (behind the.Move reader.old)
         reader.new) }
     ensures range { IfOk result IsEdit }
+    ensures none { OnErr result (NoneOf (ℕ × ℕ) (λ p. (p.0 < 64) × (p.1 < 1024)) (λ p.
+        edit_words (MoveSub p.0 p.1)) (behind the.Move reader.old)) }
     ensures shorter { OnOk result (length reader.new.words < length reader.old.words) }
 {
     let id = sub(reader)?;
@@ -248,6 +287,8 @@ fn rated(reader: &mut Reader) -> Result<Edit, ScriptFault>
     ensures spells { IfOk result (λ e. Passes (edit_words e) (behind the.Rate reader.old)
         reader.new) }
     ensures range { IfOk result IsEdit }
+    ensures none { OnErr result (NoneOf (ℕ × ℕ) (λ p. (p.0 < 64) × (p.1 < 65536)) (λ p.
+        edit_words (RateSub p.0 p.1)) (behind the.Rate reader.old)) }
     ensures shorter { OnOk result (length reader.new.words < length reader.old.words) }
 {
     let id = sub(reader)?;
@@ -259,6 +300,7 @@ fn rated(reader: &mut Reader) -> Result<Edit, ScriptFault>
 fn edit(reader: &mut Reader, first: Keyword) -> Result<Edit, ScriptFault>
     ensures spells { IfOk result (λ e. Passes (edit_words e) (behind first reader.old) reader.new) }
     ensures range { IfOk result IsEdit }
+    ensures none { OnErr result (NoneOf Edit IsEdit edit_words (behind first reader.old)) }
     ensures shorter { OnOk result (length reader.new.words < length reader.old.words) }
 {
     match first {
@@ -274,33 +316,34 @@ fn waiting(reader: &mut Reader) -> Result<Act, ScriptFault>
     ensures spells { IfOk result (λ a. Passes (act_words a) (behind the.Wait reader.old)
         reader.new) }
     ensures range { IfOk result IsAct }
+    ensures none { OnErr result (NoneOf Act IsAct act_words (behind the.Wait reader.old)) }
     ensures shorter { OnOk result (length reader.new.words < length reader.old.words) }
 {
-    match reader.keyword() {
-        Some(Keyword::Contact) => {
-            reader.advance();
-            let contact = contact(reader)?;
-            let closed = level(reader)?;
-            Ok(Act::WaitContact { contact, closed })
-        }
-        _ => {
-            let frames = frames(reader)?;
-            Ok(Act::Wait(frames))
-        }
+    if reader.is_next(Keyword::Contact) {
+        reader.advance();
+        let contact = contact(reader)?;
+        let closed = level(reader)?;
+        return Ok(Act::WaitContact { contact, closed });
     }
+    let frames = frames(reader)?;
+    Ok(Act::Wait(frames))
 }
 
 /// `closed` or `open`
 fn level(reader: &mut Reader) -> Result<bool, ScriptFault>
     ensures spells { IfOk result (λ b. Passes (level_word b ∷ []) reader.old reader.new) }
+    ensures none { OnErr result (NoneOf Bool (λ b. Unit {0}) (λ b. level_word b ∷ []) reader.old) }
     ensures shorter { OnOk result (length reader.new.words < length reader.old.words) }
 {
-    match reader.keyword() {
-        Some(Keyword::Closed) => {
+    let Some(found) = reader.keyword() else {
+        return Err(reader.expected());
+    };
+    match found {
+        Keyword::Closed => {
             reader.advance();
             Ok(true)
         }
-        Some(Keyword::Open) => {
+        Keyword::Open => {
             reader.advance();
             Ok(false)
         }
@@ -313,15 +356,19 @@ fn committing(reader: &mut Reader) -> Result<Act, ScriptFault>
     ensures spells { IfOk result (λ a. Passes (act_words a) (behind the.Commit reader.old)
         reader.new) }
     ensures range { IfOk result IsAct }
+    ensures none { OnErr result (NoneOf Act IsAct act_words (behind the.Commit reader.old)) }
     ensures shorter { OnOk result (length reader.new.words < length reader.old.words) }
 {
-    match reader.keyword() {
-        Some(Keyword::In) => {
+    let Some(found) = reader.keyword() else {
+        return Err(reader.expected());
+    };
+    match found {
+        Keyword::In => {
             reader.advance();
             let delay = delay(reader)?;
             Ok(Act::CommitIn(delay))
         }
-        Some(Keyword::At) => {
+        Keyword::At => {
             reader.advance();
             let count = word(reader)?;
             Ok(Act::CommitAt(count))
@@ -334,6 +381,7 @@ fn committing(reader: &mut Reader) -> Result<Act, ScriptFault>
 pub fn act(reader: &mut Reader, first: Keyword) -> Result<Act, ScriptFault>
     ensures spells { IfOk result (λ a. Passes (act_words a) (behind first reader.old) reader.new) }
     ensures range { IfOk result IsAct }
+    ensures none { OnErr result (NoneOf Act IsAct act_words (behind first reader.old)) }
     ensures shorter { OnOk result (length reader.new.words ≤ length reader.old.words) }
 {
     match first {
@@ -353,7 +401,10 @@ pub fn act(reader: &mut Reader, first: Keyword) -> Result<Act, ScriptFault>
 }
 
 /// Whether an item is next.
-pub fn begins_item(reader: &Reader) -> bool {
+pub fn begins_item(reader: &Reader) -> bool
+    ensures begins { result ≡ true → BeginsItem reader.now.words }
+    ensures none { result ≡ false → BeginsNoItem reader.now.words }
+{
     match reader.keyword() {
         None => false,
         Some(first) => first.begins_item(),
@@ -365,6 +416,8 @@ pub fn items(alloc: Global, reader: &mut Reader, left: &mut u16) -> Result<Vec<I
     ensures formed { IfOk result (λ v. All IsItem v.items) }
     ensures counts { IfOk result (λ v. length v.items + left.new ≡ left.old) }
     ensures spells { IfOk result (λ v. AreItems v.items reader.old reader.new) }
+    ensures stops { OnOk result (BeginsNoItem reader.new.words) }
+    ensures none { IfErr result (λ e. e ≢ Memory → NoItems left.old reader.old.words) }
 {
     let mut list = Vec::new(alloc);
     while begins_item(reader) {
@@ -380,6 +433,8 @@ pub fn items(alloc: Global, reader: &mut Reader, left: &mut u16) -> Result<Vec<I
 /// An item, at the end of a list.
 fn one_more(reader: &mut Reader, list: &mut Vec<Item>) -> Result<(), ScriptFault>
     ensures formed { OnOk result (IsOneMore list.old.items list.new.items reader.old reader.new) }
+    ensures none { IfErr result (λ e. e ≢ Memory → NoneOf Edit (λ e. IsEdit e × Adds e) edit_words
+        reader.old) }
     ensures shorter { OnOk result (length reader.new.words < length reader.old.words) }
 {
     let Some(first) = reader.keyword() else {

@@ -88,7 +88,7 @@ pub enum Keyword {
 }
 
 impl Keyword {
-    ghost use Rattle.script_front.specs.Words.{letters, IsNoKeyword};
+    ghost use Rattle.script_front.specs.Words.{letters, IsNoKeyword, begins_item, begins_statement};
 
     /// The word of these bytes; None where they are neither a word of the grammar nor a brace.
     #[tactic(auto, unfolding(crate::specs::Words::letters))]
@@ -142,7 +142,9 @@ impl Keyword {
     }
 
     /// Whether an item begins with it.
-    pub fn begins_item(self) -> bool {
+    pub fn begins_item(self) -> bool
+        ensures { result ≡ begins_item self }
+    {
         match self {
             Keyword::Sub
             | Keyword::Service
@@ -155,7 +157,9 @@ impl Keyword {
     }
 
     /// Whether a statement begins with it.
-    pub fn begins_statement(self) -> bool {
+    pub fn begins_statement(self) -> bool
+        ensures { result ≡ begins_statement self }
+    {
         match self {
             Keyword::Drop
             | Keyword::Move

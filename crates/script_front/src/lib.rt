@@ -36,6 +36,3 @@ pub use script::Script;
 pub use time::TimeOfDay;
 pub use token::{Limits, Token};
 pub use tree::{Act, BlockId, Header, Item, Statement};
-
-#[cfg(test)]
-mod tests;

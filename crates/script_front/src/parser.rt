@@ -6,8 +6,10 @@ ghost use Rattle.script_front.specs.Block.{block_of};
 ghost use Rattle.script_front.specs.declared.keyword.Keyword.TheVariants as the;
 ghost use Rattle.script_front.specs.Words.{letters};
 ghost use Rattle.script_front.specs.Reading.{BeginsWith};
-ghost use Rattle.script_front.specs.Parsing.{AreDefined, IsDefined, IsSpelled};
-ghost use Rattle.script_front.specs.Denoting.{IsScriptOf};
+ghost use Rattle.script_front.specs.Parsing.{AreDefined, IsDefined, IsSpelled, NoDefinitions, NoNewName, SpellsNone};
+ghost use Rattle.script_front.specs.Denoting.{IsScriptOf, IsNoScript};
+ghost use Rattle.std.specs.Prelude.{IfErr, OnErr, List};
+ghost use Rattle.script_front.specs.declared.fault.ScriptFault.TheVariants.{Memory};
 ghost use Rattle.script_front.specs.Tree.{IsItem, IsName};
 
 use crate::fault::ScriptFault;
@@ -40,11 +42,14 @@ fn definitions(
     left: &mut u16,
 ) -> Result<Vec<Vec<Statement>>, ScriptFault>
     requires { names.old ≡ [] }
-    ensures { IfOk result (λ v. AreDefined names.new left.old left.new reader.old reader.new
+    ensures defined { IfOk result (λ v. AreDefined names.new left.old left.new reader.old reader.new
         v.items) }
+    ensures ends { OnOk result ((rest : List (List ℕ)) → reader.new.words ≢ letters the.Define ∷
+        rest) }
+    ensures none { IfErr result (λ e. e ≢ Memory → NoDefinitions [] left.old reader.old.words) }
 {
     let mut blocks = Vec::new(alloc);
-    while is_next(reader, Keyword::Define) {
+    while reader.is_next(Keyword::Define) {
         if blocks.len() == MOST_BLOCKS {
             return Err(ScriptFault::Limit(reader.position()));
         }
@@ -67,6 +72,8 @@ fn definition(
     requires begins { BeginsWith reader.old.words (letters the.Define) }
     ensures defined { IfOk result (λ v. IsDefined names.old names.new left.old left.new reader.old
         reader.new (block_of [] v.items)) }
+    ensures none { IfErr result (λ e. e ≢ Memory → NoDefinitions names.old left.old
+        reader.old.words) }
     ensures shorter { OnOk result (length reader.new.words < length reader.old.words) }
 {
     reader.advance();
@@ -82,6 +89,7 @@ fn new_name<'a>(reader: &Reader<'a>, names: &Names) -> Result<&'a str, ScriptFau
     ensures formed { IfOk result (λ s. IsName s.now) }
     ensures begins { IfOk result (λ s. BeginsWith reader.now.words s.now) }
     ensures new { IfOk result (λ s. (i : ℕ) → slice_get names.now i ≢ Some s.now) }
+    ensures none { OnErr result (NoNewName names.now reader.now.words) }
 {
     let name = name(reader)?;
     match names.find(name) {
@@ -90,20 +98,10 @@ fn new_name<'a>(reader: &Reader<'a>, names: &Names) -> Result<&'a str, ScriptFau
     }
 }
 
-/// Whether this word is next.
-fn is_next(reader: &Reader, keyword: Keyword) -> bool
-    ensures some { result ≡ true → 0 < length reader.now.words }
-    ensures begins { result ≡ true → BeginsWith reader.now.words (letters keyword) }
-{
-    match reader.keyword() {
-        None => false,
-        Some(found) => found == keyword,
-    }
-}
-
 /// The end of the text.
 fn end(reader: &Reader) -> Result<(), ScriptFault>
-    ensures { OnOk result (reader.now.words ≡ []) }
+    ensures all { OnOk result (reader.now.words ≡ []) }
+    ensures none { OnErr result (reader.now.words ≢ []) }
 {
     match reader.peek() {
         None => Ok(()),
@@ -113,7 +111,8 @@ fn end(reader: &Reader) -> Result<(), ScriptFault>
 
 /// The words of a whole script.
 fn script(alloc: Global, reader: &mut Reader) -> Result<Script, ScriptFault>
-    ensures { IfOk result (λ s. IsSpelled s reader.old) }
+    ensures spelled { IfOk result (λ s. IsSpelled s reader.old) }
+    ensures none { IfErr result (λ e. e ≢ Memory → SpellsNone reader.old.words) }
 {
     let last_line = reader.last_line();
     let header = header(reader)?;
@@ -139,8 +138,12 @@ fn script(alloc: Global, reader: &mut Reader) -> Result<Script, ScriptFault>
 /// deep, `NameUsed` for a second definition of a name, `NameUnknown` where a name is applied that was not defined
 /// before, `Limit` for a 65th definition, and for an item or statement past 8,192 in all; `Memory` where memory is
 /// refused. Each but `Memory` has the position of the token at fault, or just past the text.
+///
+/// Memory aside, a text is refused only where it is no script: where no tree with every number in range, names well
+/// formed and different, and no limit passed has its words on its lines.
 pub fn parse(alloc: Global, text: &str) -> Result<Script, ScriptFault>
     ensures script { IfOk result (λ s. IsScriptOf text.now s) }
+    ensures none { IfErr result (λ e. e ≢ Memory → IsNoScript text.now) }
 {
     let tokens = lex(alloc, text)?;
     let mut reader = Reader::new(text.as_bytes(), &tokens);

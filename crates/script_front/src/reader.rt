@@ -30,7 +30,7 @@ impl<'a> Model for Reader<'a> {
 }
 
 impl<'a> Reader<'a> {
-    ghost use Rattle.std.specs.Prelude.{◌≡◌, ◌≢◌, ℕ, ◌<◌, ◌≤◌, length, drop, List, [], ◌∷◌, MatchOption, IsSome, IfSome, None, IfOk, OnOk, OnErr};
+    ghost use Rattle.std.specs.Prelude.{◌≡◌, ◌≢◌, ℕ, ◌<◌, ◌≤◌, length, drop, List, [], ◌∷◌, MatchOption, IsSome, IfSome, None, Some, true, false, IfOk, OnOk, OnErr};
     ghost use Rattle.script_front.specs.Reading.{words_of, lines_of, line_at, line_of, AreWithin, BeginsWith, Passes};
     ghost use Rattle.script_front.specs.Words.{letters};
     ghost use Rattle.script_front.specs.Texts.{AreLetters};
@@ -108,10 +108,25 @@ impl<'a> Reader<'a> {
         ensures begins { IfSome result (λ k. BeginsWith self.now.words (letters k)) }
         ensures none { result ≡ None → (k : Keyword) (rest : List (List ℕ))
             → self.now.words ≢ letters k ∷ rest }
+        ensures is { (k : Keyword) (rest : List (List ℕ)) → self.now.words ≡ letters k ∷ rest
+            → result ≡ Some k }
     {
         match self.peek() {
             None => None,
             Some(word) => Keyword::of(word),
+        }
+    }
+
+    /// Whether this word of the grammar is next.
+    pub fn is_next(&self, keyword: Keyword) -> bool
+        ensures some { result ≡ true → 0 < length self.now.words }
+        ensures begins { result ≡ true → BeginsWith self.now.words (letters keyword) }
+        ensures none { result ≡ false → (rest : List (List ℕ)) → self.now.words ≢ letters keyword ∷
+            rest }
+    {
+        match self.keyword() {
+            None => false,
+            Some(found) => found == keyword,
         }
     }
 
@@ -150,18 +165,15 @@ impl<'a> Reader<'a> {
     /// Passes over this word.
     pub fn expect(&mut self, keyword: Keyword) -> Result<(), ScriptFault>
         ensures spells { OnOk result (Passes (letters keyword ∷ []) self.old self.new) }
+        ensures none { OnErr result ((rest : List (List ℕ)) → self.old.words ≢ letters keyword ∷
+            rest) }
         ensures shorter { OnOk result (length self.new.words < length self.old.words) }
     {
-        match self.keyword() {
-            Some(found) => {
-                if found != keyword {
-                    return Err(self.expected());
-                }
-                self.advance();
-                Ok(())
-            }
-            None => Err(self.expected()),
+        if !self.is_next(keyword) {
+            return Err(self.expected());
         }
+        self.advance();
+        Ok(())
     }
 }
 

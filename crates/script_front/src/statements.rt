@@ -5,7 +5,9 @@ ghost use Rattle.script_front.specs.Block.{and_then, before, block_of};
 ghost use Rattle.script_front.specs.declared.keyword.Keyword.TheVariants as the;
 ghost use Rattle.script_front.specs.Words.{letters};
 ghost use Rattle.script_front.specs.Reading.{Passes, behind, line_of};
-ghost use Rattle.script_front.specs.Parsing.{IsRead, IsBody, IsApplied};
+ghost use Rattle.script_front.specs.Parsing.{IsRead, IsBody, IsApplied, Stops, NoBlock, NoBody, NoApplied};
+ghost use Rattle.std.specs.Prelude.{◌≢◌, List, true, false, IfErr, OnErr};
+ghost use Rattle.script_front.specs.declared.fault.ScriptFault.TheVariants.{Memory};
 
 use crate::fault::ScriptFault;
 use crate::items::act;
@@ -27,9 +29,12 @@ fn statement(
     left: &mut u16,
     depth: u8,
 ) -> Result<Statement, ScriptFault>
-    requires { length names.now ≤ 64 }
+    requires known { length names.now ≤ 64 }
+    requires goes_on { Stops reader.old.words → ⊥ }
     ensures read { IfOk result (λ s. IsRead names.now depth left.old left.new reader.old reader.new
         (before [] s)) }
+    ensures none { IfErr result (λ e. e ≢ Memory → NoBlock names.now depth left.old
+        reader.old.words) }
     ensures shorter { OnOk result (length reader.new.words < length reader.old.words) }
 {
     let Some(first) = reader.keyword() else {
@@ -46,10 +51,22 @@ fn statement(
     reader.advance();
     match first {
         Keyword::End => Ok(ending(line)),
-        Keyword::If => choice(alloc, reader, names, left, depth, line),
-        Keyword::Repeat => repetition(alloc, reader, names, left, depth, line),
-        Keyword::Forever => endless(alloc, reader, names, left, depth, line),
-        Keyword::Apply => application(reader, names, line),
+        Keyword::If => {
+            let chosen = choice(alloc, reader, names, left, depth, line)?;
+            Ok(chosen)
+        }
+        Keyword::Repeat => {
+            let repeated = repetition(alloc, reader, names, left, depth, line)?;
+            Ok(repeated)
+        }
+        Keyword::Forever => {
+            let endless = endless(alloc, reader, names, left, depth, line)?;
+            Ok(endless)
+        }
+        Keyword::Apply => {
+            let applied = application(reader, names, line)?;
+            Ok(applied)
+        }
         _ => {
             let act = act(reader, first)?;
             Ok(acting(line, act))
@@ -69,6 +86,9 @@ pub fn statements(
     requires { length names.now ≤ 64 }
     ensures read { IfOk result (λ v. IsRead names.now depth left.old left.new reader.old reader.new
         (and_then [] v.items)) }
+    ensures stops { OnOk result (Stops reader.new.words) }
+    ensures none { IfErr result (λ e. e ≢ Memory → NoBlock names.now depth left.old
+        reader.old.words) }
     ensures shorter { OnOk result (length reader.new.words ≤ length reader.old.words) }
 {
     let mut list = Vec::new(alloc);
@@ -82,7 +102,11 @@ pub fn statements(
 }
 
 /// Whether statements end here.
-fn ends(reader: &Reader) -> bool {
+#[tactic(auto, unfolding(crate::specs::Words::letters))]
+fn ends(reader: &Reader) -> bool
+    ensures stops { result ≡ true → Stops reader.now.words }
+    ensures goes_on { result ≡ false → Stops reader.now.words → ⊥ }
+{
     match reader.peek() {
         None => true,
         Some(word) => match word {
@@ -104,6 +128,8 @@ pub fn block(
     requires { length names.now ≤ 64 }
     ensures read { IfOk result (λ v. IsBody names.now depth left.old left.new reader.old reader.new
         (block_of [] v.items)) }
+    ensures none { IfErr result (λ e. e ≢ Memory → NoBody names.now depth left.old
+        reader.old.words) }
     ensures shorter { OnOk result (length reader.new.words < length reader.old.words) }
 {
     open(reader, depth)?;
@@ -116,18 +142,18 @@ pub fn block(
 fn open(reader: &mut Reader, depth: u8) -> Result<(), ScriptFault>
     ensures room { OnOk result (1 ≤ depth) }
     ensures spells { OnOk result (Passes (letters the.OpenBrace ∷ []) reader.old reader.new) }
+    ensures none { OnErr result (1 ≤ depth → (rest : List (List ℕ))
+        → reader.old.words ≢ letters the.OpenBrace ∷ rest) }
     ensures shorter { OnOk result (length reader.new.words < length reader.old.words) }
 {
-    match reader.keyword() {
-        Some(Keyword::OpenBrace) => {
-            if depth == 0 {
-                return Err(ScriptFault::Depth(reader.position()));
-            }
-            reader.advance();
-            Ok(())
-        }
-        _ => Err(reader.expected()),
+    if !reader.is_next(Keyword::OpenBrace) {
+        return Err(reader.expected());
     }
+    if depth == 0 {
+        return Err(ScriptFault::Depth(reader.position()));
+    }
+    reader.advance();
+    Ok(())
 }
 
 /// What follows `if`.
@@ -144,19 +170,19 @@ fn choice(
     requires line { line ≡ line_of reader.old.lines (letters the.If ∷ reader.old.words) }
     ensures read { IfOk result (λ s. IsRead names.now depth (left.old + 1) left.new (behind the.If
         reader.old) reader.new (before [] s)) }
+    ensures none { IfErr result (λ e. e ≢ Memory → NoBlock names.now depth (left.old + 1)
+        (letters the.If ∷ reader.old.words)) }
     ensures shorter { OnOk result (length reader.new.words ≤ length reader.old.words) }
 {
     reader.expect(Keyword::Contact)?;
     let contact = contact(reader)?;
     let first = block(alloc, reader, names, left, depth)?;
-    match reader.keyword() {
-        Some(Keyword::Else) => {
-            reader.advance();
-            let second = block(alloc, reader, names, left, depth)?;
-            Ok(choosing(line, contact, first, second))
-        }
-        _ => Ok(conditional(line, contact, first)),
+    if !reader.is_next(Keyword::Else) {
+        return Ok(conditional(line, contact, first));
     }
+    reader.advance();
+    let second = block(alloc, reader, names, left, depth)?;
+    Ok(choosing(line, contact, first, second))
 }
 
 /// What follows `repeat`.
@@ -173,6 +199,8 @@ fn repetition(
     requires line { line ≡ line_of reader.old.lines (letters the.Repeat ∷ reader.old.words) }
     ensures read { IfOk result (λ s. IsRead names.now depth (left.old + 1) left.new (behind
         the.Repeat reader.old) reader.new (before [] s)) }
+    ensures none { IfErr result (λ e. e ≢ Memory → NoBlock names.now depth (left.old + 1)
+        (letters the.Repeat ∷ reader.old.words)) }
     ensures shorter { OnOk result (length reader.new.words ≤ length reader.old.words) }
 {
     let times = times(reader)?;
@@ -194,6 +222,8 @@ fn endless(
     requires line { line ≡ line_of reader.old.lines (letters the.Forever ∷ reader.old.words) }
     ensures read { IfOk result (λ s. IsRead names.now depth (left.old + 1) left.new (behind
         the.Forever reader.old) reader.new (before [] s)) }
+    ensures none { IfErr result (λ e. e ≢ Memory → NoBlock names.now depth (left.old + 1)
+        (letters the.Forever ∷ reader.old.words)) }
     ensures shorter { OnOk result (length reader.new.words ≤ length reader.old.words) }
 {
     let body = block(alloc, reader, names, left, depth)?;
@@ -204,6 +234,7 @@ fn endless(
 fn application(reader: &mut Reader, names: &Names, line: u16) -> Result<Statement, ScriptFault>
     requires { length names.now ≤ 64 }
     ensures read { IfOk result (λ s. IsApplied names.now line reader.old reader.new (before [] s)) }
+    ensures none { OnErr result (NoApplied names.now reader.old.words) }
     ensures shorter { OnOk result (length reader.new.words ≤ length reader.old.words) }
 {
     let name = name(reader)?;

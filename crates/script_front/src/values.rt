@@ -10,7 +10,7 @@ ghost use Rattle.std.specs.Fmt.{decimal};
 ghost use Rattle.script_front.specs.Reading.{Passes, BeginsWith};
 ghost use Rattle.script_front.specs.Spelling.{hex_word, sid_word, profile_word, time_word};
 ghost use Rattle.mux_config.specs.Configuration.{IsSid};
-ghost use Rattle.std.specs.Prelude.{true};
+ghost use Rattle.std.specs.Prelude.{true, false};
 ghost use Rattle.std.specs.List.{list_all};
 ghost use Rattle.script_front.specs.Tree.{IsName, has_name_letters, is_name_byte};
 
@@ -27,7 +27,8 @@ use plan_code::{ContactId, Delay, Frames, Times};
 #[tactic(auto, using(crate::proofs::Wording::decimal_letters, crate::proofs::Atoms::decimal_below, crate::proofs::Atoms::decimal_above))]
 pub fn decimal(reader: &mut Reader, low: u32, high: u32) -> Result<u32, ScriptFault>
     ensures spells { IfOk result (λ n. Passes (decimal n ∷ []) reader.old reader.new) }
-    ensures none { OnErr result ((n : ℕ) (rest : List (List ℕ)) → low ≤ n → n ≤ high → n < 1000000000
+    ensures none { OnErr result ((n : ℕ) (rest : List (List ℕ)) → low ≤ n → n ≤ high → n <
+        1000000000
         → reader.old.words ≢ decimal n ∷ rest) }
     ensures range { IfOk result (λ n. (low ≤ n) × (n ≤ high)) }
     ensures shorter { OnOk result (length reader.new.words < length reader.old.words) }
@@ -261,6 +262,8 @@ pub fn name<'a>(reader: &Reader<'a>) -> Result<&'a str, ScriptFault>
     ensures formed { IfOk result (λ s. IsName s.now) }
     ensures begins { IfOk result (λ s. BeginsWith reader.now.words s.now) }
     ensures some { OnOk result (0 < length reader.now.words) }
+    ensures none { OnErr result ((name : List ℕ) (rest : List (List ℕ)) → IsName name
+        → reader.now.words ≢ name ∷ rest) }
 {
     let atom = reader.atom()?;
     if !is_name(atom) {
@@ -274,7 +277,8 @@ pub fn name<'a>(reader: &Reader<'a>) -> Result<&'a str, ScriptFault>
 
 /// Whether a block may have this name.
 fn is_name(atom: &[u8]) -> bool
-    ensures { result ≡ true → IsName atom.now }
+    ensures formed { result ≡ true → IsName atom.now }
+    ensures none { result ≡ false → IsName atom.now → ⊥ }
 {
     if atom.len() > 32 {
         return false;

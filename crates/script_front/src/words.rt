@@ -187,7 +187,8 @@ fn put_after(out: &mut String, words: &str, sid: Sid) -> Result<(), AllocError>
 /// An edit.
 #[tactic(auto, unfolding(crate::specs::Words::letters))]
 pub fn put_edit(out: &mut String, edit: Edit) -> Result<(), AllocError>
-    ensures { OnOk result (string_bytes out.new ≡ string_bytes out.old ++ spaced (edit_words edit)) }
+    ensures { OnOk result (string_bytes out.new ≡ string_bytes out.old ++ spaced (edit_words
+        edit)) }
 {
     match edit {
         Edit::AddSub(sub) => put_new_sub(out, sub),

@@ -1,5 +1,5 @@
 use super::fake::{PlayFiles, bytes_of, run};
-use crate::compile::compile_text;
+use commands::compile::compile_text;
 use std::alloc::Global;
 use std::test::Fail;
 

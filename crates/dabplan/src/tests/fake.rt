@@ -1,7 +1,7 @@
 //! Files and writers that are handed in by tests.
 
-use crate::answer::answer;
-use crate::files::{FileFault, Files};
+use commands::answer::answer;
+use console::files::{FileFault, Files};
 use std::alloc::{AllocError, Global};
 use std::io::{self, Error, ErrorKind, Write};
 use std::test::Fail;

@@ -1,5 +1,5 @@
 use super::fake::{Failing, OneFile, bytes_of, words_of};
-use crate::answer::answer;
+use commands::answer::answer;
 use std::io::ErrorKind;
 use std::test::Fail;
 

@@ -1,5 +1,5 @@
 use super::fake::{OneFile, bytes_of, run};
-use crate::files::FileFault;
+use console::files::FileFault;
 use std::alloc::Global;
 use std::test::Fail;
 

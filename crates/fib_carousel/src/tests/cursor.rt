@@ -3,7 +3,7 @@
 use crate::tests::fixtures::{one_programme, put_service, put_sub, row_of_subs};
 use crate::tests::largest::largest;
 use crate::{Cursor, page, pages};
-use fib_codec::Mode;
+use fib_codec::{FibFrame, Mode};
 use mux_config::{Config, Ensemble, Sid};
 use std::process::Abort;
 use std::test::Fail;
@@ -36,17 +36,15 @@ fn compare_pages(rt: &impl Abort, mode: Mode, current: &Config, next: &Config) {
 fn compare_kept(rt: &impl Abort, mode: Mode, current: &Config, next: &Config, ensemble: Ensemble) {
     let count = pages(mode, current, Some(next));
     let mut cursor = Cursor::new();
+    let mut frame = FibFrame::new(mode);
     let mut k = 0;
     for turn in 0..200 {
         let kept = cursor.kept_page(mode, current, Some(next));
         let plain = page(mode, current, Some(next), k, None);
-        assert_eq!(rt; kept.without_ensemble(), plain, "frame {turn}");
+        assert_eq!(rt; *kept.without_ensemble(), plain, "frame {turn}");
         let plain = page(mode, current, Some(next), k, Some(ensemble));
-        assert_eq!(rt;
-            kept.with_ensemble(ensemble),
-            plain,
-            "frame {turn} with FIG 0/0"
-        );
+        kept.with_ensemble(ensemble, &mut frame);
+        assert_eq!(rt; frame, plain, "frame {turn} with FIG 0/0");
         k = if k + 1 < count { k + 1 } else { 0 };
     }
 }

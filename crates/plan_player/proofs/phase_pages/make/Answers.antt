@@ -13,7 +13,7 @@ returns-clause-keeps g c =
     let at = (c.requires.keeps.cursor c.requires.within).1 in
     let page = c.kept_page-page.result in
     let cursor = c.kept_page-page.new.self in
-    one_more mode ms c.args.pages.now c.from-place.result page c.count_of-count.result cursor c.requires.keeps c.from-place.ensures c.requires.few
+    one_more mode ms c.args.pages.now c.from-place.result page c.number.result cursor c.requires.keeps c.from-place.ensures c.requires.few c.requires.within
     (subst (λ (k : ℕ). IsKept mode ms k page) at c.kept_page-page.ensures.kept)
-    c.count_of-count.ensures
     (subst (λ (k : ℕ). StandsAt mode ms (page_after (rounds mode ms) k) cursor) at c.kept_page-page.ensures.next)
+    c.number.ensures

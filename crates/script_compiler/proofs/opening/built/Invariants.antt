@@ -1,7 +1,10 @@
 use Rattle.std.proofs.Common.{◌≡◌, drop}
 use Rattle.mux_config.specs.Configuration.{nothing}
-use Rattle.script_scheme.specs.Compiled.{with_items}
+use Rattle.script_scheme.specs.Compiled.{with_items, AreFine}
 use Rattle.script_compiler.proofs.opening.built.Given as goal
 
 abbrev pub invariant-loop-item : goal.invariant-loop-item
-invariant-loop-item l = with_items (drop l.item-index l.items) l.config ≡ with_items l.items nothing
+invariant-loop-item l = record {
+  made : with_items (drop l.item-index l.items) l.config ≡ with_items l.items nothing;
+  fine : AreFine (drop l.item-index l.items) l.config → AreFine l.items nothing;
+}

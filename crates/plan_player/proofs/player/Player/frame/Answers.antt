@@ -8,29 +8,29 @@ use Rattle.plan_machine.specs.Positions.{state_of}
 use Rattle.plan_player.proofs.FrameFacts.{lent_ready, lent_goes}
 use Rattle.plan_player.proofs.player.Player.frame.Goals as goal
 
-pub make_frame-frame-requires : goal.make_frame-frame-requires
-make_frame-frame-requires g c =
+pub make_frame-self-inside-requires : goal.make_frame-self-inside-requires
+make_frame-self-inside-requires g c =
     let i = c.self.inside in
     record { ready = lent_ready i.code.now c.code-code.result.now (state_of g.S.Store.content i.machine) i.steps i.pages c.code-code.ensures.value c.self.invariant }
 
 pub invariant_of-self : goal.invariant_of-self
 invariant_of-self g c =
     let i = c.self.inside in
-    let made = c.make_frame-frame in
-    lent_goes i.code.now c.code-code.result.now (state_of g.S.Store.content i.machine) (state_of g.S.Store.content made.new.machine) i.steps made.result.1 i.pages made.new.pages
+    let made = c.make_frame-self-inside in
+    lent_goes i.code.now c.code-code.result.now (state_of g.S.Store.content i.machine) (state_of g.S.Store.content made.new.machine) i.steps made.result i.pages made.new.pages
     c.code-code.ensures.value c.self.invariant made.ensures.state made.ensures.steps made.ensures.keeps made.ensures.change
 
 pub returns-clause-played : goal.returns-clause-played
 returns-clause-played g c =
     let i = c.self.inside in
-    let made = c.make_frame-frame in
-    (lent_goes i.code.now c.code-code.result.now (state_of g.S.Store.content i.machine) (state_of g.S.Store.content made.new.machine) i.steps made.result.1 i.pages made.new.pages
+    let made = c.make_frame-self-inside in
+    (lent_goes i.code.now c.code-code.result.now (state_of g.S.Store.content i.machine) (state_of g.S.Store.content made.new.machine) i.steps made.result i.pages made.new.pages
     c.code-code.ensures.value c.self.invariant made.ensures.state made.ensures.steps made.ensures.keeps made.ensures.change).played
 
 pub returns-clause-bytes : goal.returns-clause-bytes
 returns-clause-bytes g c =
     let s = state_of g.S.Store.content c.self.inside.machine in
-    c.make_frame-frame.ensures.bytes
+    c.frame.ensures _ c.make_frame-self-inside.ensures.bytes
     ∙ ap (λ (p : Program). frame_bytes p s) c.code-code.ensures.value
     ∙ ap (λ (x : Playing). frame_bytes x.code x.state) c.self.view_is
 

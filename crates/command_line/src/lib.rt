@@ -1,0 +1,10 @@
+//! The command line of the program: its words read into what is asked for, and its help.
+#![tactic(auto)]
+
+mod help;
+pub mod words;
+
+pub use words::{
+    CompileRequest, DebugRequest, FrameRequest, PlayRequest, Request, StartOptions, Unasked,
+    request_of,
+};

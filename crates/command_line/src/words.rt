@@ -1,0 +1,417 @@
+//! The words after the program's name, read into what is asked for.
+
+ghost use Rattle.std.specs.Prelude.{◌≡◌};
+ghost use Rattle.command_line.specs.Numbers.{mode_of};
+
+use crate::help;
+use clap::error::ErrorKind;
+use clap::{Arg, ArgMatches, Command, value_parser};
+use console::hexadecimal::word_of;
+use fib_codec::Mode;
+use mux_config::Ensemble;
+use plan_code::Contacts;
+use std::alloc::{AllocError, Global};
+use std::convert::AsStr;
+
+/// The version of the program, as CHANGELOG.md counts.
+const VERSION: &str = "0.1.0";
+
+/// What is asked for.
+#[derive(Drop)]
+pub enum Request<'a> {
+    /// `frame`.
+    Frame(FrameRequest<'a>),
+    /// `listen`, and the path of its file.
+    Listen(&'a str),
+    /// `compile`.
+    Compile(CompileRequest<'a>),
+    /// `verify`, and the path of its code file.
+    Verify(&'a str),
+    /// `play`.
+    Play(PlayRequest<'a>),
+    /// `debug`.
+    Debug(DebugRequest<'a>),
+}
+
+/// The files of `compile`.
+#[derive(Clone, Copy)]
+pub struct CompileRequest<'a> {
+    /// The path of the script.
+    pub script: &'a str,
+    /// The path of the code file that is made.
+    pub out: &'a str,
+}
+
+/// The files and options of `play`.
+#[derive(Clone, Copy)]
+pub struct PlayRequest<'a> {
+    /// The path of the code file.
+    pub code: &'a str,
+    /// The path of the event file.
+    pub events: &'a str,
+    /// The path of the file that the frames are written to.
+    pub out: &'a str,
+    /// How it starts.
+    pub start: StartOptions,
+}
+
+/// The files and options of `debug`.
+#[derive(Clone, Copy)]
+pub struct DebugRequest<'a> {
+    /// The path of the code file.
+    pub code: &'a str,
+    /// The path of the command file.
+    pub commands: &'a str,
+    /// How it starts.
+    pub start: StartOptions,
+}
+
+/// How a code starts to be played, which the code does not say.
+#[derive(Clone, Copy)]
+pub struct StartOptions {
+    /// The CIF count of the first frame.
+    pub count: u16,
+    /// The frame of the day of the first frame.
+    pub day: u32,
+    /// The contacts that are closed at first.
+    pub contacts: Contacts,
+}
+
+/// The options of `frame`.
+#[derive(Clone, Copy)]
+pub struct FrameRequest<'a> {
+    /// The path of the configuration record, or `-` for standard input.
+    pub config: &'a str,
+    /// The transmission mode.
+    pub mode: Mode,
+    /// The identifier of the ensemble and the CIF count, without change flags.
+    pub ensemble: Ensemble,
+    /// Which page of the configuration, from 0.
+    pub page: u16,
+}
+
+/// Why the words ask for nothing that the program does.
+#[derive(Drop)]
+pub enum Unasked<'a> {
+    /// They ask for help, or for the version: its text.
+    Help(clap::Error),
+    /// They are wrong: a text whose first lines say how.
+    Mistake(clap::Error),
+    /// The value of this option is not four hexadecimal digits.
+    Digits {
+        option: &'static str,
+        value: &'a str,
+    },
+    /// They name no command, or lack what it needs.
+    Nothing,
+    /// They are no text.
+    NoText,
+    /// There was no memory to read them.
+    Memory,
+}
+
+impl From<clap::Error> for Unasked<'_> {
+    fn from(error: clap::Error) -> Self {
+        match error.kind() {
+            ErrorKind::OutOfMemory => Unasked::Memory,
+            ErrorKind::DisplayHelp | ErrorKind::DisplayVersion => Unasked::Help(error),
+            _ => Unasked::Mistake(error),
+        }
+    }
+}
+
+impl From<AllocError> for Unasked<'_> {
+    fn from(_error: AllocError) -> Self {
+        Unasked::Memory
+    }
+}
+
+/// What these words, without the program's name, ask for.
+pub fn request_of<'a, S: AsStr>(alloc: Global, words: &'a [S]) -> Result<Request<'a>, Unasked<'a>> {
+    let matches = program(alloc)?.try_get_matches_from(words)?;
+    match matches.subcommand() {
+        Some(("frame", options)) => frame_request(options),
+        Some(("listen", options)) => listen_request(options),
+        Some(("compile", options)) => compile_request(options),
+        Some(("verify", options)) => verify_request(options),
+        Some(("play", options)) => play_request(options),
+        Some(("debug", options)) => debug_request(options),
+        _ => Err(Unasked::Nothing),
+    }
+}
+
+fn program<'a>(alloc: Global) -> Result<Command<'a>, AllocError> {
+    Command::new(alloc, "dabplan")
+        .no_binary_name(true)
+        .version(VERSION)
+        .about(help::PROGRAM)
+        .after_help(help::AFTER_PROGRAM)
+        .override_usage("dabplan <COMMAND>")
+        .subcommand(frame(alloc)?)?
+        .subcommand(listen(alloc)?)?
+        .subcommand(compile(alloc)?)?
+        .subcommand(verify(alloc)?)?
+        .subcommand(play(alloc)?)?
+        .subcommand(debug(alloc)?)
+}
+
+fn frame<'a>(alloc: Global) -> Result<Command<'a>, AllocError> {
+    let config = Arg::new(alloc, "config")
+        .value_name("CONFIG")
+        .required(true)
+        .help("The configuration record: a file, or '-' for standard input");
+    let ensemble = Arg::new(alloc, "ensemble")
+        .long("ensemble")
+        .value_name("HHHH")
+        .required(true)
+        .help("The identifier of the ensemble: four hexadecimal digits, upper case");
+    let count = Arg::new(alloc, "count")
+        .long("count")
+        .value_name("N")
+        .required(true)
+        .allow_negative_numbers(true)
+        .value_parser(value_parser!(u16).range(..5000))
+        .help(
+            "The CIF count of the frame, 0 to 4999; FIG 0/0 is sent where the mode's 4, 1, 1 or 2 divides it",
+        );
+    let page = Arg::new(alloc, "page")
+        .long("page")
+        .value_name("K")
+        .default_value("0")
+        .allow_negative_numbers(true)
+        .value_parser(value_parser!(u16))
+        .help("Which frame of a configuration that needs more than one, from 0");
+    let mode = Arg::new(alloc, "mode")
+        .long("mode")
+        .value_name("M")
+        .default_value("1")
+        .allow_negative_numbers(true)
+        .value_parser(value_parser!(u16).range(1..5))
+        .help("The transmission mode, 1 to 4; in mode 3 a frame has four FIBs, else three");
+    Command::new(alloc, "frame")
+        .about(help::FRAME)
+        .long_about(help::LONG_FRAME)
+        .after_long_help(help::AFTER_FRAME)
+        .override_usage(help::FRAME_USAGE)
+        .arg(config)?
+        .arg(ensemble)?
+        .arg(count)?
+        .arg(page)?
+        .arg(mode)
+}
+
+fn listen<'a>(alloc: Global) -> Result<Command<'a>, AllocError> {
+    let file = Arg::new(alloc, "file")
+        .value_name("FILE")
+        .required(true)
+        .help("The file of FIBs");
+    Command::new(alloc, "listen")
+        .about(help::LISTEN)
+        .long_about(help::LONG_LISTEN)
+        .after_long_help(help::AFTER_LISTEN)
+        .override_usage(help::LISTEN_USAGE)
+        .arg(file)
+}
+
+fn compile<'a>(alloc: Global) -> Result<Command<'a>, AllocError> {
+    let script = Arg::new(alloc, "script")
+        .value_name("SCRIPT")
+        .required(true)
+        .help("The script");
+    let out = Arg::new(alloc, "out")
+        .value_name("OUT")
+        .required(true)
+        .help("The code file that is made");
+    Command::new(alloc, "compile")
+        .about(help::COMPILE)
+        .long_about(help::LONG_COMPILE)
+        .after_long_help(help::AFTER_COMPILE)
+        .override_usage(help::COMPILE_USAGE)
+        .arg(script)?
+        .arg(out)
+}
+
+fn verify<'a>(alloc: Global) -> Result<Command<'a>, AllocError> {
+    let code = Arg::new(alloc, "code")
+        .value_name("CODE")
+        .required(true)
+        .help("The code file");
+    Command::new(alloc, "verify")
+        .about(help::VERIFY)
+        .long_about(help::LONG_VERIFY)
+        .after_long_help(help::AFTER_VERIFY)
+        .override_usage(help::VERIFY_USAGE)
+        .arg(code)
+}
+
+fn play<'a>(alloc: Global) -> Result<Command<'a>, AllocError> {
+    let code = Arg::new(alloc, "code")
+        .value_name("CODE")
+        .required(true)
+        .help("The code file");
+    let events = Arg::new(alloc, "events")
+        .value_name("EVENTS")
+        .required(true)
+        .help("The event file");
+    let out = Arg::new(alloc, "out")
+        .value_name("OUT")
+        .required(true)
+        .help("The file that the frames are written to");
+    Command::new(alloc, "play")
+        .about(help::PLAY)
+        .long_about(help::LONG_PLAY)
+        .after_long_help(help::AFTER_PLAY)
+        .override_usage(help::PLAY_USAGE)
+        .arg(code)?
+        .arg(events)?
+        .arg(out)?
+        .arg(count(alloc))?
+        .arg(day(alloc))?
+        .arg(contacts(alloc))
+}
+
+fn debug<'a>(alloc: Global) -> Result<Command<'a>, AllocError> {
+    let code = Arg::new(alloc, "code")
+        .value_name("CODE")
+        .required(true)
+        .help("The code file");
+    let commands = Arg::new(alloc, "commands")
+        .value_name("COMMANDS")
+        .required(true)
+        .help("The command file");
+    Command::new(alloc, "debug")
+        .about(help::DEBUG)
+        .long_about(help::LONG_DEBUG)
+        .after_long_help(help::AFTER_DEBUG)
+        .override_usage(help::DEBUG_USAGE)
+        .arg(code)?
+        .arg(commands)?
+        .arg(count(alloc))?
+        .arg(day(alloc))?
+        .arg(contacts(alloc))
+}
+
+/// The option of the first frame's count.
+fn count<'a>(alloc: Global) -> Arg<'a> {
+    Arg::new(alloc, "count")
+        .long("count")
+        .value_name("N")
+        .default_value("0")
+        .allow_negative_numbers(true)
+        .value_parser(value_parser!(u16))
+        .help("The CIF count of the first frame, 0 to 4999")
+}
+
+/// The option of the first frame's day frame.
+fn day<'a>(alloc: Global) -> Arg<'a> {
+    Arg::new(alloc, "day")
+        .long("day")
+        .value_name("N")
+        .default_value("0")
+        .allow_negative_numbers(true)
+        .value_parser(value_parser!(u32))
+        .help("The frame of the day of the first frame, 0 to 3599999, in frames of 24 ms")
+}
+
+/// The option of the contacts that are closed at first.
+fn contacts<'a>(alloc: Global) -> Arg<'a> {
+    Arg::new(alloc, "contacts")
+        .long("contacts")
+        .value_name("HHHH")
+        .default_value("0000")
+        .help(
+            "The contacts that are closed at first: four hexadecimal digits, contact 0 the lowest bit",
+        )
+}
+
+fn frame_request<'a>(options: &ArgMatches<'a>) -> Result<Request<'a>, Unasked<'a>> {
+    let digits = options.get_str("ensemble").unwrap_or("");
+    let Some(eid) = word_of(digits) else {
+        return Err(Unasked::Digits {
+            option: "--ensemble <HHHH>",
+            value: digits,
+        });
+    };
+    let config = options.get_str("config").ok_or(Unasked::Nothing)?;
+    let count = options.get_one::<u16>("count").ok_or(Unasked::Nothing)?;
+    let page = options.get_one::<u16>("page").ok_or(Unasked::Nothing)?;
+    let mode = options.get_one::<u16>("mode").ok_or(Unasked::Nothing)?;
+    let mode = mode_of(mode).ok_or(Unasked::Nothing)?;
+    let ensemble = Ensemble::new(eid, 0, false, count, None).ok_or(Unasked::Nothing)?;
+    Ok(Request::Frame(FrameRequest {
+        config,
+        mode,
+        ensemble,
+        page,
+    }))
+}
+
+/// The mode of this number; None where it is not 1 to 4.
+fn mode_of(number: u16) -> Option<Mode>
+    ensures { result ≡ mode_of number }
+{
+    match number {
+        1 => Some(Mode::I),
+        2 => Some(Mode::II),
+        3 => Some(Mode::III),
+        4 => Some(Mode::IV),
+        _ => None,
+    }
+}
+
+fn listen_request<'a>(options: &ArgMatches<'a>) -> Result<Request<'a>, Unasked<'a>> {
+    let file = options.get_str("file").ok_or(Unasked::Nothing)?;
+    Ok(Request::Listen(file))
+}
+
+fn compile_request<'a>(options: &ArgMatches<'a>) -> Result<Request<'a>, Unasked<'a>> {
+    let script = options.get_str("script").ok_or(Unasked::Nothing)?;
+    let out = options.get_str("out").ok_or(Unasked::Nothing)?;
+    Ok(Request::Compile(CompileRequest { script, out }))
+}
+
+fn verify_request<'a>(options: &ArgMatches<'a>) -> Result<Request<'a>, Unasked<'a>> {
+    let code = options.get_str("code").ok_or(Unasked::Nothing)?;
+    Ok(Request::Verify(code))
+}
+
+fn play_request<'a>(options: &ArgMatches<'a>) -> Result<Request<'a>, Unasked<'a>> {
+    let start = start_options(options)?;
+    let code = options.get_str("code").ok_or(Unasked::Nothing)?;
+    let events = options.get_str("events").ok_or(Unasked::Nothing)?;
+    let out = options.get_str("out").ok_or(Unasked::Nothing)?;
+    Ok(Request::Play(PlayRequest {
+        code,
+        events,
+        out,
+        start,
+    }))
+}
+
+fn debug_request<'a>(options: &ArgMatches<'a>) -> Result<Request<'a>, Unasked<'a>> {
+    let start = start_options(options)?;
+    let code = options.get_str("code").ok_or(Unasked::Nothing)?;
+    let commands = options.get_str("commands").ok_or(Unasked::Nothing)?;
+    Ok(Request::Debug(DebugRequest {
+        code,
+        commands,
+        start,
+    }))
+}
+
+fn start_options<'a>(options: &ArgMatches<'a>) -> Result<StartOptions, Unasked<'a>> {
+    let digits = options.get_str("contacts").unwrap_or("");
+    let Some(contacts) = word_of(digits) else {
+        return Err(Unasked::Digits {
+            option: "--contacts <HHHH>",
+            value: digits,
+        });
+    };
+    let count = options.get_one::<u16>("count").ok_or(Unasked::Nothing)?;
+    let day = options.get_one::<u32>("day").ok_or(Unasked::Nothing)?;
+    Ok(StartOptions {
+        count,
+        day,
+        contacts: Contacts(contacts),
+    })
+}

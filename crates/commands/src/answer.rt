@@ -1,0 +1,139 @@
+//! The whole program, over its words, its files and its output.
+
+ghost use Rattle.std.specs.Prelude.{◌≡◌, ◌≤◌, IsErr};
+
+use crate::{compile, debug, play, verify};
+use command_line::{Request, Unasked, request_of};
+use console::ending::{Failure, Status};
+use console::files::Files;
+use console::output::Output;
+use listings::{frame, listen};
+use std::alloc::{AllocError, Global};
+use std::convert::AsStr;
+use std::io::{self, ErrorKind, Write};
+
+/// The program: does what the words after its name ask for, prints to `out`, and answers its exit status.
+///
+/// 0: done, or help was asked for. 1: refused, a file could not be read, there was no memory, or `out`
+/// failed, after which nothing more is printed. 2: the words are wrong, which is found before a file is
+/// read. What it prints is shown by tests alone.
+pub fn answer<S: AsStr, F: Files, W: Write>(
+    alloc: Global,
+    words: &[S],
+    files: &mut F,
+    out: &mut W,
+) -> u8
+    ensures { result ≤ 2 }
+{
+    let mut output = Output::new(out);
+    let ended = obey(alloc, words, files, &mut output);
+    status_of(ended, &mut output)
+}
+
+/// The answer where the words themselves can't be had: prints why, and answers the exit status, 1 where there
+/// was no memory for them or `out` failed, and else 2.
+pub fn answer_without_words<W: Write>(alloc: Global, error: &io::Error, out: &mut W) -> u8
+    ensures { result ≤ 2 }
+{
+    let mut output = Output::new(out);
+    let unasked = match error.kind() {
+        ErrorKind::OutOfMemory => Unasked::Memory,
+        _ => Unasked::NoText,
+    };
+    let ended = explain(alloc, unasked, &mut output);
+    status_of(ended, &mut output)
+}
+
+/// The exit status, once all that is printed went out; 1 where printing failed.
+fn status_of<W: Write>(ended: io::Result<Status>, out: &mut W) -> u8
+    ensures bound { result ≤ 2 }
+    ensures failed { IsErr ended → result ≡ 1 }
+{
+    let Ok(status) = ended else {
+        return Status::Refused as u8;
+    };
+    match out.flush() {
+        Ok(()) => status as u8,
+        Err(_) => Status::Refused as u8,
+    }
+}
+
+fn obey<S: AsStr, F: Files, W: Write>(
+    alloc: Global,
+    words: &[S],
+    files: &mut F,
+    out: &mut W,
+) -> io::Result<Status> {
+    match request_of(alloc, words) {
+        Ok(Request::Frame(request)) => told(frame::show_frame(alloc, &request, files, out), out),
+        Ok(Request::Listen(path)) => told(listen::show_heard(alloc, path, files, out), out),
+        Ok(Request::Compile(request)) => told(
+            compile::show_compile(alloc, &request, files, out),
+            out,
+        ),
+        Ok(Request::Verify(path)) => told(verify::show_verdict(alloc, path, files, out), out),
+        Ok(Request::Play(request)) => told(play::show_play(alloc, &request, files, out), out),
+        Ok(Request::Debug(request)) => told(debug::show_debug(alloc, &request, files, out), out),
+        Err(unasked) => explain(alloc, unasked, out),
+    }
+}
+
+/// Prints the one line of a failure.
+fn told<W: Write>(ended: Result<Status, Failure<'_>>, out: &mut W) -> io::Result<Status> {
+    match ended {
+        Ok(status) => Ok(status),
+        Err(failure) => {
+            writeln!(out, "{failure}")?;
+            Ok(Status::Refused)
+        }
+    }
+}
+
+/// Prints the help that was asked for, or the one line of a mistake on the command line.
+fn explain<W: Write>(alloc: Global, unasked: Unasked<'_>, out: &mut W) -> io::Result<Status> {
+    let text = match unasked {
+        Unasked::Help(help) => {
+            write!(out, "{help}")?;
+            return Ok(Status::Done);
+        }
+        Unasked::Mistake(error) => error.to_string(alloc),
+        Unasked::Digits { option, value } => format!(in alloc;
+            "error: invalid value '{value}' for '{option}': four digits 0-9 A-F are wanted"
+        ),
+        Unasked::Nothing =>
+            "error: a command is wanted: frame, listen, compile, verify, play, debug or help".to_string(
+                alloc,
+            ),
+        Unasked::NoText => "error: a word of the command line is not UTF-8".to_string(alloc),
+        Unasked::Memory => Err(AllocError),
+    };
+    match text {
+        Ok(text) => {
+            mistake(text.as_str(), out)?;
+            Ok(Status::Misused)
+        }
+        Err(_) => told(Err(Failure::Memory), out),
+    }
+}
+
+/// One line of an error's text: its lines up to the usage, with a tip after a semicolon.
+fn mistake<W: Write>(text: &str, out: &mut W) -> io::Result<()> {
+    let mut is_first = true;
+    for line in text.lines() {
+        let words = line.trim();
+        if words.starts_with("Usage:") || words.starts_with("For more information") {
+            break;
+        }
+        if !words.is_empty() {
+            if words.starts_with("tip:") {
+                write!(out, ";")?;
+            }
+            if !is_first {
+                write!(out, " ")?;
+            }
+            write!(out, "{words}")?;
+            is_first = false;
+        }
+    }
+    writeln!(out)
+}

@@ -1,0 +1,9 @@
+//! The whole program over its words, its files and its output: `answer`, and the commands of plans, `compile`, `verify`,
+//! `play` and `debug`.
+#![tactic(auto)]
+
+pub mod answer;
+pub mod compile;
+pub mod debug;
+pub mod play;
+pub mod verify;

@@ -1,0 +1,63 @@
+//! `dabplan play`: a plan code played over events, its frames written to a file.
+
+use command_line::PlayRequest;
+use console::ending::{Failure, Status};
+use console::files::Files;
+use plan_code::CodeFault;
+use plan_events::EventFault;
+use plan_playback::{RunFault, run_into};
+use std::alloc::Global;
+use std::io::Write;
+use std::str;
+
+/// Does what `play` is asked for: plays the code over the events, writes the FIBs of each frame to the file, and prints
+/// how many frames were written, or why none were or no more.
+///
+/// The code and the events are read first, and then the file is made, so that it stays as it was where one of them can't
+/// be read. A code or events that are refused leave it empty.
+pub fn show_play<'a, F: Files, W: Write>(
+    alloc: Global,
+    request: &PlayRequest<'a>,
+    files: &mut F,
+    out: &mut W,
+) -> Result<Status, Failure<'a>> {
+    let code = files
+        .read(alloc, request.code)
+        .map_err(|fault| Failure::of_file(fault, request.code))?;
+    let text = files
+        .read(alloc, request.events)
+        .map_err(|fault| Failure::of_file(fault, request.events))?;
+    let events = text_of(text.as_slice(), request.events)?;
+    let file = files
+        .create(request.out)
+        .map_err(|fault| Failure::of_output(fault, request.out))?;
+    let (ended, _file) = run_into(
+        alloc,
+        code.as_slice(),
+        events,
+        request.start.count,
+        request.start.day,
+        request.start.contacts,
+        file,
+    );
+    match ended {
+        Ok(frames) => {
+            writeln!(out, "played {frames} frames")?;
+            Ok(Status::Done)
+        }
+        Err(RunFault::Code(CodeFault::Memory)) => Err(Failure::Memory),
+        Err(RunFault::Events(EventFault::Memory)) => Err(Failure::Memory),
+        Err(fault) => {
+            writeln!(out, "{fault}")?;
+            Ok(Status::Refused)
+        }
+    }
+}
+
+/// The text that the bytes of a file are; one that is not UTF-8 can't be read.
+pub fn text_of<'b, 'a>(bytes: &'b [u8], path: &'a str) -> Result<&'b str, Failure<'a>> {
+    match str::from_utf8(bytes) {
+        Ok(text) => Ok(text),
+        Err(_) => Err(Failure::Read(path)),
+    }
+}

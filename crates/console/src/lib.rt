@@ -1,0 +1,8 @@
+//! What every command of the program stands on: the files that it reads and makes, standard output, how a command ends,
+//! and hexadecimal digits.
+#![tactic(auto)]
+
+pub mod ending;
+pub mod files;
+pub mod hexadecimal;
+pub mod output;

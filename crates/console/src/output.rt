@@ -1,0 +1,89 @@
+//! Standard output: few writes, and none after one that failed.
+
+ghost use Rattle.std.specs.Prelude.{◌≡◌, ◌<◌, ◌≤◌, IfOk, OnOk, length, take};
+ghost use Rattle.std.specs.Io.{WritesAtMost};
+ghost use Rattle.std.specs.Io.KnownBytes.{Appends, Keeps, WriteAppends};
+
+use arrayvec::ArrayVec;
+use std::io::{self, Error, ErrorKind, Write};
+
+/// A writer that gathers what is printed and hands it to `out` in pieces of up to 2,048 bytes.
+///
+/// A write that fails, takes nothing or is interrupted is not tried again: nothing goes to `out` after it,
+/// and each later flush answers an error. What stands in `out`, and then what is held, is all that was
+/// printed, also then.
+#[derive(Drop)]
+pub struct Output<'a, W> {
+    out: &'a mut W,
+    held: ArrayVec<u8, 2048>,
+    has_failed: bool,
+}
+
+impl<'a, W: Write> Output<'a, W> {
+    ghost use Rattle.console.specs.Printed.{printed, writer_of};
+
+    /// Nothing printed so far.
+    pub fn new(out: &'a mut W) -> Self
+        ensures { Keeps (W.contents out.old) (printed W.contents result) }
+    {
+        Output {
+            out,
+            held: ArrayVec::new(),
+            has_failed: false,
+        }
+    }
+}
+
+impl<W: Write> Write for Output<'_, W> {
+    ghost use Rattle.console.specs.Printed.{printed, writer_of};
+
+    ghost contents = { printed W.contents };
+
+    fn write(&mut self, bytes: &[u8]) -> io::Result<usize>
+        ensures bound { WritesAtMost result bytes.now }
+        ensures bytes { WriteAppends (printed W.contents self.old) (printed W.contents self.new) result bytes.now }
+        ensures some { IfOk result (λ count. 0 < length bytes.now → 0 < count) }
+    {
+        if self.held.is_full() {
+            self.flush()?;
+        }
+        let count = bytes.len().min(self.held.remaining_capacity());
+        match self.held.try_extend_from_slice(&bytes[..count]) {
+            Ok(()) => Ok(count),
+            Err(_) => Err(Error::from(ErrorKind::Other)),
+        }
+    }
+
+    fn flush(&mut self) -> io::Result<()>
+        ensures bytes { Keeps (printed W.contents self.old) (printed W.contents self.new) }
+        ensures passed { OnOk result (Keeps (printed W.contents self.old) (W.contents (writer_of self.new))) }
+        ensures emptied { OnOk result (length self.new.held.items ≡ 0) }
+    {
+        if self.has_failed {
+            return Err(Error::from(ErrorKind::Other));
+        }
+        let (taken, result) = write_out(self.held.as_slice(), self.out);
+        let mut left = ArrayVec::new();
+        let _ = left.try_extend_from_slice(&self.held.as_slice()[taken..]);
+        self.held = left;
+        self.has_failed = result.is_err();
+        result
+    }
+}
+
+/// Writes until all is written or a write fails, and answers how many bytes were taken.
+pub fn write_out<W: Write>(bytes: &[u8], out: &mut W) -> (usize, io::Result<()>)
+    ensures bound { result.0 ≤ length bytes.now }
+    ensures all { OnOk result.1 (result.0 ≡ length bytes.now) }
+    ensures taken { Appends (W.contents out.old) (W.contents out.new) (take result.0 bytes.now) }
+{
+    let mut taken = 0;
+    while taken < bytes.len() {
+        match out.write(&bytes[taken..]) {
+            Ok(0) => return (taken, Err(Error::from(ErrorKind::WriteZero))),
+            Ok(count) => taken += count,
+            Err(_) => return (taken, Err(Error::from(ErrorKind::Other))),
+        }
+    }
+    (taken, Ok(()))
+}

@@ -1,3 +1,0 @@
-mod Appending
-mod Hearing
-mod Leading

@@ -1,0 +1,169 @@
+//! Every command, where a file fails at each call, and where the output fails after each write.
+
+use super::fake::{Failing, bytes_of, run, words_of};
+use super::rows::{RATES, RATES_FILE};
+use super::shelf::{Named, Shelf};
+use commands::answer::answer;
+use console::files::FileFault;
+use std::alloc::Global;
+use std::cell::RefCell;
+use std::io::ErrorKind;
+use std::process::Abort;
+use std::test::Fail;
+
+/// A configuration with one programme.
+const RECORD: &str = "01 01 00 01 00 00 00 03 00 80 00 C2 21 01 00 3F 01";
+
+/// A command line, and what it prints where its first, its second, its third file fails.
+type Row = (&'static str, &'static [&'static str]);
+
+/// Every command, with its files.
+const ROWS: [Row; 7] = [
+    (
+        "frame x.record --ensemble E1C5 --count 1",
+        &["cannot read x.record\n"],
+    ),
+    ("frame - --ensemble E1C5 --count 1", &["cannot read -\n"]),
+    ("listen x.fib", &["cannot read x.fib\n"]),
+    (
+        "compile x.script x.out",
+        &["cannot read x.script\n", "cannot write x.out\n"],
+    ),
+    ("verify x.code", &["cannot read x.code\n"]),
+    (
+        "play x.code x.events x.out",
+        &[
+            "cannot read x.code\n",
+            "cannot read x.events\n",
+            "cannot write x.out\n",
+        ],
+    ),
+    (
+        "debug x.code x.commands",
+        &["cannot read x.code\n", "cannot read x.commands\n"],
+    ),
+];
+
+/// The files that the commands read.
+fn files_of<'a>(record: &'a [u8], code: &'a [u8], fibs: &'a [u8]) -> [Named<'a>; 7] {
+    [
+        ("x.record", record),
+        ("-", record),
+        ("x.fib", fibs),
+        ("x.script", RATES.as_bytes()),
+        ("x.code", code),
+        ("x.events", b"contact 3 closed frames 30"),
+        ("x.commands", b"contact 3 closed run 30 show"),
+    ]
+}
+
+/// What `play` makes of these files.
+fn fibs_of(alloc: Global, record: &[u8], code: &[u8]) -> Result<Vec<u8>, Fail> {
+    let files = files_of(record, code, &[]);
+    let made = RefCell::new(Vec::new(alloc));
+    let mut shelf = Shelf::new(&files, &made, 10_000);
+    let (status, _) = run(alloc, "play x.code x.events x.out", &mut shelf)?;
+    if status != 0 {
+        return Err("frames to listen to".into());
+    }
+    Ok(made.into_inner())
+}
+
+/// The command whose call of this number fails prints the line of that, calls no file after it and makes none.
+fn fails_at(
+    rt: &impl Abort,
+    alloc: Global,
+    files: &[Named<'_>],
+    row: Row,
+    call: u32,
+    fault: FileFault,
+) -> Result<(), Fail> {
+    let (line, refusals) = row;
+    let made = RefCell::new(Vec::new(alloc));
+    let mut shelf = Shelf::new(files, &made, 10_000);
+    shelf.fail_at(call, fault);
+    let (status, printed) = run(alloc, line, &mut shelf)?;
+    let refusal = refusals.get(call.saturating_sub(1) as usize);
+    match (refusal, fault) {
+        (None, _) => {
+            assert_eq!(rt; status, 0, "{line}");
+            assert_eq!(rt; shelf.calls as usize, refusals.len());
+            return Ok(());
+        }
+        (Some(refusal), FileFault::Failed) => assert_eq!(rt; printed.as_str(), *refusal),
+        (Some(_), FileFault::Memory) => assert_eq!(rt; printed.as_str(), "no memory\n"),
+    }
+    assert_eq!(rt; status, 1);
+    assert_eq!(rt; shelf.calls, call);
+    assert_eq!(rt; made.into_inner().len(), 0);
+    Ok(())
+}
+
+#[test]
+fn files_that_fail_at_each_call(rt: HostRuntime) -> Result<(), Fail> {
+    let alloc = rt.alloc();
+    let record = bytes_of(alloc, RECORD)?;
+    let code = bytes_of(alloc, RATES_FILE)?;
+    let fibs = fibs_of(alloc, record.as_slice(), code.as_slice())?;
+    let files = files_of(record.as_slice(), code.as_slice(), fibs.as_slice());
+    for row in ROWS {
+        for call in 1..=4 {
+            fails_at(&rt, alloc, &files, row, call, FileFault::Failed)?;
+            fails_at(&rt, alloc, &files, row, call, FileFault::Memory)?;
+        }
+    }
+    Ok(())
+}
+
+/// The exit status of a command whose output takes eight bytes at a call for so many calls, and fails as `fault` then;
+/// and that output.
+fn told(
+    alloc: Global,
+    line: &str,
+    files: &[Named<'_>],
+    calls: u32,
+    fault: Option<ErrorKind>,
+) -> Result<(u8, Failing), Fail> {
+    let words = words_of(alloc, line)?;
+    let made = RefCell::new(Vec::new(alloc));
+    let mut shelf = Shelf::new(files, &made, 10_000);
+    let mut out = Failing {
+        takes: 8,
+        calls,
+        fault,
+        taken: 0,
+        tried: 0,
+    };
+    let status = answer(alloc, words.as_slice(), &mut shelf, &mut out);
+    Ok((status, out))
+}
+
+/// After the first write that fails there is no other, and the exit status is 1.
+fn stops(rt: &impl Abort, alloc: Global, line: &str, files: &[Named<'_>]) -> Result<(), Fail> {
+    let (status, whole) = told(alloc, line, files, u32::MAX, None)?;
+    assert_eq!(rt; status, 0, "{line}");
+    assert!(rt; whole.taken > 0, "{line}");
+    for calls in 0..whole.tried {
+        for fault in [Some(ErrorKind::Other), Some(ErrorKind::Interrupted), None] {
+            let (status, out) = told(alloc, line, files, calls, fault)?;
+            assert_eq!(rt; status, 1, "{line} after {calls}");
+            assert_eq!(rt; out.taken, 8 * calls as usize);
+            assert_eq!(rt; out.tried, calls.saturating_add(1));
+        }
+    }
+    Ok(())
+}
+
+#[test]
+fn outputs_that_fail_after_each_write(rt: HostRuntime) -> Result<(), Fail> {
+    let alloc = rt.alloc();
+    let record = bytes_of(alloc, RECORD)?;
+    let code = bytes_of(alloc, RATES_FILE)?;
+    let fibs = fibs_of(alloc, record.as_slice(), code.as_slice())?;
+    let files = files_of(record.as_slice(), code.as_slice(), fibs.as_slice());
+    for (line, _) in ROWS {
+        stops(&rt, alloc, line, &files)?;
+    }
+    stops(&rt, alloc, "help", &files)?;
+    stops(&rt, alloc, "--version", &files)
+}

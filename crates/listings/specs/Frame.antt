@@ -1,0 +1,37 @@
+-- One frame of the configuration that a record holds, or the first fault that is met.
+use Rattle.std.specs.Prelude.{ℕ, ◌%◌, ◌==◌, nat_lt, if◌then◌else◌, List, length, Option, Some, None, Result, Ok, Err}
+use Rattle.mux_config.specs.Configuration.{Configuration}
+use Rattle.mux_config.specs.Entries.{EnsembleInformation}
+use Rattle.mux_config.specs.Reading.{Reads, config_at}
+use Rattle.mux_config.specs.Sound.{sound_or_fault}
+use Rattle.mux_config.specs.declared.fault.ConfigFault.{ConfigFault}
+use Rattle.fib_codec.specs.Modes.{count_step}
+use Rattle.fib_codec.specs.declared.modes.Mode.{Mode}
+use Rattle.fib_carousel.specs.Pages.{page_set, rounds}
+use Rattle.fib_carousel.specs.Bytes.{page_bytes}
+use Rattle.listings.specs.declared.frame.FrameFault.{FrameFault}
+use Rattle.listings.specs.declared.frame.FrameFault.TheVariants.{Record, Trailing, Unsound, NoSuchPage}
+
+-- FIG 0/0 goes out in the frames whose count the mode's step divides
+abbrev pub sent : Mode → EnsembleInformation → Option EnsembleInformation
+sent mode ensemble = if ensemble.count % count_step mode == 0 then Some ensemble else None
+
+abbrev pub page_or_fault : Mode → EnsembleInformation → ℕ → Configuration → Result (List ℕ) FrameFault
+page_or_fault mode ensemble page c =
+    if nat_lt page (rounds mode (page_set c None)) then Ok (page_bytes mode (sent mode ensemble) page (page_set c None))
+    else Err NoSuchPage
+
+abbrev pub judged : Result (Unit {0}) ConfigFault → Result (List ℕ) FrameFault → Result (List ℕ) FrameFault
+judged (Err fault) page = Err (Unsound fault)
+judged (Ok sound) page = page
+
+abbrev pub frame_of_read : Mode → EnsembleInformation → ℕ → Reads Configuration → Result (List ℕ) FrameFault
+frame_of_read mode ensemble page (Err fault) = Err (Record fault)
+frame_of_read mode ensemble page (Ok (c, rest)) =
+    if nat_lt 0 (length rest) then Err Trailing
+    else judged (sound_or_fault c) (page_or_fault mode ensemble page c)
+
+-- the bytes of a page of the configuration in the record, or the first fault: of the record, bytes after it, of
+-- the configuration, of the page
+abbrev pub frame_of : Mode → EnsembleInformation → ℕ → List ℕ → Result (List ℕ) FrameFault
+frame_of mode ensemble page bytes = frame_of_read mode ensemble page (config_at bytes)

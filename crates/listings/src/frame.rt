@@ -1,0 +1,124 @@
+//! `dabplan frame`: one frame of the configuration that a record holds.
+
+ghost use Rattle.std.specs.Prelude.{◌≡◌};
+ghost use Rattle.listings.specs.Frame.{frame_of, page_or_fault, sent};
+
+use command_line::FrameRequest;
+use console::ending::{Failure, Status};
+use console::files::Files;
+use console::hexadecimal::digits_of_fib;
+use fib_carousel::{page, pages};
+use fib_codec::{FibFrame, Mode};
+use mux_config::{Config, ConfigFault, Ensemble, RecordFault, read_config, soundness};
+use std::alloc::Global;
+use std::io::{self, Write};
+use thiserror::Error;
+
+/// Why the bytes of a record give no frame, in the order in which [`frame_of`] tests.
+#[derive(Clone, Copy, Debug, PartialEq, Eq, Error)]
+pub enum FrameFault {
+    /// They are no configuration record.
+    #[error("record: {0}")]
+    Record(RecordFault),
+    /// Bytes stand after the record.
+    #[error("record: trailing")]
+    Trailing,
+    /// Its configuration is not sound.
+    #[error("refused: {0}")]
+    Unsound(ConfigFault),
+    /// Its configuration has no page of this number.
+    #[error("refused: no such page")]
+    NoSuchPage,
+}
+
+/// Does what `frame` is asked for: prints the FIBs of the frame, three or in mode III four, a line each.
+pub fn show_frame<'a, F: Files, W: Write>(
+    alloc: Global,
+    request: &FrameRequest<'a>,
+    files: &mut F,
+    out: &mut W,
+) -> Result<Status, Failure<'a>> {
+    let record = if request.config == "-" {
+        files.input(alloc)
+    } else {
+        files.read(alloc, request.config)
+    };
+    let record = record.map_err(|fault| Failure::of_file(fault, request.config))?;
+    match frame_of(
+        record.as_slice(),
+        request.mode,
+        request.ensemble,
+        request.page,
+    ) {
+        Ok(frame) => {
+            print_fibs(&frame, out)?;
+            Ok(Status::Done)
+        }
+        Err(fault) => {
+            writeln!(out, "{fault}")?;
+            Ok(Status::Refused)
+        }
+    }
+}
+
+/// The FIBs of page `index` of the configuration in a record, with FIG 0/0 of `ensemble` where its count is a
+/// multiple of the mode's step: 4, 1, 1 or 2 (EN 300 401 clauses 5.1 and 6.4).
+///
+/// The first fault is answered: `Record`, `Trailing`, `Unsound`, `NoSuchPage`.
+pub fn frame_of(
+    bytes: &[u8],
+    mode: Mode,
+    ensemble: Ensemble,
+    index: u16,
+) -> Result<FibFrame, FrameFault>
+    ensures { result ≡ frame_of mode ensemble index bytes.now }
+{
+    let (config, length) = match read_config(bytes) {
+        Ok(read) => read,
+        Err(fault) => return Err(FrameFault::Record(fault)),
+    };
+    if length < bytes.len() {
+        return Err(FrameFault::Trailing);
+    }
+    if let Err(fault) = soundness(&config) {
+        return Err(FrameFault::Unsound(fault));
+    }
+    page_of(&config, mode, ensemble, index)
+}
+
+/// The FIBs of page `index` of a configuration alone; `NoSuchPage` where there is no such page.
+fn page_of<'a>(
+    config: &'a Config,
+    mode: Mode,
+    ensemble: Ensemble,
+    index: u16,
+) -> Result<FibFrame, FrameFault>
+    ensures { result ≡ page_or_fault mode ensemble index config.now }
+{
+    let alone: Option<&'a Config> = None;
+    let index = usize::from(index);
+    if index >= pages(mode, config, alone) {
+        return Err(FrameFault::NoSuchPage);
+    }
+    Ok(page(mode, config, alone, index, sent(mode, ensemble)))
+}
+
+/// The ensemble information that goes out: in the frames whose count is a multiple of the mode's step.
+fn sent(mode: Mode, ensemble: Ensemble) -> Option<Ensemble>
+    ensures { result ≡ sent mode ensemble }
+{
+    if ensemble.count() % mode.step() == 0 {
+        Some(ensemble)
+    } else {
+        None
+    }
+}
+
+/// Prints the FIBs of a frame as 64 hexadecimal digits each.
+fn print_fibs<W: Write>(frame: &FibFrame, out: &mut W) -> io::Result<()> {
+    for fib in frame.bytes().as_chunks::<32>().0 {
+        out.write_all(digits_of_fib(fib).as_slice())?;
+        out.write_all(b"\n")?;
+    }
+    Ok(())
+}

@@ -1,0 +1,230 @@
+//! The first fault of a file in which one byte was changed.
+
+use super::{LONG_FILE, LOOP_FILE, SHORT_FILE};
+use plan_code::{CodeFault, decode, encode};
+use std::alloc::Global;
+use std::test::Fail;
+
+/// A place, the byte that it is changed to, and the fault.
+type Row = (usize, u8, CodeFault);
+
+const SHORT_ROWS: [Row; 29] = [
+    // the header: the letters, the version, the period, the notice, the budget and the three numbers
+    (0, 0x45, CodeFault::Magic),
+    (3, 0x51, CodeFault::Magic),
+    (4, 0, CodeFault::Version),
+    (4, 3, CodeFault::Version),
+    (4, 2, CodeFault::Field(5)),
+    (7, 0, CodeFault::Field(7)),
+    (7, 61, CodeFault::Field(7)),
+    (8, 11, CodeFault::Field(8)),
+    (8, 249, CodeFault::Field(8)),
+    (9, 0, CodeFault::Field(9)),
+    (11, 0, CodeFault::Field(10)),
+    (13, 0, CodeFault::Field(12)),
+    (15, 0, CodeFault::Field(14)),
+    // 257 configurations, 1,025 labels, 4,097 instructions
+    (10, 0x01, CodeFault::Limit),
+    (12, 0x04, CodeFault::Limit),
+    (14, 0x10, CodeFault::Limit),
+    // the numbers of the configuration
+    (16, 65, CodeFault::Field(16)),
+    (17, 65, CodeFault::Field(17)),
+    (18, 65, CodeFault::Field(18)),
+    // the label: its configurations, the flag and bounds of a swap, its cost
+    (22, 1, CodeFault::Field(21)),
+    (24, 1, CodeFault::Field(23)),
+    (25, 3, CodeFault::Field(25)),
+    (25, 2, CodeFault::Field(28)),
+    (25, 1, CodeFault::Field(26)),
+    (27, 1, CodeFault::Field(26)),
+    (29, 1, CodeFault::Field(28)),
+    (31, 0, CodeFault::Field(31)),
+    // the opcode
+    (34, 0x00, CodeFault::Field(34)),
+    (34, 0x1A, CodeFault::Field(34)),
+];
+
+const LONG_ROWS: [Row; 18] = [
+    // the sub-channel: identifier, start, set, level, rate
+    (19, 64, CodeFault::Field(19)),
+    (20, 4, CodeFault::Field(20)),
+    (22, 2, CodeFault::Field(22)),
+    (23, 0, CodeFault::Field(23)),
+    (23, 5, CodeFault::Field(23)),
+    (25, 0x81, CodeFault::Field(24)),
+    // the service: kind of its SId, number of components, TMId, type, sub-channel
+    (26, 2, CodeFault::Field(26)),
+    (29, 13, CodeFault::Field(29)),
+    (30, 2, CodeFault::Field(30)),
+    (31, 64, CodeFault::Field(31)),
+    (32, 64, CodeFault::Field(32)),
+    // the instructions: contact, level, sub-channel, delay
+    (49, 16, CodeFault::Field(49)),
+    (50, 2, CodeFault::Field(50)),
+    (54, 64, CodeFault::Field(54)),
+    (61, 0, CodeFault::Field(60)),
+    (60, 0xEB, CodeFault::Field(60)),
+    (64, 0x09, CodeFault::Field(64)),
+    (86, 0x24, CodeFault::Field(86)),
+];
+
+const LOOP_ROWS: [Row; 7] = [
+    // a label that is no later than the one before it
+    (33, 0, CodeFault::Field(32)),
+    (20, 1, CodeFault::Field(32)),
+    (20, 2, CodeFault::Field(32)),
+    // counters and times
+    (48, 8, CodeFault::Field(48)),
+    (50, 0, CodeFault::Field(49)),
+    (55, 0, CodeFault::Field(54)),
+    (59, 8, CodeFault::Field(59)),
+];
+
+#[test]
+fn faults_of_a_code_of_one_instruction(rt: HostRuntime) {
+    for (place, byte, fault) in SHORT_ROWS {
+        let mut bytes = SHORT_FILE;
+        assert!(rt; place < 35);
+        bytes[place] = byte;
+        assert_eq!(rt; decode(rt.alloc(), &bytes).err(), Some(fault));
+    }
+}
+
+#[test]
+fn faults_of_a_configuration_and_of_instructions(rt: HostRuntime) {
+    for (place, byte, fault) in LONG_ROWS {
+        let mut bytes = LONG_FILE;
+        assert!(rt; place < 89);
+        bytes[place] = byte;
+        assert_eq!(rt; decode(rt.alloc(), &bytes).err(), Some(fault));
+    }
+}
+
+#[test]
+fn faults_of_labels_and_counters(rt: HostRuntime) {
+    for (place, byte, fault) in LOOP_ROWS {
+        let mut bytes = LOOP_FILE;
+        assert!(rt; place < 65);
+        bytes[place] = byte;
+        assert_eq!(rt; decode(rt.alloc(), &bytes).err(), Some(fault));
+    }
+}
+
+/// A place, the byte that it is changed to, where its field ends, and the fault.
+type Cut = (usize, u8, usize, CodeFault);
+
+const CUTS: [Cut; 22] = [
+    (0, 0x45, 4, CodeFault::Magic),
+    (4, 3, 5, CodeFault::Version),
+    (7, 0, 8, CodeFault::Field(7)),
+    (8, 11, 9, CodeFault::Field(8)),
+    (9, 0, 10, CodeFault::Field(9)),
+    (11, 0, 12, CodeFault::Field(10)),
+    (10, 1, 12, CodeFault::Limit),
+    (13, 0, 14, CodeFault::Field(12)),
+    (12, 4, 14, CodeFault::Limit),
+    (15, 0, 16, CodeFault::Field(14)),
+    (14, 16, 16, CodeFault::Limit),
+    (16, 65, 17, CodeFault::Field(16)),
+    (22, 1, 23, CodeFault::Field(21)),
+    (24, 1, 25, CodeFault::Field(23)),
+    (25, 3, 26, CodeFault::Field(25)),
+    (25, 2, 30, CodeFault::Field(28)),
+    // the least bound, before the greatest
+    (25, 1, 28, CodeFault::Field(26)),
+    (27, 1, 28, CodeFault::Field(26)),
+    (29, 1, 30, CodeFault::Field(28)),
+    (31, 0, 32, CodeFault::Field(31)),
+    (34, 0x00, 35, CodeFault::Field(34)),
+    (34, 0x24, 35, CodeFault::Field(34)),
+];
+
+/// The fault of this many bytes at the front.
+fn fault_of_front(alloc: Global, bytes: &[u8], length: usize) -> Option<CodeFault> {
+    if length > bytes.len() {
+        return None;
+    }
+    decode(alloc, &bytes[..length]).err()
+}
+
+/// A field is judged as soon as its bytes are there, and is missing before.
+#[test]
+fn files_that_are_cut_at_a_fault(rt: HostRuntime) {
+    for (place, byte, end, fault) in CUTS {
+        let mut bytes = SHORT_FILE;
+        assert!(rt; place < 35 && 1 <= end);
+        bytes[place] = byte;
+        assert_eq!(rt; fault_of_front(rt.alloc(), &bytes, end), Some(fault));
+        assert_eq!(rt;
+            fault_of_front(rt.alloc(), &bytes, end - 1),
+            Some(CodeFault::Truncated)
+        );
+    }
+}
+
+#[test]
+fn each_other_first_byte(rt: HostRuntime) {
+    for byte in 0..=255u8 {
+        let mut bytes = SHORT_FILE;
+        bytes[0] = byte;
+        let is_first = byte == 0x44;
+        assert_eq!(rt;
+            decode(rt.alloc(), &bytes).err() == Some(CodeFault::Magic),
+            !is_first
+        );
+    }
+}
+
+/// Whether the bytes are refused by a fault that has a name, or are the file of the code that they are read as;
+/// want of memory is neither.
+fn is_refused_or_file(alloc: Global, bytes: &[u8]) -> bool {
+    match decode(alloc, bytes) {
+        Ok(code) => encode(alloc, &code).is_ok_and(|file| file.as_slice() == bytes),
+        Err(fault) => fault != CodeFault::Memory,
+    }
+}
+
+#[test]
+fn each_byte_changed_to_each_other_value(rt: HostRuntime) {
+    for place in 0..89usize {
+        for byte in 0..=255u8 {
+            let mut bytes = LONG_FILE;
+            bytes[place] = byte;
+            assert!(rt; is_refused_or_file(rt.alloc(), &bytes));
+        }
+    }
+}
+
+#[test]
+fn names_of_faults(rt: HostRuntime) -> Result<(), Fail> {
+    assert_eq!(rt;
+        format!(in rt.alloc(); "{}", CodeFault::Magic)?.as_str(),
+        "Magic"
+    );
+    assert_eq!(rt;
+        format!(in rt.alloc(); "{}", CodeFault::Version)?.as_str(),
+        "Version"
+    );
+    assert_eq!(rt;
+        format!(in rt.alloc(); "{}", CodeFault::Truncated)?.as_str(),
+        "Truncated"
+    );
+    assert_eq!(rt;
+        format!(in rt.alloc(); "{}", CodeFault::Field(12))?.as_str(),
+        "Field 12"
+    );
+    assert_eq!(rt;
+        format!(in rt.alloc(); "{}", CodeFault::Limit)?.as_str(),
+        "Limit"
+    );
+    assert_eq!(rt;
+        format!(in rt.alloc(); "{}", CodeFault::Trailing)?.as_str(),
+        "Trailing"
+    );
+    assert_eq!(rt;
+        format!(in rt.alloc(); "{}", CodeFault::Memory)?.as_str(),
+        "Memory"
+    );
+    Ok(())
+}

@@ -1,0 +1,192 @@
+//! A file with a member of each kind in its tables: what it says, and the first fault of each of its fields.
+
+use mux_config::{Component, ScId, ScTy, Sid, SubId};
+use plan_code::{CodeFault, Counters, Instr, Swap, decode, encode};
+use std::test::Fail;
+
+/// The file of a code of two configurations and two labels; its configurations are the empty one, and one with
+/// two sub-channels, three services and two packet components.
+const FULL_FILE: [u8; 102] = [
+    // the header
+    0x44, 0x41, 0x42, 0x50, 0x01, 0xE1, 0xC5, 0x04, 0x18, 0x14, 0x00, 0x02, 0x00, 0x02, 0x00, 0x01,
+    // the empty configuration at 16, and the numbers of the other at 19
+    0x00, 0x00, 0x00, 0x02, 0x03, 0x02,
+    // the sub-channels at 22 and 29: 3-A with 128 kbit/s, 4-B with 32 kbit/s
+    0x01, 0x00, 0x00, 0x00, 0x03, 0x00, 0x80, 0x02, 0x00, 0x60, 0x01, 0x04, 0x00, 0x20,
+    // a service at 36 with audio at 40 and data at 43
+    0x00, 0xC2, 0x21, 0x02, 0x00, 0x3F, 0x01, 0x01, 0x05, 0x02,
+    // a service at 46 without components
+    0x00, 0xC2, 0x22, 0x00,
+    // a service with a long identifier at 50, with a packet component at 56
+    0x01, 0xE1, 0xC2, 0x00, 0x01, 0x01, 0x03, 0x00, 0x07,
+    // the packet components at 59 and 66
+    0x0F, 0x07, 0x00, 0x3C, 0x02, 0x00, 0x01, 0x0F, 0xFF, 0x01, 0x00, 0x01, 0x03, 0xFF,
+    // the labels at 73 and 86
+    0x00, 0x00, 0x00, 0x00, 0x00, 0x01, 0x01, 0x00, 0x18, 0x00, 0x1B, 0x81, 0x14, 0xFF, 0xFF, 0x00,
+    0x01, 0x00, 0x00, 0x00, 0x00, 0x00, 0x00, 0x00, 0x00, 0xFF,
+    // the instruction at 99
+    0xFF, 0xFF, 0x07,
+];
+
+/// A place, the byte that it is changed to, and the place of the field that is then at fault.
+type Row = (usize, u8, usize);
+
+const CONFIGURATION_ROWS: [Row; 40] = [
+    // the numbers of sub-channels, services and packet components
+    (19, 65, 19),
+    (20, 65, 20),
+    (21, 65, 21),
+    // a sub-channel: identifier, end past the multiplex, set, level, rates that have no size
+    (22, 64, 22),
+    (30, 0x03, 30),
+    (25, 2, 25),
+    (32, 2, 32),
+    (33, 0, 33),
+    (33, 5, 33),
+    (35, 0x21, 34),
+    (35, 0x00, 34),
+    // a service: kind of its identifier, number of components of a short one and of a long one
+    (36, 2, 36),
+    (39, 13, 39),
+    (46, 0xFF, 46),
+    (55, 12, 55),
+    // a component: TMId, type, sub-channel, packet component, the carrier of the one before it
+    (40, 2, 40),
+    (40, 4, 40),
+    (43, 0xFF, 43),
+    (41, 64, 41),
+    (42, 64, 42),
+    (44, 64, 44),
+    (45, 64, 45),
+    (56, 2, 56),
+    (57, 0x10, 57),
+    (45, 1, 43),
+    // a packet component: identifier, DG flag, type, sub-channel, address
+    (59, 0x10, 59),
+    (61, 2, 61),
+    (62, 64, 62),
+    (63, 64, 63),
+    (65, 0, 64),
+    (64, 0x04, 64),
+    (68, 0xFF, 68),
+    (69, 64, 69),
+    (70, 64, 70),
+    (71, 0x04, 71),
+    // an identifier that is not above the one before it: the record's first byte
+    (29, 1, 19),
+    (29, 0, 19),
+    (38, 0x22, 19),
+    (48, 0x20, 19),
+    (66, 0x00, 19),
+];
+
+const LABEL_ROWS: [Row; 17] = [
+    // the configurations, of which there are two
+    (76, 2, 75),
+    (75, 1, 75),
+    (78, 2, 77),
+    (77, 1, 77),
+    (89, 2, 88),
+    // whether a swap is pending, and the least bound of one that perhaps is
+    (79, 3, 79),
+    (79, 2, 80),
+    (79, 0xFF, 79),
+    // the bounds of a swap: the least from 1, the greatest from the least on; zeros where none is pending, and
+    // the least is judged first
+    (79, 0, 80),
+    (81, 0, 80),
+    (83, 0x17, 82),
+    (92, 1, 93),
+    (94, 1, 93),
+    (96, 1, 95),
+    // the cost
+    (85, 0, 85),
+    (98, 0, 98),
+    // the opcode
+    (101, 0x09, 101),
+];
+
+#[test]
+fn what_it_says(rt: HostRuntime) -> Result<(), Fail> {
+    let code = decode(rt.alloc(), &FULL_FILE)?;
+    assert_eq!(rt; code.configs().len(), 2);
+    assert_eq!(rt; code.config(0).ok_or("the first")?.subs().len(), 0);
+    let config = code.config(1).ok_or("the second")?;
+    assert_eq!(rt; config.subs().len(), 2);
+    assert_eq!(rt; config.packets().len(), 2);
+    let [with_audio, without, long] = config.services() else {
+        return Err("three services".into());
+    };
+    assert_eq!(rt; without.sid, Sid::Short(0xC222));
+    assert_eq!(rt; long.sid, Sid::Long(0xE1C2_0001));
+    let sound = Component::Sound {
+        ty: ScTy::new(63).ok_or("a type")?,
+        sub: SubId::new(1).ok_or("a sub-channel")?,
+    };
+    assert_eq!(rt; with_audio.components.get(0), Some(&sound));
+    let packet = Component::Packet {
+        scid: ScId::new(7).ok_or("a packet component")?,
+    };
+    assert_eq!(rt; long.components.get(0), Some(&packet));
+    let bytes = encode(rt.alloc(), &code)?;
+    assert_eq!(rt; bytes.as_slice(), FULL_FILE.as_slice());
+    Ok(())
+}
+
+#[test]
+fn its_labels(rt: HostRuntime) -> Result<(), Fail> {
+    let code = decode(rt.alloc(), &FULL_FILE)?;
+    let first = code.label_at(0).ok_or("a label at 0")?;
+    assert_eq!(rt; first.cur, 0);
+    assert_eq!(rt; first.next, 1);
+    assert_eq!(rt; first.pending, Swap::Within(24, 27));
+    assert_eq!(rt; first.counters, Counters(0b1000_0001));
+    assert_eq!(rt; first.cost, 20);
+    let last = code.label_at(65_535).ok_or("a label at the end")?;
+    assert_eq!(rt; last.cur, 1);
+    assert_eq!(rt; last.next, 0);
+    assert_eq!(rt; last.pending, Swap::Idle);
+    assert_eq!(rt; last.counters, Counters(0));
+    assert_eq!(rt; last.cost, 255);
+    assert_eq!(rt; code.label_at(1), None);
+    assert_eq!(rt; code.label_at(65_534), None);
+    assert_eq!(rt; code.instr(0), Some(Instr::End));
+    assert_eq!(rt; code.line_at(0), Some(65_535));
+    Ok(())
+}
+
+#[test]
+fn faults_of_a_configuration(rt: HostRuntime) {
+    for (place, byte, field) in CONFIGURATION_ROWS {
+        let mut bytes = FULL_FILE;
+        assert!(rt; place < 102);
+        bytes[place] = byte;
+        assert_eq!(rt;
+            decode(rt.alloc(), &bytes).err(),
+            Some(CodeFault::Field(field))
+        );
+    }
+}
+
+#[test]
+fn faults_of_labels(rt: HostRuntime) {
+    for (place, byte, field) in LABEL_ROWS {
+        let mut bytes = FULL_FILE;
+        assert!(rt; place < 102);
+        bytes[place] = byte;
+        assert_eq!(rt;
+            decode(rt.alloc(), &bytes).err(),
+            Some(CodeFault::Field(field))
+        );
+    }
+}
+
+#[test]
+fn cuts(rt: HostRuntime) {
+    for length in 0..102usize {
+        assert_eq!(rt;
+            decode(rt.alloc(), &FULL_FILE[..length]).err(),
+            Some(CodeFault::Truncated)
+        );
+    }
+}

@@ -1,0 +1,127 @@
+//! The largest tables: 256 configurations, 1,024 labels, 4,096 instructions.
+
+use mux_config::Config;
+use plan_code::{Code, Counters, Instr, Label, Line, Mode, Plan, Swap, decode, encode};
+use std::alloc::{AllocError, Global};
+use std::test::Fail;
+
+const PLAN: Plan = Plan {
+    eid: 0xE1C5,
+    mode: Mode::I,
+    period: 4,
+    notice: 24,
+    budget: 20,
+};
+
+/// A code of this many empty configurations, labels and instructions, where these are within the limits.
+fn sized(
+    alloc: Global,
+    config_count: u16,
+    label_count: u16,
+    line_count: u16,
+) -> Result<Option<Code>, AllocError> {
+    let mut configs = Vec::new(alloc);
+    for _ in 0..config_count {
+        configs.push(Config::new())?;
+    }
+    let labels = labels_of(alloc, label_count)?;
+    let lines = lines_of(alloc, line_count)?;
+    Ok(Code::new(PLAN, configs, labels, lines))
+}
+
+/// Labels at 0, 1, 2 and on; each four have a configuration of their own.
+fn labels_of(alloc: Global, count: u16) -> Result<Vec<Label>, AllocError> {
+    let mut labels = Vec::new(alloc);
+    for pc in 0..count {
+        labels.push(Label {
+            pc,
+            cur: pc % 1024 / 4,
+            next: 0,
+            pending: Swap::Idle,
+            counters: Counters(0),
+            cost: 1,
+        })?;
+    }
+    Ok(labels)
+}
+
+/// Jumps, each to its own place.
+fn lines_of(alloc: Global, count: u16) -> Result<Vec<Line>, AllocError> {
+    let mut lines = Vec::new(alloc);
+    for number in 0..count {
+        lines.push(Line {
+            number,
+            instr: Instr::Jump(number),
+        })?;
+    }
+    Ok(lines)
+}
+
+#[test]
+fn lengths_of_tables(rt: HostRuntime) -> Result<(), Fail> {
+    assert!(rt; sized(rt.alloc(), 1, 1, 1)?.is_some());
+    assert!(rt; sized(rt.alloc(), 0, 1, 1)?.is_none());
+    assert!(rt; sized(rt.alloc(), 1, 0, 1)?.is_none());
+    assert!(rt; sized(rt.alloc(), 1, 1, 0)?.is_none());
+    assert!(rt; sized(rt.alloc(), 256, 1024, 4096)?.is_some());
+    assert!(rt; sized(rt.alloc(), 257, 1024, 4096)?.is_none());
+    assert!(rt; sized(rt.alloc(), 256, 1025, 4096)?.is_none());
+    assert!(rt; sized(rt.alloc(), 256, 1024, 4097)?.is_none());
+    Ok(())
+}
+
+/// The header of a file of 256 configurations, 1,024 labels and 4,096 instructions.
+const HEADER: [u8; 16] = [
+    0x44, 0x41, 0x42, 0x50, 0x01, 0xE1, 0xC5, 0x04, 0x18, 0x14, 0x01, 0x00, 0x04, 0x00, 0x10, 0x00,
+];
+
+/// Appends 256 records of the empty configuration.
+fn append_configurations(bytes: &mut Vec<u8>) -> Result<(), AllocError> {
+    for _ in 0..256u16 {
+        bytes.extend_from_slice(&[0x00, 0x00, 0x00])?;
+    }
+    Ok(())
+}
+
+/// Appends 1,024 labels, of which each four have a configuration of their own.
+fn append_labels(bytes: &mut Vec<u8>) -> Result<(), AllocError> {
+    for pc in 0..1024u16 {
+        bytes.extend_from_slice(&pc.to_be_bytes())?;
+        bytes.extend_from_slice(&[0x00, (pc / 4) as u8])?;
+        bytes.extend_from_slice(&[0x00, 0x00, 0x00, 0x00, 0x00, 0x00, 0x00, 0x00, 0x01])?;
+    }
+    Ok(())
+}
+
+/// Appends 4,096 jumps, each to its own place.
+fn append_lines(bytes: &mut Vec<u8>) -> Result<(), AllocError> {
+    for number in 0..4096u16 {
+        bytes.extend_from_slice(&number.to_be_bytes())?;
+        bytes.push(0x21)?;
+        bytes.extend_from_slice(&number.to_be_bytes())?;
+    }
+    Ok(())
+}
+
+#[test]
+fn the_largest_tables(rt: HostRuntime) -> Result<(), Fail> {
+    let mut file = HEADER.to_vec(rt.alloc())?;
+    append_configurations(&mut file)?;
+    append_labels(&mut file)?;
+    append_lines(&mut file)?;
+    assert_eq!(rt; file.len(), 34_576);
+    let made = sized(rt.alloc(), 256, 1024, 4096)?.ok_or("a code")?;
+    let written = encode(rt.alloc(), &made)?;
+    assert!(rt; written == file);
+    let code = decode(rt.alloc(), &file)?;
+    assert_eq!(rt; code.configs().len(), 256);
+    assert_eq!(rt; code.labels(), made.labels());
+    assert_eq!(rt; code.lines(), made.lines());
+    assert_eq!(rt; code.label_at(1023).ok_or("a label")?.cur, 255);
+    assert_eq!(rt; code.label_at(1024), None);
+    assert_eq!(rt; code.instr(4095), Some(Instr::Jump(4095)));
+    assert_eq!(rt; code.instr(4096), None);
+    let again = encode(rt.alloc(), &code)?;
+    assert!(rt; again == file);
+    Ok(())
+}

@@ -1,0 +1,29 @@
+use Rattle.std.proofs.Common.{◌<◌, ◌∙◌, arith}
+use Rattle.plan_runs.specs.Frames.{sent_entries, sent_rounds}
+use Rattle.plan_machine.specs.Positions.{state_of}
+use Rattle.plan_player.proofs.Keeping.{turned, next_page}
+use Rattle.plan_player.proofs.frame_step.send.Goals as goal
+
+pub show-requires : goal.show-requires
+show-requires g c =
+    let plan = c.args.plan.now in
+    let s = state_of g.S.Store.content c.args.machine.now in
+    let made = c.make_page_to_send.ensures in
+    (plan.mode, sent_entries plan s, made.keeps.each s.turn made.made)
+
+pub returns-clause-keeps : goal.returns-clause-keeps
+returns-clause-keeps g c =
+    let plan = c.args.plan.now in
+    let s = state_of g.S.Store.content c.args.machine.now in
+    let made = c.make_page_to_send.ensures in
+    c.show.ensures.keeps _ _ _ (turned plan.mode (sent_entries plan s) s.turn (sent_rounds plan s) c.make_page_to_send.new.pages made.keeps made.made)
+
+pub returns-clause-state : goal.returns-clause-state
+returns-clause-state g c =
+    let plan = c.args.plan.now in
+    let s = state_of g.S.Store.content c.args.machine.now in
+    let made = c.make_page_to_send.ensures in
+    let pages = c.show.new.pages in
+    let turn : s.turn < pages.made = omega (arith, made.made, c.show.ensures.made) in
+    let next = next_page plan.mode (sent_entries plan s) s.turn c.count.result pages (c.show.ensures.keeps _ _ _ made.keeps) turn c.count.ensures.whole c.count.ensures.more in
+    c.pass.ensures plan (c.page_after.ensures ∙ next)

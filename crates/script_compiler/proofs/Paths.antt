@@ -1,0 +1,175 @@
+-- The longest path of at most so many instructions is a path, and no path within that number is longer.
+use Rattle.std.proofs.Common.{◌≡◌, ℕ, zero, suc, ◌+◌, ◌<◌, ◌≤◌, Bool, true, false, if◌then◌else◌, max, List, [], ◌∷◌, ◌++◌, get_or, length, Option, Some, None, IsSome, refl, sym, ap, ◌∙◌, subst, arith, rules, inl, inr}
+use Rattle.std.specs.Prelude.{slice_get}
+use Rattle.std.proofs.lemmas.Bool.{cases_lt}
+use Rattle.std.proofs.lemmas.Option.{slice_get_past}
+use Rattle.std.proofs.lemmas.List.{get_or_past, get_or_push, get_or_append_left}
+use Rattle.plan_code.specs.declared.instr.Instr.{Instr}
+use Rattle.plan_verifier.specs.Typing.{continues, target_of}
+use Rattle.script_scheme.specs.Need.{suspends, GoesTo, HasPath, IsWithin, IsNeed}
+use Rattle.plan_code.specs.declared.instr.Line.{Line}
+use Rattle.script_scheme.specs.Compiled.{instrs_of}
+use Rattle.script_compiler.specs.Longest.{need_to, need_at, longest}
+
+module _ (code : List Instr) where
+  -- one instruction before a path
+  extend : (i : Instr) (to m pc : ℕ) → slice_get code pc ≡ Some i → GoesTo i pc to → HasPath code to m → HasPath code pc (m + 1)
+  extend i to zero pc e g h = subst (λ (o : Option Instr). IsSome o) (sym e) (search rules)
+  extend i to (suc m) pc e g h = let f : suc m + 1 ≡ suc (suc m) = omega arith in subst (λ n. HasPath code pc n) (sym f) (i, to, e, g, h)
+
+  one : (i : Instr) (pc : ℕ) → slice_get code pc ≡ Some i → HasPath code pc 1
+  one i pc e = subst (λ (o : Option Instr). IsSome o) (sym e) (search rules)
+
+  longer_of : (pc x y : ℕ) → HasPath code pc (x + 1) → HasPath code pc (y + 1) → HasPath code pc (1 + max x y)
+  longer_of pc x y h k = elim (cases_lt x y) [
+    | inl lt ↦ let e : y + 1 ≡ 1 + max x y = omega (arith, lt) in subst (λ n. HasPath code pc n) e k
+    | inr le ↦ let e : x + 1 ≡ 1 + max x y = omega (arith, le) in subst (λ n. HasPath code pc n) e h
+  ]
+
+  on_path : (i : Instr) (pc n : ℕ) → slice_get code pc ≡ Some i → suspends i ≡ false → ((to : ℕ) → HasPath code to (longest code n to)) → (b : Bool) → continues i ≡ b → HasPath code pc ((if b then longest code n (pc + 1) else 0) + 1)
+  on_path i pc n e s ih true c = extend i (pc + 1) (longest code n (pc + 1)) pc e (s, inl (c, refl)) (ih (pc + 1))
+  on_path i pc n e s ih false c = one i pc e
+
+  target_path : (i : Instr) (pc n : ℕ) → slice_get code pc ≡ Some i → suspends i ≡ false → ((to : ℕ) → HasPath code to (longest code n to)) → (o : Option ℕ) → target_of i ≡ o → HasPath code pc (need_to (λ to. longest code n to) o + 1)
+  target_path i pc n e s ih None t = one i pc e
+  target_path i pc n e s ih (Some to) t = extend i to (longest code n to) pc e (s, inr t) (ih to)
+
+  path_at : (i : Instr) (pc n : ℕ) → slice_get code pc ≡ Some i → ((to : ℕ) → HasPath code to (longest code n to)) → (b : Bool) → suspends i ≡ b → HasPath code pc (if b then 1 else 1 + max (if continues i then longest code n (pc + 1) else 0) (need_to (λ to. longest code n to) (target_of i)))
+  path_at i pc n e ih true s = one i pc e
+  path_at i pc n e ih false s = longer_of pc _ _ (on_path i pc n e s ih (continues i) refl) (target_path i pc n e s ih (target_of i) refl)
+
+  path_from : (pc n : ℕ) → ((to : ℕ) → HasPath code to (longest code n to)) → (o : Option Instr) → slice_get code pc ≡ o → HasPath code pc (need_at o pc (λ to. longest code n to))
+  path_from pc n ih None e = tt
+  path_from pc n ih (Some i) e = path_at i pc n e ih (suspends i) refl
+
+  pub has_longest : (n pc : ℕ) → HasPath code pc (longest code n pc)
+  has_longest zero pc = tt
+  has_longest (suc n) pc = path_from pc n (λ to. has_longest n to) (slice_get code pc) refl
+
+  -- ---- and no other is longer
+
+  at_least_one : (i : Instr) (pc : ℕ) (further : ℕ → ℕ) (b : Bool) → suspends i ≡ b → 1 ≤ (if b then 1 else 1 + max (if continues i then further (pc + 1) else 0) (need_to further (target_of i)))
+  at_least_one i pc further true e = omega arith
+  at_least_one i pc further false e = omega arith
+
+  some_at_least : (o : Option Instr) (pc : ℕ) (further : ℕ → ℕ) → IsSome o → 1 ≤ need_at o pc further
+  some_at_least None pc further h = absurd (search (rules, h))
+  some_at_least (Some i) pc further h = at_least_one i pc further (suspends i) refl
+
+  goes_least : (i : Instr) (pc to : ℕ) (further : ℕ → ℕ) → GoesTo i pc to → further to + 1 ≤ need_at (Some i) pc further
+  goes_least i pc to further g =
+      let whole : need_at (Some i) pc further ≡ 1 + max (if continues i then further (pc + 1) else 0) (need_to further (target_of i)) =
+      ap (λ b. if b then 1 else 1 + max (if continues i then further (pc + 1) else 0) (need_to further (target_of i))) g.0 in
+      elim g.1 [
+        | inl h ↦
+            let e : (if continues i then further (pc + 1) else 0) ≡ further to = ap (λ b. if b then further (pc + 1) else 0) h.0 ∙ ap further (sym h.1) in
+            omega (arith, whole, e)
+        | inr h ↦ let e : need_to further (target_of i) ≡ further to = ap (λ o. need_to further o) h in omega (arith, whole, e)
+      ]
+
+  pub longest_most : (n m pc : ℕ) → HasPath code pc m → m ≤ n → m ≤ longest code n pc
+  longest_most n zero pc h le = omega arith
+  longest_most zero (suc m) pc h le = absurd (omega arith)
+  longest_most (suc n) (suc zero) pc h le = some_at_least (slice_get code pc) pc (λ to. longest code n to) h
+  longest_most (suc n) (suc (suc m)) pc h le =
+      let ih = longest_most n (suc m) h.1 h.4 (omega arith) in
+      let least = goes_least h.0 pc h.1 (λ to. longest code n to) h.3 in
+      let at : need_at (slice_get code pc) pc (λ to. longest code n to) ≡ need_at (Some h.0) pc (λ to. longest code n to) = ap (λ o. need_at o pc (λ to. longest code n to)) h.2 in
+      let whole : suc (suc m) ≤ need_at (slice_get code pc) pc (λ to. longest code n to) = omega (arith, ih, least, at) in
+      whole
+
+  -- ---- where every path is within the budget
+
+  pub one_least : (budget pc : ℕ) (i : Instr) → slice_get code pc ≡ Some i → 1 ≤ longest code (budget + 1) pc
+  one_least budget pc i e = longest_most (budget + 1) 1 pc (one i pc e) (omega arith)
+
+  pub need_most : (budget pc : ℕ) → IsWithin budget code → longest code (budget + 1) pc ≤ budget
+  need_most budget pc w = w pc _ (has_longest (budget + 1) pc)
+
+  pub need_onward : (budget pc to : ℕ) (i : Instr) → IsWithin budget code → slice_get code pc ≡ Some i → GoesTo i pc to → longest code (budget + 1) to + 1 ≤ longest code (budget + 1) pc
+  need_onward budget pc to i w e g =
+      let path = extend i to (longest code (budget + 1) to) pc e g (has_longest (budget + 1) to) in
+      let most = w pc _ path in
+      longest_most (budget + 1) (longest code (budget + 1) to + 1) pc path (omega (arith, most))
+
+  -- what is computed is the need
+  pub is_need : (budget pc : ℕ) → IsWithin budget code → IsNeed code pc (longest code (budget + 1) pc)
+  is_need budget pc w = record {
+    path = has_longest (budget + 1) pc;
+    longest = λ n h. let most = w pc n h in longest_most (budget + 1) n pc h (omega (arith, most));
+  }
+
+  shorter : (m n pc : ℕ) → m ≤ n → HasPath code pc n → HasPath code pc m
+  shorter zero n pc le h = tt
+  shorter (suc m) zero pc le h = absurd (omega arith)
+  shorter (suc zero) (suc zero) pc le h = h
+  shorter (suc (suc m)) (suc zero) pc le h = absurd (omega arith)
+  shorter (suc zero) (suc (suc n)) pc le h = one h.0 pc h.2
+  shorter (suc (suc m)) (suc (suc n)) pc le h = (h.0, h.1, h.2, h.3, shorter (suc m) (suc n) h.1 (omega arith) h.4)
+
+  -- and where what is computed is within the budget, so is every path
+  pub within_from : (budget : ℕ) → ((pc : ℕ) → longest code (budget + 1) pc ≤ budget) → IsWithin budget code
+  within_from budget h pc n p = elim (cases_lt budget n) [
+    | inl lt ↦ let most = longest_most (budget + 1) (budget + 1) pc (shorter (budget + 1) n pc (omega arith) p) (omega arith) in absurd (omega (arith, most, h pc))
+    | inr le ↦ le
+  ]
+
+-- ---- round by round
+
+need_least_from : (i : Instr) (pc n : ℕ) (further : ℕ → ℕ) → ((to : ℕ) → further to ≤ n) → (b : Bool) → suspends i ≡ b → (if b then 1 else 1 + max (if continues i then further (pc + 1) else 0) (need_to further (target_of i))) ≤ n + 1
+need_least_from i pc n further h true e = omega arith
+need_least_from i pc n further h false e =
+    let on : (b : Bool) → (if b then further (pc + 1) else 0) ≤ n = λ b. elim b as (λ c. (if c then further (pc + 1) else 0) ≤ n) [ true ↦ h (pc + 1) | false ↦ omega arith ] in
+    let back : (o : Option ℕ) → need_to further o ≤ n = λ o. elim o as (λ x. need_to further x ≤ n) [ None ↦ omega arith | Some to ↦ h to ] in
+    let x = on (continues i) in
+    let y = back (target_of i) in
+    omega (arith, x, y)
+
+pub longest_bound : (code : List Instr) (n pc : ℕ) → longest code n pc ≤ n
+longest_bound code zero pc = omega arith
+longest_bound code (suc n) pc = by (slice_get code pc) (λ to. longest_bound code n to)
+  where
+    by : (o : Option Instr) → ((to : ℕ) → longest code n to ≤ n) → need_at o pc (λ to. longest code n to) ≤ suc n
+    by None ih = omega arith
+    by (Some i) ih = let h = need_least_from i pc n (λ to. longest code n to) ih (suspends i) refl in omega (arith, h)
+
+pub each_round : (code : List Instr) (further next : List ℕ) → length next ≡ length code → ((k : ℕ) → k < length code → get_or next k 0 ≡ need_at (slice_get code k) k (λ to. get_or further to 0)) → (pc : ℕ) → get_or next pc 0 ≡ need_at (slice_get code pc) pc (λ to. get_or further to 0)
+each_round code further next long each pc = elim (cases_lt pc (length code)) [
+  | inl lt ↦ each pc lt
+  | inr le ↦
+      let none = slice_get_past code pc le in
+      get_or_past next pc 0 (omega (arith, long, le)) ∙ sym (ap (λ o. need_at o pc (λ to. get_or further to 0)) none)
+]
+
+need_same : (o : Option Instr) (pc : ℕ) (f g : ℕ → ℕ) → ((to : ℕ) → f to ≡ g to) → need_at o pc f ≡ need_at o pc g
+need_same None pc f g h = refl
+need_same (Some i) pc f g h =
+    let back : (t : Option ℕ) → need_to f t ≡ need_to g t = λ t. elim t as (λ x. need_to f x ≡ need_to g x) [ None ↦ refl | Some to ↦ h to ] in
+    ap (λ n. if suspends i then 1 else 1 + max (if continues i then n else 0) (need_to f (target_of i))) (h (pc + 1))
+    ∙ ap (λ n. if suspends i then 1 else 1 + max (if continues i then g (pc + 1) else 0) n) (back (target_of i))
+
+pub next_round : (code : List Instr) (further next : List ℕ) (n : ℕ) → ((pc : ℕ) → get_or further pc 0 ≡ longest code n pc) → ((pc : ℕ) → get_or next pc 0 ≡ need_at (slice_get code pc) pc (λ to. get_or further to 0)) → (pc : ℕ) → get_or next pc 0 ≡ longest code (n + 1) pc
+next_round code further next n h k pc =
+    let e : suc n ≡ n + 1 = omega arith in
+    k pc ∙ need_same (slice_get code pc) pc (λ to. get_or further to 0) (λ to. longest code n to) h ∙ ap (λ m. longest code m pc) e
+
+-- ---- lines
+
+pub instrs_length : (lines : List Line) → length (instrs_of lines) ≡ length lines
+instrs_length [] = refl
+instrs_length (l ∷ lines) = omega (arith, instrs_length lines)
+
+instr_at : (lines : List Line) (k : ℕ) (d : Line) → d ≡ get_or lines k d → k < length lines → slice_get (instrs_of lines) k ≡ Some d.instr
+instr_at [] k d is lt = absurd (omega (arith, lt))
+instr_at (l ∷ lines) zero d is lt = ap (λ (x : Line). Some x.instr) (sym is)
+instr_at (l ∷ lines) (suc k) d is lt = instr_at lines k d is (omega (arith, lt))
+
+-- one place more of a round
+pub round_each : (lines : List Line) (further : ℕ → ℕ) (next more : List ℕ) (pc need : ℕ) (line : Line) → line ≡ get_or lines pc line → pc < length lines → more ≡ next ++ need ∷ [] → length next ≡ pc → need ≡ need_at (Some line.instr) pc further
+    → ((k : ℕ) → k < pc → get_or next k 0 ≡ need_at (slice_get (instrs_of lines) k) k further) → (k : ℕ) → k < pc + 1 → get_or more k 0 ≡ need_at (slice_get (instrs_of lines) k) k further
+round_each lines further next more pc need line is lt e long needs each k below = elim (cases_lt k pc) [
+  | inl less ↦ ap (λ xs. get_or xs k 0) e ∙ get_or_append_left next (need ∷ []) 0 k (omega (arith, less, long)) ∙ each k less
+  | inr ge ↦
+      let here : pc ≡ k = omega (arith, ge, below) in
+      ap (λ xs. get_or xs k 0) e ∙ get_or_push next need 0 k (long ∙ here) ∙ needs ∙ ap (λ o. need_at o pc further) (sym (instr_at lines pc line is lt)) ∙ ap (λ n. need_at (slice_get (instrs_of lines) n) n further) here
+]

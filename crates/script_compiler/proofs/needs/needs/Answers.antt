@@ -1,0 +1,15 @@
+use Rattle.std.proofs.Common.{arith, ap, ◌∙◌, get_or}
+use Rattle.script_scheme.specs.Compiled.{instrs_of}
+use Rattle.script_compiler.proofs.Paths.{next_round, longest_bound}
+use Rattle.script_compiler.proofs.needs.needs.Goals as goal
+
+pub round-requires-clause-bound : goal.round-requires-clause-bound
+round-requires-clause-bound c = λ to.
+    let e = ap (λ xs. get_or xs to 0) c.deref.ensures.value in
+    let i = c.loop-turn.invariant to in
+    let b = longest_bound (instrs_of c.args.lines.now) c.loop-turn._turn to in
+    omega (arith, e, i, b, c.loop-turn-test.true, c.from-turn-end.ensures, c.ranges.budget)
+
+pub loop-turn-preserved : goal.loop-turn-preserved
+loop-turn-preserved c =
+    next_round (instrs_of c.args.lines.now) c.deref.result.now c.in_ok-further.further.items c.loop-turn._turn (λ to. ap (λ xs. get_or xs to 0) c.deref.ensures.value ∙ c.loop-turn.invariant to) c.in_ok-further.ensures

@@ -1,0 +1,338 @@
+-- What words that begin a block begin with, and what is left of the block behind its first statement.
+use Rattle.std.proofs.Common.{◌≡◌, ◌⊎◌, inl, inr, ℕ, ◌+◌, ◌-◌, ◌<◌, ◌≤◌, Bool, true, false, List, [], ◌∷◌, ◌++◌, length, drop, refl, sym, ap, ◌∙◌, append_assoc, arith}
+use Rattle.std.proofs.lemmas.Bool.{false≢true}
+use Rattle.std.specs.Fmt.{decimal}
+use Rattle.script_front.specs.declared.tree.Act.{Act}
+use Rattle.script_front.specs.declared.tree.Act.TheVariants.{Edit as Edits, Wait, WaitContact, Until, CommitIn, CommitAt, Join, Settle}
+use Rattle.script_front.specs.declared.keyword.Keyword.{Keyword}
+use Rattle.script_front.specs.declared.keyword.Keyword.TheVariants as the
+use Rattle.script_front.specs.Words.{letters}
+use Rattle.script_front.specs.Block.{Block, nothing, basic, stop, when, either, repeat, forever, apply}
+use Rattle.script_front.specs.Alike.{unlined}
+use Rattle.script_front.specs.Tree.{IsAct, Fits, counted}
+use Rattle.script_front.specs.Spelled.{Spelled, name_at, act_words, braced, block_words}
+use Rattle.script_front.specs.Parsing.{Stops}
+use Rattle.script_front.proofs.Keys.{first_is, rest_is, same_key, letters_injective}
+use Rattle.script_front.proofs.Refusing.{act_key, act_begins, key_of_act, begins_edit, edit_key_begins}
+
+-- ---- first words
+
+abbrev pub key : Block → Keyword
+key nothing = the.CloseBrace
+key (basic line act rest) = act_key act
+key (stop line rest) = the.End
+key (when line contact first rest) = the.If
+key (either line contact first second rest) = the.If
+key (repeat line times body rest) = the.Repeat
+key (forever line body rest) = the.Forever
+key (apply line number named rest) = the.Apply
+
+-- the words of a statement without a block, but for `end` and `apply`
+abbrev pub begins_act : Keyword → Bool
+begins_act the.Wait = true
+begins_act the.Until = true
+begins_act the.Commit = true
+begins_act the.Join = true
+begins_act the.Settle = true
+begins_act k = begins_edit k
+
+pub act_key_begins : (a : Act) → begins_act (act_key a) ≡ true
+act_key_begins (Edits e) = through (act_key (Edits e)) (edit_key_begins e)
+  where
+    through : (k : Keyword) → begins_edit k ≡ true → begins_act k ≡ true
+    through the.Wait e = refl
+    through the.Until e = refl
+    through the.Commit e = refl
+    through the.Join e = refl
+    through the.Settle e = refl
+    through k e = e
+act_key_begins (Wait frames) = refl
+act_key_begins (WaitContact contact closed) = refl
+act_key_begins (Until second) = refl
+act_key_begins (CommitIn delay) = refl
+act_key_begins (CommitAt count) = refl
+act_key_begins Join = refl
+act_key_begins Settle = refl
+
+pub no_act_key : (k : Keyword) (a : Act) → begins_act k ≡ false → act_key a ≡ k → ⊥
+no_act_key k a other same = false≢true (sym other ∙ ap begins_act (sym same) ∙ act_key_begins a)
+
+nothing_key : (words : Spelled) (k : Keyword) (ws : Spelled) → Stops words → words ≡ letters k ∷ ws → the.CloseBrace ≡ k
+nothing_key [] k ws h e = let l = ap length e in absurd (omega (arith, l))
+nothing_key (w ∷ vs) k ws h e = letters_injective the.CloseBrace k (sym h ∙ first_is w (letters k) vs ws e)
+
+-- the first word of a block, or of what follows it where it is empty
+pub key_is : (names : List (List ℕ)) (b : Block) (rest : Spelled) (k : Keyword) (ws : Spelled) → Stops rest → block_words names b ++ rest ≡ letters k ∷ ws → key b ≡ k
+key_is names nothing rest k ws h e = nothing_key rest k ws h e
+key_is names (basic line act r) rest k ws h e =
+    sym (key_of_act k ws act (block_words names r ++ rest) (sym e ∙ append_assoc (act_words act) (block_words names r) rest))
+key_is names (stop line r) rest k ws h e = same_key _ _ _ _ e
+key_is names (when line contact first r) rest k ws h e = same_key _ _ _ _ e
+key_is names (either line contact first second r) rest k ws h e = same_key _ _ _ _ e
+key_is names (repeat line times body r) rest k ws h e = same_key _ _ _ _ e
+key_is names (forever line body r) rest k ws h e = same_key _ _ _ _ e
+key_is names (apply line number named r) rest k ws h e = same_key _ _ _ _ e
+
+-- the words of a block that has statements begin with its first
+pub key_first : (names : List (List ℕ)) (b : Block) (rest : Spelled) → (b ≡ nothing → ⊥) → block_words names b ++ rest ≡ letters (key b) ∷ drop 1 (block_words names b ++ rest)
+key_first names nothing rest some = absurd (some refl)
+key_first names (basic line act r) rest some =
+    let e = append_assoc (act_words act) (block_words names r) rest in
+    e ∙ act_begins act (block_words names r ++ rest) ∙ ap (λ (ws : Spelled). letters (act_key act) ∷ drop 1 ws) (sym e)
+key_first names (stop line r) rest some = refl
+key_first names (when line contact first r) rest some = refl
+key_first names (either line contact first second r) rest some = refl
+key_first names (repeat line times body r) rest some = refl
+key_first names (forever line body r) rest some = refl
+key_first names (apply line number named r) rest some = refl
+
+is_nothing : (b : Block) → key b ≡ the.CloseBrace → b ≡ nothing
+is_nothing nothing e = refl
+is_nothing (basic line act r) e = absurd (no_act_key the.CloseBrace act refl e)
+is_nothing (stop line r) e = absurd cc
+is_nothing (when line contact first r) e = absurd cc
+is_nothing (either line contact first second r) e = absurd cc
+is_nothing (repeat line times body r) e = absurd cc
+is_nothing (forever line body r) e = absurd cc
+is_nothing (apply line number named r) e = absurd cc
+
+stops_so : (names : List (List ℕ)) (b : Block) (rest words : Spelled) → Stops rest → Stops words → words ≡ block_words names b ++ rest → (b ≡ nothing → ⊥) → ⊥
+stops_so names b rest [] h k e some = let l = ap length (e ∙ key_first names b rest some) in omega (arith, l)
+stops_so names b rest (w ∷ ws) h k e some =
+    let close : key b ≡ the.CloseBrace = letters_injective (key b) the.CloseBrace (sym (first_is w (letters (key b)) ws (drop 1 (block_words names b ++ rest)) (e ∙ key_first names b rest some)) ∙ k) in
+    some (is_nothing b close)
+
+pub some_or : (b : Block) → (b ≡ nothing) ⊎ (b ≡ nothing → ⊥)
+some_or nothing = inl refl
+some_or (basic line act r) = inr (λ e. cc)
+some_or (stop line r) = inr (λ e. cc)
+some_or (when line contact first r) = inr (λ e. cc)
+some_or (either line contact first second r) = inr (λ e. cc)
+some_or (repeat line times body r) = inr (λ e. cc)
+some_or (forever line body r) = inr (λ e. cc)
+some_or (apply line number named r) = inr (λ e. cc)
+
+-- where statements end, nothing is left of the block
+pub all_read : (names : List (List ℕ)) (b : Block) (rest words : Spelled) → Stops rest → Stops words → words ≡ block_words names b ++ rest → b ≡ nothing
+all_read names b rest words h k e = elim (some_or b) [ inl is ↦ is | inr some ↦ absurd (stops_so names b rest words h k e some) ]
+
+-- ---- what is left behind the first statement
+
+abbrev pub Left : (names : List (List ℕ)) (words : Spelled) (b : Block) (rest : Spelled) → Type 0
+Left names words b rest = words ≡ block_words names b ++ rest
+
+pub record AfterAct (names : List (List ℕ)) (known depth : ℕ) (k : Keyword) (ws : Spelled) (b : Block) (rest : Spelled) : Type 0 where
+  pub act : Act
+  pub next : Block
+  pub is : unlined b ≡ basic 0 act (unlined next)
+  pub formed : IsAct act
+  pub fits : Fits known depth next
+  pub counts : counted b ≡ 1 + counted next
+  pub words : letters k ∷ ws ≡ act_words act ++ (block_words names next ++ rest)
+
+pub after_act : (names : List (List ℕ)) (known depth : ℕ) (k : Keyword) (ws : Spelled) (b : Block) (rest : Spelled) → begins_act k ≡ true → key b ≡ k → Fits known depth b
+    → letters k ∷ ws ≡ block_words names b ++ rest → AfterAct names known depth k ws b rest
+after_act names known depth k ws nothing rest act e f eq = let g : begins_act the.CloseBrace ≡ true = ap begins_act e ∙ act in absurd (false≢true g)
+after_act names known depth k ws (basic line a r) rest act e f eq = record {
+  act = a;
+  next = r;
+  is = refl;
+  formed = f.0;
+  fits = f.1;
+  counts = refl;
+  words = eq ∙ append_assoc (act_words a) (block_words names r) rest;
+}
+after_act names known depth k ws (stop line r) rest act e f eq = let g : begins_act the.End ≡ true = ap begins_act e ∙ act in absurd (false≢true g)
+after_act names known depth k ws (when line contact first r) rest act e f eq = let g : begins_act the.If ≡ true = ap begins_act e ∙ act in absurd (false≢true g)
+after_act names known depth k ws (either line contact first second r) rest act e f eq = let g : begins_act the.If ≡ true = ap begins_act e ∙ act in absurd (false≢true g)
+after_act names known depth k ws (repeat line times body r) rest act e f eq = let g : begins_act the.Repeat ≡ true = ap begins_act e ∙ act in absurd (false≢true g)
+after_act names known depth k ws (forever line body r) rest act e f eq = let g : begins_act the.Forever ≡ true = ap begins_act e ∙ act in absurd (false≢true g)
+after_act names known depth k ws (apply line number named r) rest act e f eq = let g : begins_act the.Apply ≡ true = ap begins_act e ∙ act in absurd (false≢true g)
+
+pub record AfterStop (names : List (List ℕ)) (known depth : ℕ) (ws : Spelled) (b : Block) (rest : Spelled) : Type 0 where
+  pub next : Block
+  pub is : unlined b ≡ stop 0 (unlined next)
+  pub fits : Fits known depth next
+  pub counts : counted b ≡ 1 + counted next
+  pub words : ws ≡ block_words names next ++ rest
+
+pub after_stop : (names : List (List ℕ)) (known depth : ℕ) (ws : Spelled) (b : Block) (rest : Spelled) → key b ≡ the.End → Fits known depth b
+    → letters the.End ∷ ws ≡ block_words names b ++ rest → AfterStop names known depth ws b rest
+after_stop names known depth ws (stop line r) rest e f eq = record { next = r; is = refl; fits = f; counts = refl; words = rest_is _ _ _ _ eq }
+after_stop names known depth ws (basic line a r) rest e f eq = absurd (no_act_key the.End a refl e)
+after_stop names known depth ws nothing rest e f eq = absurd cc
+after_stop names known depth ws (when line contact first r) rest e f eq = absurd cc
+after_stop names known depth ws (either line contact first second r) rest e f eq = absurd cc
+after_stop names known depth ws (repeat line times body r) rest e f eq = absurd cc
+after_stop names known depth ws (forever line body r) rest e f eq = absurd cc
+after_stop names known depth ws (apply line number named r) rest e f eq = absurd cc
+
+pub record AfterApply (names : List (List ℕ)) (known depth : ℕ) (ws : Spelled) (b : Block) (rest : Spelled) : Type 0 where
+  pub number : ℕ
+  pub next : Block
+  pub is : unlined b ≡ apply 0 number nothing (unlined next)
+  pub in_range : number < known
+  pub fits : Fits known depth next
+  pub counts : counted b ≡ 1 + counted next
+  pub words : ws ≡ name_at names number ∷ (block_words names next ++ rest)
+
+pub after_apply : (names : List (List ℕ)) (known depth : ℕ) (ws : Spelled) (b : Block) (rest : Spelled) → key b ≡ the.Apply → Fits known depth b
+    → letters the.Apply ∷ ws ≡ block_words names b ++ rest → AfterApply names known depth ws b rest
+after_apply names known depth ws (apply line number named r) rest e f eq = record { number = number; next = r; is = refl; in_range = f.0; fits = f.1; counts = refl; words = rest_is _ _ _ _ eq }
+after_apply names known depth ws (basic line a r) rest e f eq = absurd (no_act_key the.Apply a refl e)
+after_apply names known depth ws nothing rest e f eq = absurd cc
+after_apply names known depth ws (stop line r) rest e f eq = absurd cc
+after_apply names known depth ws (when line contact first r) rest e f eq = absurd cc
+after_apply names known depth ws (either line contact first second r) rest e f eq = absurd cc
+after_apply names known depth ws (repeat line times body r) rest e f eq = absurd cc
+after_apply names known depth ws (forever line body r) rest e f eq = absurd cc
+
+-- a block in braces, and what follows it
+abbrev pub in_braces : List (List ℕ) → Block → Spelled → Spelled
+in_braces names body more = letters the.OpenBrace ∷ (block_words names body ++ letters the.CloseBrace ∷ more)
+
+pub braced_then : (names : List (List ℕ)) (body : Block) (tail rest : Spelled) → braced (block_words names body) tail ++ rest ≡ in_braces names body (tail ++ rest)
+braced_then names body tail rest = ap (λ (x : Spelled). letters the.OpenBrace ∷ x) (append_assoc (block_words names body) (letters the.CloseBrace ∷ tail) rest)
+
+pub record AfterForever (names : List (List ℕ)) (known depth : ℕ) (ws : Spelled) (b : Block) (rest : Spelled) : Type 0 where
+  pub body : Block
+  pub next : Block
+  pub is : unlined b ≡ forever 0 (unlined body) (unlined next)
+  pub room : 1 ≤ depth
+  pub within : Fits known (depth - 1) body
+  pub fits : Fits known depth next
+  pub counts : counted b ≡ 1 + (counted body + counted next)
+  pub words : ws ≡ in_braces names body (block_words names next ++ rest)
+
+pub after_forever : (names : List (List ℕ)) (known depth : ℕ) (ws : Spelled) (b : Block) (rest : Spelled) → key b ≡ the.Forever → Fits known depth b
+    → letters the.Forever ∷ ws ≡ block_words names b ++ rest → AfterForever names known depth ws b rest
+after_forever names known depth ws (forever line body r) rest e f eq = record {
+  body = body;
+  next = r;
+  is = refl;
+  room = f.0;
+  within = f.1;
+  fits = f.2;
+  counts = refl;
+  words = rest_is _ _ _ _ eq ∙ braced_then names body (block_words names r) rest;
+}
+after_forever names known depth ws (basic line a r) rest e f eq = absurd (no_act_key the.Forever a refl e)
+after_forever names known depth ws nothing rest e f eq = absurd cc
+after_forever names known depth ws (stop line r) rest e f eq = absurd cc
+after_forever names known depth ws (when line contact first r) rest e f eq = absurd cc
+after_forever names known depth ws (either line contact first second r) rest e f eq = absurd cc
+after_forever names known depth ws (repeat line times body r) rest e f eq = absurd cc
+after_forever names known depth ws (apply line number named r) rest e f eq = absurd cc
+
+pub record AfterRepeat (names : List (List ℕ)) (known depth : ℕ) (ws : Spelled) (b : Block) (rest : Spelled) : Type 0 where
+  pub times : ℕ
+  pub some : 1 ≤ times
+  pub small : times < 65536
+  pub body : Block
+  pub next : Block
+  pub is : unlined b ≡ repeat 0 times (unlined body) (unlined next)
+  pub room : 1 ≤ depth
+  pub within : Fits known (depth - 1) body
+  pub fits : Fits known depth next
+  pub counts : counted b ≡ 1 + (counted body + counted next)
+  pub words : ws ≡ decimal times ∷ in_braces names body (block_words names next ++ rest)
+
+pub after_repeat : (names : List (List ℕ)) (known depth : ℕ) (ws : Spelled) (b : Block) (rest : Spelled) → key b ≡ the.Repeat → Fits known depth b
+    → letters the.Repeat ∷ ws ≡ block_words names b ++ rest → AfterRepeat names known depth ws b rest
+after_repeat names known depth ws (repeat line times body r) rest e f eq = record {
+  times = times;
+  some = f.1;
+  small = f.2;
+  body = body;
+  next = r;
+  is = refl;
+  room = f.0;
+  within = f.3;
+  fits = f.4;
+  counts = refl;
+  words = rest_is _ _ _ _ eq ∙ ap (λ (x : Spelled). decimal times ∷ x) (braced_then names body (block_words names r) rest);
+}
+after_repeat names known depth ws (basic line a r) rest e f eq = absurd (no_act_key the.Repeat a refl e)
+after_repeat names known depth ws nothing rest e f eq = absurd cc
+after_repeat names known depth ws (stop line r) rest e f eq = absurd cc
+after_repeat names known depth ws (when line contact first r) rest e f eq = absurd cc
+after_repeat names known depth ws (either line contact first second r) rest e f eq = absurd cc
+after_repeat names known depth ws (forever line body r) rest e f eq = absurd cc
+after_repeat names known depth ws (apply line number named r) rest e f eq = absurd cc
+
+-- behind the first block of `if`: the next statement, or `else`
+pub record Alone (names : List (List ℕ)) (known depth : ℕ) (b : Block) (contact : ℕ) (first : Block) (later : Spelled) (counts : ℕ) (rest : Spelled) : Type 0 where
+  pub next : Block
+  pub is : unlined b ≡ when 0 contact (unlined first) (unlined next)
+  pub fits : Fits known depth next
+  pub same : counts ≡ counted next
+  pub words : later ≡ block_words names next ++ rest
+
+pub record WithElse (names : List (List ℕ)) (known depth : ℕ) (b : Block) (contact : ℕ) (first : Block) (later : Spelled) (counts : ℕ) (rest : Spelled) : Type 0 where
+  pub second : Block
+  pub next : Block
+  pub is : unlined b ≡ either 0 contact (unlined first) (unlined second) (unlined next)
+  pub within : Fits known (depth - 1) second
+  pub fits : Fits known depth next
+  pub same : counts ≡ counted second + counted next
+  pub words : later ≡ letters the.Else ∷ in_braces names second (block_words names next ++ rest)
+
+pub record AfterIf (names : List (List ℕ)) (known depth : ℕ) (ws : Spelled) (b : Block) (rest : Spelled) : Type 0 where
+  pub contact : ℕ
+  pub small : contact < 16
+  pub first : Block
+  pub room : 1 ≤ depth
+  pub within : Fits known (depth - 1) first
+  pub later : Spelled
+  pub more : ℕ
+  pub counts : counted b ≡ 1 + (counted first + more)
+  pub words : ws ≡ letters the.Contact ∷ decimal contact ∷ in_braces names first later
+  pub goes_on : Alone names known depth b contact first later more rest ⊎ WithElse names known depth b contact first later more rest
+
+pub after_if : (names : List (List ℕ)) (known depth : ℕ) (ws : Spelled) (b : Block) (rest : Spelled) → key b ≡ the.If → Fits known depth b
+    → letters the.If ∷ ws ≡ block_words names b ++ rest → AfterIf names known depth ws b rest
+after_if names known depth ws (when line contact first r) rest e f eq = record {
+  contact = contact;
+  small = f.1;
+  first = first;
+  room = f.0;
+  within = f.2;
+  later = block_words names r ++ rest;
+  more = counted r;
+  counts = refl;
+  words = rest_is _ _ _ _ eq ∙ ap (λ (x : Spelled). letters the.Contact ∷ decimal contact ∷ x) (braced_then names first (block_words names r) rest);
+  goes_on = inl (record { next = r; is = refl; fits = f.3; same = refl; words = refl });
+}
+after_if names known depth ws (either line contact first second r) rest e f eq =
+    let tail : Spelled = letters the.Else ∷ braced (block_words names second) (block_words names r) in record {
+      contact = contact;
+      small = f.1;
+      first = first;
+      room = f.0;
+      within = f.2;
+      later = tail ++ rest;
+      more = counted second + counted r;
+      counts = refl;
+      words = rest_is _ _ _ _ eq ∙ ap (λ (x : Spelled). letters the.Contact ∷ decimal contact ∷ x) (braced_then names first tail rest);
+      goes_on = inr (record { second = second; next = r; is = refl; within = f.3; fits = f.4; same = refl; words = ap (λ (x : Spelled). letters the.Else ∷ x) (braced_then names second (block_words names r) rest) });
+    }
+after_if names known depth ws (basic line a r) rest e f eq = absurd (no_act_key the.If a refl e)
+after_if names known depth ws nothing rest e f eq = absurd cc
+after_if names known depth ws (stop line r) rest e f eq = absurd cc
+after_if names known depth ws (repeat line times body r) rest e f eq = absurd cc
+after_if names known depth ws (forever line body r) rest e f eq = absurd cc
+after_if names known depth ws (apply line number named r) rest e f eq = absurd cc
+
+-- no block begins with `else`
+pub no_else : (names : List (List ℕ)) (b : Block) (rest ws : Spelled) → Stops rest → letters the.Else ∷ ws ≡ block_words names b ++ rest → ⊥
+no_else names b rest ws h e = no_key b (key_is names b rest the.Else ws h (sym e))
+  where
+    no_key : (b : Block) → key b ≡ the.Else → ⊥
+    no_key nothing f = absurd cc
+    no_key (basic line a r) f = no_act_key the.Else a refl f
+    no_key (stop line r) f = absurd cc
+    no_key (when line contact first r) f = absurd cc
+    no_key (either line contact first second r) f = absurd cc
+    no_key (repeat line times body r) f = absurd cc
+    no_key (forever line body r) f = absurd cc
+    no_key (apply line number named r) f = absurd cc

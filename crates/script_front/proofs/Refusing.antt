@@ -1,0 +1,433 @@
+-- Where a part of a script is refused, its words are those of no such part.
+use Rattle.std.proofs.Common.{◌≡◌, ◌≢◌, ℕ, ◌<◌, ◌≤◌, Bool, true, false, List, [], ◌∷◌, ◌++◌, length, drop, refl, sym, ap, ◌∙◌, subst, append_assoc, arith}
+use Rattle.std.specs.Fmt.{decimal}
+use Rattle.mux_config.specs.declared.edit.Edit.{Edit}
+use Rattle.mux_config.specs.declared.edit.Edit.TheVariants.{AddSub, DropSub, MoveSub, RateSub, AddService, DropService, AddComponent, DropComponent, AddPacket, DropPacket}
+use Rattle.mux_config.specs.declared.parts.Sub.{Sub}
+use Rattle.mux_config.specs.declared.parts.Packet.{Packet}
+use Rattle.mux_config.specs.declared.parts.Carrier.{Carrier}
+use Rattle.mux_config.specs.declared.parts.Carrier.TheVariants.{Sub as BySub, Packet as ByPacket}
+use Rattle.mux_config.specs.declared.parts.Component.{Component}
+use Rattle.mux_config.specs.declared.parts.Component.TheVariants.{Sound, Stream, Packet as InPackets}
+use Rattle.mux_config.specs.declared.numbers.Sid.{Sid}
+use Rattle.mux_config.specs.Configuration.{IsSid, IsComponent}
+use Rattle.plan_code.specs.Program.{IsEdit, IsNewSub, IsNewPacket, IsCarrier}
+use Rattle.script_front.specs.declared.keyword.Keyword.{Keyword}
+use Rattle.script_front.specs.declared.keyword.Keyword.TheVariants as the
+use Rattle.script_front.specs.Words.{the as is, letters}
+use Rattle.script_front.specs.Spelling.{sid_word, time_word}
+use Rattle.std.proofs.lemmas.Bool.{false≢true}
+use Rattle.script_front.specs.declared.tree.Act.{Act}
+use Rattle.script_front.specs.declared.tree.Act.TheVariants.{Edit as Edits, Wait, WaitContact, Until, CommitIn, CommitAt, Join, Settle}
+use Rattle.script_front.specs.Tree.{IsAct, Adds}
+use Rattle.script_front.specs.Reading.{Input, Passes, behind}
+use Rattle.script_front.specs.declared.tree.Header.{Header}
+use Rattle.fib_codec.specs.declared.modes.Mode.{Mode}
+use Rattle.fib_codec.specs.declared.modes.Mode.TheVariants.{I, II, III, IV}
+use Rattle.script_front.specs.Spelled.{Spelled, mode_words, in_words, groups_word, carried_words, carrier_words, edit_words, level_word, act_words}
+use Rattle.script_front.specs.Parsing.{NoneOf}
+use Rattle.script_front.proofs.Keys.{word_the, rest_is, same_key}
+use Rattle.script_front.proofs.Edits.{same_carried, same_carrier, edit_in, edit_by, edit_again, act_in, act_by, act_again, wait_by, commit_by}
+
+-- what is left behind words that were passed
+pub left_over : (ws vs : Spelled) (i j : Input) (rest : Spelled) → length ws ≡ length vs → Passes ws i j → i.words ≡ vs ++ rest → j.words ≡ rest
+left_over ws vs i j rest len p e = dropped ws vs j.words rest len (sym p.0 ∙ e)
+  where
+    dropped : (xs ys vs us : Spelled) → length xs ≡ length ys → xs ++ vs ≡ ys ++ us → vs ≡ us
+    dropped [] [] vs us l f = f
+    dropped [] (y ∷ ys) vs us l f = absurd (omega (arith, l))
+    dropped (x ∷ xs) [] vs us l f = absurd (omega (arith, l))
+    dropped (x ∷ xs) (y ∷ ys) vs us l f = dropped xs ys vs us (omega (arith, l)) (rest_is x y (xs ++ vs) (ys ++ us) f)
+
+-- which word of the grammar stands first, where one was found
+abbrev pub Found : Spelled → Keyword → Type 0
+Found words found = (k : Keyword) (rest : Spelled) → words ≡ letters k ∷ rest → found ≡ k
+
+pub no_groups : (words : Spelled) (found : Keyword) → Found words found → (found ≡ the.Groups → ⊥) → (found ≡ the.Raw → ⊥) → (a : Bool) (rest : Spelled) → words ≡ groups_word a ∷ rest → ⊥
+no_groups words found h g r false rest e = g (h the.Groups rest e)
+no_groups words found h g r true rest e = r (h the.Raw rest e)
+
+pub no_level : (words : Spelled) (found : Keyword) → Found words found → (found ≡ the.Closed → ⊥) → (found ≡ the.Open → ⊥) → (a : Bool) (rest : Spelled) → words ≡ level_word a ∷ rest → ⊥
+no_level words found h g r true rest e = g (h the.Closed rest e)
+no_level words found h g r false rest e = r (h the.Open rest e)
+
+-- ---- what is carried, and what carries
+
+pub no_carrier : (words : Spelled) (found : Keyword) → Found words found → (found ≡ the.Sub → ⊥) → (found ≡ the.Packet → ⊥) → (m : Carrier) (rest : Spelled) → words ≡ carrier_words m ++ rest → ⊥
+no_carrier words found h g r (BySub id) rest e = g (h the.Sub (decimal id ∷ rest) e)
+no_carrier words found h g r (ByPacket scid) rest e = r (h the.Packet (decimal scid ∷ rest) e)
+
+pub no_by_sub : (ws : Spelled) → ((n : ℕ) (rest : Spelled) → n < 64 → ws ≢ decimal n ∷ rest) → (m : Carrier) (rest : Spelled) → IsCarrier m → letters the.Sub ∷ ws ≡ carrier_words m ++ rest → ⊥
+no_by_sub ws none (BySub id) rest h e = none id rest h (rest_is _ _ _ _ e)
+no_by_sub ws none (ByPacket scid) rest h e = let f = same_key the.Sub the.Packet _ _ e in absurd cc
+
+pub no_by_packet : (ws : Spelled) → ((n : ℕ) (rest : Spelled) → n < 4096 → ws ≢ decimal n ∷ rest) → (m : Carrier) (rest : Spelled) → IsCarrier m → letters the.Packet ∷ ws ≡ carrier_words m ++ rest → ⊥
+no_by_packet ws none (ByPacket scid) rest h e = none scid rest h (rest_is _ _ _ _ e)
+no_by_packet ws none (BySub id) rest h e = let f = same_key the.Packet the.Sub _ _ e in absurd cc
+
+abbrev pub NoTypedSub : Spelled → Type 0
+NoTypedSub ws = (p : ℕ × ℕ) (rest : Spelled) → (p.0 < 64) × (p.1 < 64) → ws ≢ decimal p.0 ∷ letters the.Sub ∷ decimal p.1 ∷ rest
+
+pub no_sound : (ws : Spelled) → NoTypedSub ws → (m : Component) (rest : Spelled) → IsComponent m → letters the.Audio ∷ ws ≡ carried_words m ++ rest → ⊥
+no_sound ws none (Sound ty sub) rest h e = none (ty, sub) rest h (rest_is _ _ _ _ e)
+no_sound ws none (Stream ty sub) rest h e = let f = same_key the.Audio the.Data _ _ e in absurd cc
+no_sound ws none (InPackets scid) rest h e = let f = same_key the.Audio the.Carry _ _ e in absurd cc
+
+pub no_stream : (ws : Spelled) → NoTypedSub ws → (m : Component) (rest : Spelled) → IsComponent m → letters the.Data ∷ ws ≡ carried_words m ++ rest → ⊥
+no_stream ws none (Stream ty sub) rest h e = none (ty, sub) rest h (rest_is _ _ _ _ e)
+no_stream ws none (Sound ty sub) rest h e = let f = same_key the.Data the.Audio _ _ e in absurd cc
+no_stream ws none (InPackets scid) rest h e = let f = same_key the.Data the.Carry _ _ e in absurd cc
+
+pub no_packets : (ws : Spelled) → ((n : ℕ) (rest : Spelled) → n < 4096 → ws ≢ decimal n ∷ rest) → (m : Component) (rest : Spelled) → IsComponent m → letters the.Carry ∷ ws ≡ carried_words m ++ rest → ⊥
+no_packets ws none (InPackets scid) rest h e = none scid rest h (rest_is _ _ _ _ e)
+no_packets ws none (Sound ty sub) rest h e = let f = same_key the.Carry the.Audio _ _ e in absurd cc
+no_packets ws none (Stream ty sub) rest h e = let f = same_key the.Carry the.Data _ _ e in absurd cc
+
+pub no_carried : (first : Keyword) (ws : Spelled) → (first ≡ the.Audio → ⊥) → (first ≡ the.Data → ⊥) → (first ≡ the.Carry → ⊥) → (m : Component) (rest : Spelled) → letters first ∷ ws ≡ carried_words m ++ rest → ⊥
+no_carried first ws a b c (Sound ty sub) rest e = a (same_key first the.Audio _ _ e)
+no_carried first ws a b c (Stream ty sub) rest e = b (same_key first the.Data _ _ e)
+no_carried first ws a b c (InPackets scid) rest e = c (same_key first the.Carry _ _ e)
+
+-- a component, from what is carried and where
+pub no_place : (i j : Input) (m : Component) → IsComponent m → Passes (carried_words m) i j → NoneOf Sid IsSid in_words j
+    → NoneOf (Sid × Component) (λ p. IsSid p.0 × IsComponent p.1) (λ p. edit_words (AddComponent p.0 p.1)) i
+no_place i j m h p none q rest k e =
+    let f : carried_words m ++ j.words ≡ carried_words q.1 ++ (in_words q.0 ++ rest) = sym p.0 ∙ e ∙ append_assoc (carried_words q.1) (in_words q.0) rest in
+    none q.0 rest k.0 ((same_carried m q.1 j.words (in_words q.0 ++ rest) h k.1 f).rest)
+
+pub no_component : (i : Input) → NoneOf Component IsComponent carried_words i → NoneOf (Sid × Component) (λ p. IsSid p.0 × IsComponent p.1) (λ p. edit_words (AddComponent p.0 p.1)) i
+no_component i none q rest k e = none q.1 (in_words q.0 ++ rest) k.1 (e ∙ append_assoc (carried_words q.1) (in_words q.0) rest)
+
+-- ---- edits
+
+-- what words that begin so are as an edit
+edit_is : (k : Keyword) (ws : Spelled) (e : Edit) (rest : Spelled) → IsEdit e → letters k ∷ ws ≡ edit_words e ++ rest → edit_by (is k) (letters k ∷ ws) ≡ (e, rest)
+edit_is k ws e rest h eq = ap (λ w. edit_by w (letters k ∷ ws)) (sym (word_the k)) ∙ ap edit_in eq ∙ edit_again e rest h
+
+record IsSeen (ws : Spelled) (e : Edit) (rest : Spelled) : Type 0 where
+  pub formed : IsEdit e
+  pub spelled : ws ≡ edit_words e ++ rest
+
+seen : (ws : Spelled) (x e : Edit) (rest : Spelled) → x ≡ e → IsEdit e → ws ≡ edit_words e ++ rest → IsSeen ws x rest
+seen ws x e rest same h eq = record { formed = subst IsEdit (sym same) h; spelled = subst (λ (y : Edit). ws ≡ edit_words y ++ rest) (sym same) eq }
+
+pub no_new_sub : (i : Input) → NoneOf Sub IsNewSub (λ s. edit_words (AddSub s)) (behind the.Sub i) → NoneOf Edit IsEdit edit_words (behind the.Sub i)
+no_new_sub i none e rest h eq =
+    let s = seen (letters the.Sub ∷ i.words) _ e rest (ap (λ p. p.0) (edit_is the.Sub i.words e rest h eq)) h eq in none _ rest s.formed s.spelled
+
+pub no_new_packet : (i : Input) → NoneOf Packet IsNewPacket (λ s. edit_words (AddPacket s)) (behind the.Packet i) → NoneOf Edit IsEdit edit_words (behind the.Packet i)
+no_new_packet i none e rest h eq =
+    let s = seen (letters the.Packet ∷ i.words) _ e rest (ap (λ p. p.0) (edit_is the.Packet i.words e rest h eq)) h eq in none _ rest s.formed s.spelled
+
+pub no_new_service : (i : Input) → ((s : Sid) (rest : Spelled) → IsSid s → i.words ≢ sid_word s ∷ rest) → NoneOf Edit IsEdit edit_words (behind the.Service i)
+no_new_service i none e rest h eq =
+    let s = seen (letters the.Service ∷ i.words) _ e rest (ap (λ p. p.0) (edit_is the.Service i.words e rest h eq)) h eq in none _ rest s.formed (rest_is _ _ _ _ s.spelled)
+
+pub no_move : (i : Input) → NoneOf (ℕ × ℕ) (λ p. (p.0 < 64) × (p.1 < 1024)) (λ p. edit_words (MoveSub p.0 p.1)) (behind the.Move i) → NoneOf Edit IsEdit edit_words (behind the.Move i)
+no_move i none e rest h eq =
+    let s = seen (letters the.Move ∷ i.words) _ e rest (ap (λ p. p.0) (edit_is the.Move i.words e rest h eq)) h eq in none (_, _) rest s.formed s.spelled
+
+pub no_rate : (i : Input) → NoneOf (ℕ × ℕ) (λ p. (p.0 < 64) × (p.1 < 65536)) (λ p. edit_words (RateSub p.0 p.1)) (behind the.Rate i) → NoneOf Edit IsEdit edit_words (behind the.Rate i)
+no_rate i none e rest h eq =
+    let s = seen (letters the.Rate ∷ i.words) _ e rest (ap (λ p. p.0) (edit_is the.Rate i.words e rest h eq)) h eq in none (_, _) rest s.formed s.spelled
+
+-- which word of the grammar an edit begins with
+abbrev pub edit_key : Edit → Keyword
+edit_key (AddSub s) = the.Sub
+edit_key (DropSub id) = the.Drop
+edit_key (MoveSub id start) = the.Move
+edit_key (RateSub id kbits) = the.Rate
+edit_key (AddService sid) = the.Service
+edit_key (DropService sid) = the.Drop
+edit_key (AddComponent sid (Sound ty sub)) = the.Audio
+edit_key (AddComponent sid (Stream ty sub)) = the.Data
+edit_key (AddComponent sid (InPackets scid)) = the.Carry
+edit_key (DropComponent sid m) = the.Drop
+edit_key (AddPacket p) = the.Packet
+edit_key (DropPacket scid) = the.Drop
+
+pub edit_begins : (e : Edit) (rest : Spelled) → edit_words e ++ rest ≡ letters (edit_key e) ∷ drop 1 (edit_words e ++ rest)
+edit_begins (AddSub s) rest = refl
+edit_begins (DropSub id) rest = refl
+edit_begins (MoveSub id start) rest = refl
+edit_begins (RateSub id kbits) rest = refl
+edit_begins (AddService sid) rest = refl
+edit_begins (DropService sid) rest = refl
+edit_begins (AddComponent sid (Sound ty sub)) rest = refl
+edit_begins (AddComponent sid (Stream ty sub)) rest = refl
+edit_begins (AddComponent sid (InPackets scid)) rest = refl
+edit_begins (DropComponent sid m) rest = refl
+edit_begins (AddPacket p) rest = refl
+edit_begins (DropPacket scid) rest = refl
+
+pub key_of_edit : (first : Keyword) (ws : Spelled) (e : Edit) (rest : Spelled) → letters first ∷ ws ≡ edit_words e ++ rest → first ≡ edit_key e
+key_of_edit first ws e rest eq = same_key first (edit_key e) ws (drop 1 (edit_words e ++ rest)) (eq ∙ edit_begins e rest)
+
+pub no_other_item : (first : Keyword) (i : Input) → (first ≡ the.Sub → ⊥) → (first ≡ the.Service → ⊥) → (first ≡ the.Packet → ⊥)
+    → NoneOf (Sid × Component) (λ p. IsSid p.0 × IsComponent p.1) (λ p. edit_words (AddComponent p.0 p.1)) (behind first i) → NoneOf Edit (λ e. IsEdit e × Adds e) edit_words (behind first i)
+no_other_item first i a b c none (AddSub s) rest h eq = a (key_of_edit first i.words (AddSub s) rest eq)
+no_other_item first i a b c none (AddService sid) rest h eq = b (key_of_edit first i.words (AddService sid) rest eq)
+no_other_item first i a b c none (AddPacket p) rest h eq = c (key_of_edit first i.words (AddPacket p) rest eq)
+no_other_item first i a b c none (AddComponent sid m) rest h eq = none (sid, m) rest h.0 eq
+no_other_item first i a b c none (DropSub id) rest h eq = absurd h.1
+no_other_item first i a b c none (MoveSub id start) rest h eq = absurd h.1
+no_other_item first i a b c none (RateSub id kbits) rest h eq = absurd h.1
+no_other_item first i a b c none (DropService sid) rest h eq = absurd h.1
+no_other_item first i a b c none (DropComponent sid m) rest h eq = absurd h.1
+no_other_item first i a b c none (DropPacket scid) rest h eq = absurd h.1
+
+pub no_item : (i : Input) → NoneOf Edit IsEdit edit_words i → NoneOf Edit (λ e. IsEdit e × Adds e) edit_words i
+no_item i none e rest h eq = none e rest h.0 eq
+
+pub no_other_edit : (first : Keyword) (i : Input) → (first ≡ the.Drop → ⊥) → (first ≡ the.Move → ⊥) → (first ≡ the.Rate → ⊥)
+    → NoneOf Edit (λ e. IsEdit e × Adds e) edit_words (behind first i) → NoneOf Edit IsEdit edit_words (behind first i)
+no_other_edit first i a b c none (AddSub s) rest h eq = none (AddSub s) rest (h, tt) eq
+no_other_edit first i a b c none (AddService sid) rest h eq = none (AddService sid) rest (h, tt) eq
+no_other_edit first i a b c none (AddPacket p) rest h eq = none (AddPacket p) rest (h, tt) eq
+no_other_edit first i a b c none (AddComponent sid m) rest h eq = none (AddComponent sid m) rest (h, tt) eq
+no_other_edit first i a b c none (DropSub id) rest h eq = a (key_of_edit first i.words (DropSub id) rest eq)
+no_other_edit first i a b c none (MoveSub id start) rest h eq = b (key_of_edit first i.words (MoveSub id start) rest eq)
+no_other_edit first i a b c none (RateSub id kbits) rest h eq = c (key_of_edit first i.words (RateSub id kbits) rest eq)
+no_other_edit first i a b c none (DropService sid) rest h eq = a (key_of_edit first i.words (DropService sid) rest eq)
+no_other_edit first i a b c none (DropComponent sid m) rest h eq = a (key_of_edit first i.words (DropComponent sid m) rest eq)
+no_other_edit first i a b c none (DropPacket scid) rest h eq = a (key_of_edit first i.words (DropPacket scid) rest eq)
+
+-- ---- what follows `drop`
+
+second : (a b : List ℕ) (x y : List ℕ) (vs ws : Spelled) → a ∷ x ∷ vs ≡ b ∷ y ∷ ws → x ∷ vs ≡ y ∷ ws
+second a b x y vs ws e = cc
+
+abbrev NoDropped : Spelled → Type 0
+NoDropped ws = (e : Edit) (rest : Spelled) → IsEdit e → letters the.Drop ∷ ws ≢ edit_words e ++ rest
+
+pub no_drop_service : (ws : Spelled) → ((s : Sid) (rest : Spelled) → IsSid s → ws ≢ sid_word s ∷ rest) → NoDropped (letters the.Service ∷ ws)
+no_drop_service ws none (DropService sid) rest h eq = none sid rest h (rest_is _ _ _ _ (rest_is _ _ _ _ eq))
+no_drop_service ws none (DropSub id) rest h eq = let f = same_key the.Service the.Sub _ _ (rest_is _ _ _ _ eq) in absurd cc
+no_drop_service ws none (DropComponent sid m) rest h eq = let f = same_key the.Service the.Component _ _ (rest_is _ _ _ _ eq) in absurd cc
+no_drop_service ws none (DropPacket scid) rest h eq = let f = same_key the.Service the.Packet _ _ (rest_is _ _ _ _ eq) in absurd cc
+no_drop_service ws none (AddSub s) rest h eq = let f = key_of_edit the.Drop _ (AddSub s) rest eq in absurd cc
+no_drop_service ws none (AddService sid) rest h eq = let f = key_of_edit the.Drop _ (AddService sid) rest eq in absurd cc
+no_drop_service ws none (AddPacket p) rest h eq = let f = key_of_edit the.Drop _ (AddPacket p) rest eq in absurd cc
+no_drop_service ws none (MoveSub id start) rest h eq = let f = key_of_edit the.Drop _ (MoveSub id start) rest eq in absurd cc
+no_drop_service ws none (RateSub id kbits) rest h eq = let f = key_of_edit the.Drop _ (RateSub id kbits) rest eq in absurd cc
+no_drop_service ws none (AddComponent sid (Sound ty sub)) rest h eq = let f = key_of_edit the.Drop _ (AddComponent sid (Sound ty sub)) rest eq in absurd cc
+no_drop_service ws none (AddComponent sid (Stream ty sub)) rest h eq = let f = key_of_edit the.Drop _ (AddComponent sid (Stream ty sub)) rest eq in absurd cc
+no_drop_service ws none (AddComponent sid (InPackets scid)) rest h eq = let f = key_of_edit the.Drop _ (AddComponent sid (InPackets scid)) rest eq in absurd cc
+
+abbrev NoPlaced : Spelled → Type 0
+NoPlaced ws = (m : Carrier) (sid : Sid) (rest : Spelled) → IsCarrier m → IsSid sid → ws ≢ (carrier_words m ++ in_words sid) ++ rest
+
+pub no_drop_component : (ws : Spelled) → NoPlaced ws → NoDropped (letters the.Component ∷ ws)
+no_drop_component ws none (DropComponent sid m) rest h eq = none m sid rest h.1 h.0 (rest_is _ _ _ _ (rest_is _ _ _ _ eq))
+no_drop_component ws none (DropService sid) rest h eq = let f = same_key the.Component the.Service _ _ (rest_is _ _ _ _ eq) in absurd cc
+no_drop_component ws none (DropSub id) rest h eq = let f = same_key the.Component the.Sub _ _ (rest_is _ _ _ _ eq) in absurd cc
+no_drop_component ws none (DropPacket scid) rest h eq = let f = same_key the.Component the.Packet _ _ (rest_is _ _ _ _ eq) in absurd cc
+no_drop_component ws none (AddSub s) rest h eq = let f = key_of_edit the.Drop _ (AddSub s) rest eq in absurd cc
+no_drop_component ws none (AddService sid) rest h eq = let f = key_of_edit the.Drop _ (AddService sid) rest eq in absurd cc
+no_drop_component ws none (AddPacket p) rest h eq = let f = key_of_edit the.Drop _ (AddPacket p) rest eq in absurd cc
+no_drop_component ws none (MoveSub id start) rest h eq = let f = key_of_edit the.Drop _ (MoveSub id start) rest eq in absurd cc
+no_drop_component ws none (RateSub id kbits) rest h eq = let f = key_of_edit the.Drop _ (RateSub id kbits) rest eq in absurd cc
+no_drop_component ws none (AddComponent sid (Sound ty sub)) rest h eq = let f = key_of_edit the.Drop _ (AddComponent sid (Sound ty sub)) rest eq in absurd cc
+no_drop_component ws none (AddComponent sid (Stream ty sub)) rest h eq = let f = key_of_edit the.Drop _ (AddComponent sid (Stream ty sub)) rest eq in absurd cc
+no_drop_component ws none (AddComponent sid (InPackets scid)) rest h eq = let f = key_of_edit the.Drop _ (AddComponent sid (InPackets scid)) rest eq in absurd cc
+
+pub no_drop_other : (words : Spelled) (found : Keyword) → Found words found → (found ≡ the.Service → ⊥) → (found ≡ the.Component → ⊥)
+    → ((m : Carrier) (rest : Spelled) → IsCarrier m → words ≢ carrier_words m ++ rest) → NoDropped words
+no_drop_other words found first a b none (DropService sid) rest h eq = a (first the.Service (sid_word sid ∷ rest) (rest_is _ _ _ _ eq))
+no_drop_other words found first a b none (DropComponent sid m) rest h eq = b (first the.Component _ (rest_is _ _ _ _ eq))
+no_drop_other words found first a b none (DropSub id) rest h eq = none (BySub id) rest h (rest_is _ _ _ _ eq)
+no_drop_other words found first a b none (DropPacket scid) rest h eq = none (ByPacket scid) rest h (rest_is _ _ _ _ eq)
+no_drop_other words found first a b none (AddSub s) rest h eq = let f = key_of_edit the.Drop _ (AddSub s) rest eq in absurd cc
+no_drop_other words found first a b none (AddService sid) rest h eq = let f = key_of_edit the.Drop _ (AddService sid) rest eq in absurd cc
+no_drop_other words found first a b none (AddPacket p) rest h eq = let f = key_of_edit the.Drop _ (AddPacket p) rest eq in absurd cc
+no_drop_other words found first a b none (MoveSub id start) rest h eq = let f = key_of_edit the.Drop _ (MoveSub id start) rest eq in absurd cc
+no_drop_other words found first a b none (RateSub id kbits) rest h eq = let f = key_of_edit the.Drop _ (RateSub id kbits) rest eq in absurd cc
+no_drop_other words found first a b none (AddComponent sid (Sound ty sub)) rest h eq = let f = key_of_edit the.Drop _ (AddComponent sid (Sound ty sub)) rest eq in absurd cc
+no_drop_other words found first a b none (AddComponent sid (Stream ty sub)) rest h eq = let f = key_of_edit the.Drop _ (AddComponent sid (Stream ty sub)) rest eq in absurd cc
+no_drop_other words found first a b none (AddComponent sid (InPackets scid)) rest h eq = let f = key_of_edit the.Drop _ (AddComponent sid (InPackets scid)) rest eq in absurd cc
+
+-- the carrier is none, or where it is carried
+pub no_carried_by : (ws : Spelled) → ((m : Carrier) (rest : Spelled) → IsCarrier m → ws ≢ carrier_words m ++ rest) → NoPlaced ws
+no_carried_by ws none m sid rest h k eq = none m (in_words sid ++ rest) h (eq ∙ append_assoc (carrier_words m) (in_words sid) rest)
+
+pub no_dropped_place : (i j : Input) (n : Carrier) → IsCarrier n → Passes (carrier_words n) i j → NoneOf Sid IsSid in_words j → NoPlaced i.words
+no_dropped_place i j n good p none m sid rest h k eq =
+    none sid rest k ((same_carrier n m j.words (in_words sid ++ rest) good h (sym p.0 ∙ eq ∙ append_assoc (carrier_words m) (in_words sid) rest)).rest)
+
+-- ---- statements without a block
+
+act_is : (k : Keyword) (ws : Spelled) (a : Act) (rest : Spelled) → IsAct a → letters k ∷ ws ≡ act_words a ++ rest → act_by (is k) (letters k ∷ ws) ≡ (a, rest)
+act_is k ws a rest h eq = ap (λ w. act_by w (letters k ∷ ws)) (sym (word_the k)) ∙ ap act_in eq ∙ act_again a rest h
+
+record IsRan (ws : Spelled) (a : Act) (rest : Spelled) : Type 0 where
+  pub formed : IsAct a
+  pub spelled : ws ≡ act_words a ++ rest
+
+ran : (ws : Spelled) (x a : Act) (rest : Spelled) → x ≡ a → IsAct a → ws ≡ act_words a ++ rest → IsRan ws x rest
+ran ws x a rest same h eq = record { formed = subst IsAct (sym same) h; spelled = subst (λ (y : Act). ws ≡ act_words y ++ rest) (sym same) eq }
+
+abbrev pub act_key : Act → Keyword
+act_key (Edits e) = edit_key e
+act_key (Wait frames) = the.Wait
+act_key (WaitContact contact closed) = the.Wait
+act_key (Until second) = the.Until
+act_key (CommitIn delay) = the.Commit
+act_key (CommitAt count) = the.Commit
+act_key Join = the.Join
+act_key Settle = the.Settle
+
+pub act_begins : (a : Act) (rest : Spelled) → act_words a ++ rest ≡ letters (act_key a) ∷ drop 1 (act_words a ++ rest)
+act_begins (Edits e) rest = edit_begins e rest
+act_begins (Wait frames) rest = refl
+act_begins (WaitContact contact closed) rest = refl
+act_begins (Until second) rest = refl
+act_begins (CommitIn delay) rest = refl
+act_begins (CommitAt count) rest = refl
+act_begins Join rest = refl
+act_begins Settle rest = refl
+
+pub key_of_act : (first : Keyword) (ws : Spelled) (a : Act) (rest : Spelled) → letters first ∷ ws ≡ act_words a ++ rest → first ≡ act_key a
+key_of_act first ws a rest eq = same_key first (act_key a) ws (drop 1 (act_words a ++ rest)) (eq ∙ act_begins a rest)
+
+-- no edit begins with this word
+abbrev pub begins_edit : Keyword → Bool
+begins_edit the.Sub = true
+begins_edit the.Drop = true
+begins_edit the.Move = true
+begins_edit the.Rate = true
+begins_edit the.Service = true
+begins_edit the.Audio = true
+begins_edit the.Data = true
+begins_edit the.Carry = true
+begins_edit the.Packet = true
+begins_edit _ = false
+
+pub edit_key_begins : (e : Edit) → begins_edit (edit_key e) ≡ true
+edit_key_begins (AddSub s) = refl
+edit_key_begins (DropSub id) = refl
+edit_key_begins (MoveSub id start) = refl
+edit_key_begins (RateSub id kbits) = refl
+edit_key_begins (AddService sid) = refl
+edit_key_begins (DropService sid) = refl
+edit_key_begins (AddComponent sid (Sound ty sub)) = refl
+edit_key_begins (AddComponent sid (Stream ty sub)) = refl
+edit_key_begins (AddComponent sid (InPackets scid)) = refl
+edit_key_begins (DropComponent sid m) = refl
+edit_key_begins (AddPacket p) = refl
+edit_key_begins (DropPacket scid) = refl
+
+pub no_edit : (k : Keyword) (e : Edit) → begins_edit k ≡ false → k ≡ edit_key e → ⊥
+no_edit k e other same = false≢true (sym other ∙ ap begins_edit same ∙ edit_key_begins e)
+
+abbrev pub NoAct : Keyword → Spelled → Type 0
+NoAct k ws = (a : Act) (rest : Spelled) → IsAct a → letters k ∷ ws ≢ act_words a ++ rest
+
+pub no_until : (ws : Spelled) → ((t : ℕ) (rest : Spelled) → t < 86400 → ws ≢ time_word t ∷ rest) → NoAct the.Until ws
+no_until ws none a rest h eq = let s = ran (letters the.Until ∷ ws) _ a rest (ap (λ p. p.0) (act_is the.Until ws a rest h eq)) h eq in none _ rest s.formed (rest_is _ _ _ _ s.spelled)
+
+waits_is : (k : Keyword) (ws : Spelled) (a : Act) (rest : Spelled) → IsAct a → letters the.Wait ∷ letters k ∷ ws ≡ act_words a ++ rest → wait_by (is k) (letters the.Wait ∷ letters k ∷ ws) ≡ (a, rest)
+waits_is k ws a rest h eq = ap (λ w. wait_by w (letters the.Wait ∷ letters k ∷ ws)) (sym (word_the k)) ∙ act_is the.Wait (letters k ∷ ws) a rest h eq
+
+abbrev pub NoLevel : Spelled → Type 0
+NoLevel ws = (contact : ℕ) (closed : Bool) (rest : Spelled) → contact < 16 → ws ≢ decimal contact ∷ level_word closed ∷ rest
+
+pub no_wait_contact : (ws : Spelled) → NoLevel ws → NoAct the.Wait (letters the.Contact ∷ ws)
+no_wait_contact ws none a rest h eq =
+    let s = ran (letters the.Wait ∷ letters the.Contact ∷ ws) _ a rest (ap (λ p. p.0) (waits_is the.Contact ws a rest h eq)) h eq in
+    none _ _ rest s.formed (rest_is _ _ _ _ (rest_is _ _ _ _ s.spelled))
+
+pub no_wait : (ws : Spelled) → ((rest : Spelled) → ws ≢ letters the.Contact ∷ rest) → ((n : ℕ) (rest : Spelled) → 1 ≤ n → n < 65536 → ws ≢ decimal n ∷ rest) → NoAct the.Wait ws
+no_wait ws other none (Wait frames) rest h eq = none frames rest h.0 h.1 (rest_is _ _ _ _ eq)
+no_wait ws other none (WaitContact contact closed) rest h eq = other _ (rest_is _ _ _ _ eq)
+no_wait ws other none (Edits e) rest h eq = no_edit the.Wait e refl (key_of_act the.Wait ws (Edits e) rest eq)
+no_wait ws other none (Until second) rest h eq = let f = key_of_act the.Wait ws (Until second) rest eq in absurd cc
+no_wait ws other none (CommitIn delay) rest h eq = let f = key_of_act the.Wait ws (CommitIn delay) rest eq in absurd cc
+no_wait ws other none (CommitAt count) rest h eq = let f = key_of_act the.Wait ws (CommitAt count) rest eq in absurd cc
+no_wait ws other none Join rest h eq = let f = key_of_act the.Wait ws Join rest eq in absurd cc
+no_wait ws other none Settle rest h eq = let f = key_of_act the.Wait ws Settle rest eq in absurd cc
+
+commits_is : (k : Keyword) (ws : Spelled) (a : Act) (rest : Spelled) → IsAct a → letters the.Commit ∷ letters k ∷ ws ≡ act_words a ++ rest → commit_by (is k) (letters the.Commit ∷ letters k ∷ ws) ≡ (a, rest)
+commits_is k ws a rest h eq = ap (λ w. commit_by w (letters the.Commit ∷ letters k ∷ ws)) (sym (word_the k)) ∙ act_is the.Commit (letters k ∷ ws) a rest h eq
+
+pub no_commit_in : (ws : Spelled) → ((n : ℕ) (rest : Spelled) → 1 ≤ n → n ≤ 60000 → ws ≢ decimal n ∷ rest) → NoAct the.Commit (letters the.In ∷ ws)
+no_commit_in ws none a rest h eq =
+    let s = ran (letters the.Commit ∷ letters the.In ∷ ws) _ a rest (ap (λ p. p.0) (commits_is the.In ws a rest h eq)) h eq in
+    none _ rest s.formed.0 s.formed.1 (rest_is _ _ _ _ (rest_is _ _ _ _ s.spelled))
+
+pub no_commit_at : (ws : Spelled) → ((n : ℕ) (rest : Spelled) → n < 65536 → ws ≢ decimal n ∷ rest) → NoAct the.Commit (letters the.At ∷ ws)
+no_commit_at ws none a rest h eq =
+    let s = ran (letters the.Commit ∷ letters the.At ∷ ws) _ a rest (ap (λ p. p.0) (commits_is the.At ws a rest h eq)) h eq in
+    none _ rest s.formed (rest_is _ _ _ _ (rest_is _ _ _ _ s.spelled))
+
+-- words behind `commit` that begin neither way
+pub no_commit : (words : Spelled) → ((rest : Spelled) → words ≢ letters the.In ∷ rest) → ((rest : Spelled) → words ≢ letters the.At ∷ rest) → NoAct the.Commit words
+no_commit words x y (CommitIn delay) rest h eq = x _ (rest_is _ _ _ _ eq)
+no_commit words x y (CommitAt count) rest h eq = y _ (rest_is _ _ _ _ eq)
+no_commit words x y (Edits e) rest h eq = no_edit the.Commit e refl (key_of_act the.Commit words (Edits e) rest eq)
+no_commit words x y (Wait frames) rest h eq = let g = key_of_act the.Commit words (Wait frames) rest eq in absurd cc
+no_commit words x y (WaitContact contact closed) rest h eq = let g = key_of_act the.Commit words (WaitContact contact closed) rest eq in absurd cc
+no_commit words x y (Until second) rest h eq = let g = key_of_act the.Commit words (Until second) rest eq in absurd cc
+no_commit words x y Join rest h eq = let g = key_of_act the.Commit words Join rest eq in absurd cc
+no_commit words x y Settle rest h eq = let g = key_of_act the.Commit words Settle rest eq in absurd cc
+
+pub no_other_act : (first : Keyword) (ws : Spelled) → (first ≡ the.Wait → ⊥) → (first ≡ the.Until → ⊥) → (first ≡ the.Commit → ⊥) → (first ≡ the.Join → ⊥) → (first ≡ the.Settle → ⊥)
+    → ((e : Edit) (rest : Spelled) → IsEdit e → letters first ∷ ws ≢ edit_words e ++ rest) → NoAct first ws
+no_other_act first ws a b c d f none (Edits e) rest h eq = none e rest h eq
+no_other_act first ws a b c d f none (Wait frames) rest h eq = a (key_of_act first ws (Wait frames) rest eq)
+no_other_act first ws a b c d f none (WaitContact contact closed) rest h eq = a (key_of_act first ws (WaitContact contact closed) rest eq)
+no_other_act first ws a b c d f none (Until second) rest h eq = b (key_of_act first ws (Until second) rest eq)
+no_other_act first ws a b c d f none (CommitIn delay) rest h eq = c (key_of_act first ws (CommitIn delay) rest eq)
+no_other_act first ws a b c d f none (CommitAt count) rest h eq = c (key_of_act first ws (CommitAt count) rest eq)
+no_other_act first ws a b c d f none Join rest h eq = d (key_of_act first ws Join rest eq)
+no_other_act first ws a b c d f none Settle rest h eq = f (key_of_act first ws Settle rest eq)
+
+-- ---- modes
+
+two_words : (m : Mode) → m ≢ I → length (mode_words m) ≡ 2
+two_words I some = absurd (some refl)
+two_words II some = refl
+two_words III some = refl
+two_words IV some = refl
+
+pub no_mode : (i : Input) (words : Spelled) → NoneOf Mode (λ m. m ≢ I) mode_words (behind the.Mode i) → words ≡ letters the.Mode ∷ i.words
+    → (m : Mode) (rest : Spelled) → words ≡ (mode_words m ++ letters the.Period ∷ []) ++ rest → ⊥
+no_mode i words none p I rest e = let f = same_key the.Mode the.Period _ _ (sym p ∙ e) in absurd cc
+no_mode i words none p II rest e = none II (letters the.Period ∷ rest) (λ f. cc) (sym p ∙ e)
+no_mode i words none p III rest e = none III (letters the.Period ∷ rest) (λ f. cc) (sym p ∙ e)
+no_mode i words none p IV rest e = none IV (letters the.Period ∷ rest) (λ f. cc) (sym p ∙ e)
+
+pub later_only : (i j : Input) (words : Spelled) (n : Mode) → n ≢ I → Passes (mode_words n) (behind the.Mode i) j → words ≡ letters the.Mode ∷ i.words
+    → (m : Mode) (rest : Spelled) → words ≡ mode_words m ++ letters the.Period ∷ rest → j.words ≡ letters the.Period ∷ rest
+later_only i j words n some p begins I rest e = let f = same_key the.Mode the.Period _ _ (sym begins ∙ e) in absurd cc
+later_only i j words n some p begins II rest e = left_over (mode_words n) (mode_words II) (behind the.Mode i) j (letters the.Period ∷ rest) (two_words n some) p (sym begins ∙ e)
+later_only i j words n some p begins III rest e = left_over (mode_words n) (mode_words III) (behind the.Mode i) j (letters the.Period ∷ rest) (two_words n some) p (sym begins ∙ e)
+later_only i j words n some p begins IV rest e = left_over (mode_words n) (mode_words IV) (behind the.Mode i) j (letters the.Period ∷ rest) (two_words n some) p (sym begins ∙ e)
+
+pub first_only : (words : Spelled) → ((rest : Spelled) → words ≢ letters the.Mode ∷ rest) → (m : Mode) (rest : Spelled) → words ≡ mode_words m ++ letters the.Period ∷ rest → words ≡ letters the.Period ∷ rest
+first_only words other I rest e = e
+first_only words other II rest e = absurd (other _ e)
+first_only words other III rest e = absurd (other _ e)
+first_only words other IV rest e = absurd (other _ e)
+
+-- behind the EId of a header
+abbrev pub limits_words : Header → Spelled → Spelled
+limits_words h rest = letters the.Period ∷ decimal h.period ∷ letters the.Notice ∷ decimal h.notice ∷ letters the.Budget ∷ decimal h.budget ∷ rest
+
+pub mode_front : (words : Spelled) (h : Header) (rest : Spelled) → words ≡ (mode_words h.mode ++ limits_words h []) ++ rest → words ≡ mode_words h.mode ++ limits_words h rest
+mode_front words h rest e = e ∙ append_assoc (mode_words h.mode) (limits_words h []) rest
+
+pub mode_alone : (words : Spelled) (h : Header) (rest : Spelled) → words ≡ (mode_words h.mode ++ limits_words h []) ++ rest → words ≡ (mode_words h.mode ++ letters the.Period ∷ []) ++ drop 1 (limits_words h rest)
+mode_alone words h rest e = mode_front words h rest e ∙ sym (append_assoc (mode_words h.mode) (letters the.Period ∷ []) (drop 1 (limits_words h rest)))
+
+-- ---- where a call's answer is handed on
+
+pub no_move_at : (first : Keyword) (i : Input) → first ≡ the.Move → NoneOf (ℕ × ℕ) (λ p. (p.0 < 64) × (p.1 < 1024)) (λ p. edit_words (MoveSub p.0 p.1)) (behind the.Move i) → NoneOf Edit IsEdit edit_words (behind first i)
+no_move_at first i same none e rest h eq = no_move i none e rest h (ap (λ k. letters k ∷ i.words) (sym same) ∙ eq)
+
+pub no_rate_at : (first : Keyword) (i : Input) → first ≡ the.Rate → NoneOf (ℕ × ℕ) (λ p. (p.0 < 64) × (p.1 < 65536)) (λ p. edit_words (RateSub p.0 p.1)) (behind the.Rate i) → NoneOf Edit IsEdit edit_words (behind first i)
+no_rate_at first i same none e rest h eq = no_rate i none e rest h (ap (λ k. letters k ∷ i.words) (sym same) ∙ eq)
+
+pub no_dropped : (words : Spelled) → ((k : Keyword) (rest : Spelled) → words ≢ letters k ∷ rest) → NoDropped words
+no_dropped words none e rest h eq =
+    let found : Found words the.Begin = λ k more f. absurd (none k more f) in
+    no_drop_other words the.Begin found (λ f. cc) (λ f. cc) (λ m more good f. no_carrier words the.Begin found (λ g. cc) (λ g. cc) m more f) e rest h eq

@@ -1,0 +1,218 @@
+-- Where a block is refused, no block in range has these words.
+use Rattle.std.proofs.Common.{◌≡◌, ◌≢◌, inl, inr, ℕ, suc, zero, ◌+◌, ◌-◌, ◌<◌, ◌≤◌, true, false, List, [], ◌∷◌, ◌++◌, length, slice_get, Some, refl, sym, ap, ◌∙◌, subst, append_assoc, arith}
+use Rattle.std.specs.Prelude.{Result, Ok, Err, IfErr}
+use Rattle.std.specs.Fmt.{decimal}
+use Rattle.script_front.specs.declared.fault.ScriptFault.{ScriptFault}
+use Rattle.script_front.specs.declared.fault.ScriptFault.TheVariants.{Memory}
+use Rattle.script_front.specs.declared.keyword.Keyword.{Keyword}
+use Rattle.script_front.specs.declared.keyword.Keyword.TheVariants as the
+use Rattle.script_front.specs.Words.{letters, begins_item, begins_statement}
+use Rattle.script_front.specs.Block.{Block, Before, nothing, basic, stop, when, either, repeat, forever, apply}
+use Rattle.script_front.specs.Tree.{IsName, Fits, counted}
+use Rattle.script_front.specs.Reading.{Input, Passes, BeginsWith, behind}
+use Rattle.script_front.specs.Spelled.{Spelled, name_at, act_words, block_words}
+use Rattle.script_front.specs.Parsing.{Stops, CanBe, NoBlock, NoBody, NoApplied, BeginsNoItem, IsRead, IsBody}
+use Rattle.script_front.proofs.Keys.{first_is, rest_is}
+use Rattle.script_front.proofs.Refusing.{Found, NoAct}
+use Rattle.script_front.proofs.Blocks.{key, begins_act, act_key_begins, key_is, key_first, all_read, after_apply, after_forever, after_repeat, after_if, no_else}
+
+pub refused : {X T : Type 0} (r : Result X ScriptFault) → T → IfErr r (λ e. e ≢ Memory → T)
+refused (Ok x) t = tt
+refused (Err e) t = λ ne. t
+
+pub passes_two : (a b : List ℕ) (i m j : Input) → Passes (a ∷ []) i m → Passes (b ∷ []) m j → Passes (a ∷ b ∷ []) i j
+passes_two a b i m j p q = (p.0 ∙ ap (λ (ws : Spelled). a ∷ ws) q.0, q.1 ∙ p.1)
+
+-- ---- first words
+
+key_begins : (b : Block) → (b ≡ nothing → ⊥) → begins_statement (key b) ≡ true
+key_begins nothing some = absurd (some refl)
+key_begins (basic line act r) some = through (key (basic line act r)) (act_key_begins act)
+  where
+    through : (k : Keyword) → begins_act k ≡ true → begins_statement k ≡ true
+    through the.Wait e = refl
+    through the.Until e = refl
+    through the.Commit e = refl
+    through the.Join e = refl
+    through the.Settle e = refl
+    through the.Sub e = refl
+    through the.Drop e = refl
+    through the.Move e = refl
+    through the.Rate e = refl
+    through the.Service e = refl
+    through the.Audio e = refl
+    through the.Data e = refl
+    through the.Carry e = refl
+    through the.Packet e = refl
+    through the.End e = refl
+    through the.If e = refl
+    through the.Repeat e = refl
+    through the.Forever e = refl
+    through the.Apply e = refl
+    through the.Ensemble e = e
+    through the.Mode e = e
+    through the.Period e = e
+    through the.Notice e = e
+    through the.Budget e = e
+    through the.Define e = e
+    through the.Begin e = e
+    through the.At e = e
+    through the.Eep e = e
+    through the.In e = e
+    through the.Groups e = e
+    through the.Raw e = e
+    through the.TypeWord e = e
+    through the.Address e = e
+    through the.Component e = e
+    through the.Contact e = e
+    through the.Closed e = e
+    through the.Open e = e
+    through the.Else e = e
+    through the.OpenBrace e = e
+    through the.CloseBrace e = e
+key_begins (stop line r) some = refl
+key_begins (when line contact first r) some = refl
+key_begins (either line contact first second r) some = refl
+key_begins (repeat line times body r) some = refl
+key_begins (forever line body r) some = refl
+key_begins (apply line number named r) some = refl
+
+not_empty : (names : List (List ℕ)) (depth : ℕ) (words : Spelled) (b : Block) (rest : Spelled) → (Stops words → ⊥) → CanBe names depth words b rest → b ≡ nothing → ⊥
+not_empty names depth words b rest go can is = go (subst Stops (sym (can.spelled ∙ ap (λ (x : Block). block_words names x ++ rest) is)) can.stops)
+
+pub no_word : (names : List (List ℕ)) (depth left : ℕ) (words : Spelled) → (Stops words → ⊥) → ((k : Keyword) (rest : Spelled) → words ≢ letters k ∷ rest) → NoBlock names depth left words
+no_word names depth left words go none named b rest few can =
+    none (key b) _ (can.spelled ∙ key_first names b rest (not_empty names depth words b rest go can))
+
+pub no_start : (names : List (List ℕ)) (depth left : ℕ) (words : Spelled) (found : Keyword) → (Stops words → ⊥) → Found words found → begins_statement found ≡ false → NoBlock names depth left words
+no_start names depth left words found go is other named b rest few can =
+    let some = not_empty names depth words b rest go can in
+    let same : found ≡ key b = is (key b) _ (can.spelled ∙ key_first names b rest some) in
+    let e : false ≡ true = sym other ∙ ap begins_statement same ∙ key_begins b some in
+    absurd cc
+
+some_counted : (b : Block) → counted b ≤ 0 → b ≡ nothing
+some_counted nothing le = refl
+some_counted (basic line act r) le = absurd (omega (arith, le))
+some_counted (stop line r) le = absurd (omega (arith, le))
+some_counted (when line contact first r) le = absurd (omega (arith, le))
+some_counted (either line contact first second r) le = absurd (omega (arith, le))
+some_counted (repeat line times body r) le = absurd (omega (arith, le))
+some_counted (forever line body r) le = absurd (omega (arith, le))
+some_counted (apply line number named r) le = absurd (omega (arith, le))
+
+pub no_more : (names : List (List ℕ)) (depth left : ℕ) (words : Spelled) → (Stops words → ⊥) → left ≡ 0 → NoBlock names depth left words
+no_more names depth left words go none named b rest few can = not_empty names depth words b rest go can (some_counted b (omega (arith, few, none)))
+
+pub no_block_at : (names : List (List ℕ)) (depth n m : ℕ) (words vs : Spelled) → words ≡ vs → n ≡ m → NoBlock names depth n vs → NoBlock names depth m words
+no_block_at names depth n m words vs e f none named b rest few can =
+    none named b rest (omega (arith, few, f)) (record { fits = can.fits; stops = can.stops; spelled = sym e ∙ can.spelled })
+
+-- ---- each kind of statement
+
+act_only : (names : List (List ℕ)) (depth : ℕ) (first : Keyword) (ws : Spelled) → NoAct first ws → (first ≡ the.End → ⊥) → (first ≡ the.If → ⊥) → (first ≡ the.Repeat → ⊥) → (first ≡ the.Forever → ⊥)
+    → (first ≡ the.Apply → ⊥) → (b : Block) (rest : Spelled) → Fits (length names) depth b → (b ≡ nothing → ⊥) → key b ≡ first → letters first ∷ ws ≡ block_words names b ++ rest → ⊥
+act_only names depth first ws none p q r s t (basic line a next) rest f some same eq = none a _ f.0 (eq ∙ append_assoc (act_words a) (block_words names next) rest)
+act_only names depth first ws none p q r s t nothing rest f some same eq = some refl
+act_only names depth first ws none p q r s t (stop line next) rest f some same eq = p (sym same)
+act_only names depth first ws none p q r s t (when line contact one next) rest f some same eq = q (sym same)
+act_only names depth first ws none p q r s t (either line contact one two next) rest f some same eq = q (sym same)
+act_only names depth first ws none p q r s t (repeat line times body next) rest f some same eq = r (sym same)
+act_only names depth first ws none p q r s t (forever line body next) rest f some same eq = s (sym same)
+act_only names depth first ws none p q r s t (apply line number named next) rest f some same eq = t (sym same)
+
+pub no_act_block : (names : List (List ℕ)) (depth left : ℕ) (first : Keyword) (words ws : Spelled) → (Stops words → ⊥) → words ≡ letters first ∷ ws → NoAct first ws
+    → (first ≡ the.End → ⊥) → (first ≡ the.If → ⊥) → (first ≡ the.Repeat → ⊥) → (first ≡ the.Forever → ⊥) → (first ≡ the.Apply → ⊥) → NoBlock names depth left words
+no_act_block names depth left first words ws go is none p q r s t named b rest few can =
+    act_only names depth first ws none p q r s t b rest can.fits (not_empty names depth words b rest go can) (key_is names b rest first ws can.stops (sym can.spelled ∙ is)) (sym is ∙ can.spelled)
+
+pub no_apply_block : (names : List (List ℕ)) (depth left : ℕ) (words ws : Spelled) → words ≡ letters the.Apply ∷ ws → NoApplied names ws → NoBlock names depth left words
+no_apply_block names depth left words ws is none named b rest few can =
+    let x = after_apply names (length names) depth ws b rest (key_is names b rest the.Apply ws can.stops (sym can.spelled ∙ is)) can.fits (sym is ∙ can.spelled) in
+    none named x.number _ x.in_range x.words
+
+pub no_times : (names : List (List ℕ)) (depth left : ℕ) (ws : Spelled) → ((n : ℕ) (rest : Spelled) → 1 ≤ n → n < 65536 → ws ≢ decimal n ∷ rest) → NoBlock names depth left (letters the.Repeat ∷ ws)
+no_times names depth left ws none named b rest few can =
+    let x = after_repeat names (length names) depth ws b rest (key_is names b rest the.Repeat ws can.stops (sym can.spelled)) can.fits can.spelled in
+    none x.times _ x.some x.small x.words
+
+pub no_repeated : (names : List (List ℕ)) (depth left times : ℕ) (i j : Input) → Passes (decimal times ∷ []) i j → NoBody names depth left j.words → NoBlock names depth (left + 1) (letters the.Repeat ∷ i.words)
+no_repeated names depth left times i j p none named b rest few can =
+    let x = after_repeat names (length names) depth i.words b rest (key_is names b rest the.Repeat i.words can.stops (sym can.spelled)) can.fits can.spelled in
+    none named x.body _ x.room x.within (let c = x.counts in omega (arith, c, few)) (rest_is _ _ _ _ (sym p.0 ∙ x.words))
+
+pub no_looped : (names : List (List ℕ)) (depth left : ℕ) (ws : Spelled) → NoBody names depth left ws → NoBlock names depth (left + 1) (letters the.Forever ∷ ws)
+no_looped names depth left ws none named b rest few can =
+    let x = after_forever names (length names) depth ws b rest (key_is names b rest the.Forever ws can.stops (sym can.spelled)) can.fits can.spelled in
+    none named x.body _ x.room x.within (let c = x.counts in omega (arith, c, few)) x.words
+
+pub no_test : (names : List (List ℕ)) (depth left : ℕ) (ws : Spelled) → ((rest : Spelled) → ws ≢ letters the.Contact ∷ rest) → NoBlock names depth left (letters the.If ∷ ws)
+no_test names depth left ws none named b rest few can =
+    let x = after_if names (length names) depth ws b rest (key_is names b rest the.If ws can.stops (sym can.spelled)) can.fits can.spelled in
+    none _ x.words
+
+pub no_contact : (names : List (List ℕ)) (depth left : ℕ) (i j : Input) → Passes (letters the.Contact ∷ []) i j → ((n : ℕ) (rest : Spelled) → n < 16 → j.words ≢ decimal n ∷ rest)
+    → NoBlock names depth left (letters the.If ∷ i.words)
+no_contact names depth left i j p none named b rest few can =
+    let x = after_if names (length names) depth i.words b rest (key_is names b rest the.If i.words can.stops (sym can.spelled)) can.fits can.spelled in
+    none x.contact _ x.small (rest_is _ _ _ _ (sym p.0 ∙ x.words))
+
+pub no_first_block : (names : List (List ℕ)) (depth left contact : ℕ) (i j : Input) → Passes (letters the.Contact ∷ decimal contact ∷ []) i j → NoBody names depth left j.words
+    → NoBlock names depth (left + 1) (letters the.If ∷ i.words)
+no_first_block names depth left contact i j p none named b rest few can =
+    let x = after_if names (length names) depth i.words b rest (key_is names b rest the.If i.words can.stops (sym can.spelled)) can.fits can.spelled in
+    none named x.first _ x.room x.within (let c = x.counts in omega (arith, c, few)) (rest_is _ _ _ _ (rest_is _ _ _ _ (sym p.0 ∙ x.words)))
+
+pub no_second_block : (names : List (List ℕ)) (depth old mid contact : ℕ) (i j k l : Input) (first : Block) → Passes (letters the.Contact ∷ decimal contact ∷ []) i j
+    → IsBody names depth old mid j k first → Passes (letters the.Else ∷ []) k l → NoBody names depth mid l.words → NoBlock names depth (old + 1) (letters the.If ∷ i.words)
+no_second_block names depth old mid contact i j k l first p h q none named b rest few can =
+    let x = after_if names (length names) depth i.words b rest (key_is names b rest the.If i.words can.stops (sym can.spelled)) can.fits can.spelled in
+    let y = h.only x.first x.later x.within (rest_is _ _ _ _ (rest_is _ _ _ _ (sym p.0 ∙ x.words))) in
+    elim x.goes_on [
+      | inl a ↦ no_else names a.next rest l.words can.stops (sym q.0 ∙ y.words ∙ a.words)
+      | inr a ↦ none named a.second _ x.room a.within (let c = x.counts in let d = a.same in let e = y.counts in omega (arith, c, d, e, few)) (rest_is _ _ _ _ (sym q.0 ∙ y.words ∙ a.words))
+    ]
+
+-- ---- blocks in braces
+
+pub no_open : (names : List (List ℕ)) (depth left : ℕ) (words : Spelled) → (1 ≤ depth → (rest : Spelled) → words ≢ letters the.OpenBrace ∷ rest) → NoBody names depth left words
+no_open names depth left words none named b rest room fits few e = none room _ e
+
+pub no_inside : (names : List (List ℕ)) (depth left : ℕ) (i j : Input) → Passes (letters the.OpenBrace ∷ []) i j → NoBlock names (depth - 1) left j.words → NoBody names depth left i.words
+no_inside names depth left i j p none named b rest room fits few e =
+    none named b (letters the.CloseBrace ∷ rest) few (record { fits = fits; stops = refl; spelled = rest_is _ _ _ _ (sym p.0 ∙ e) })
+
+pub no_close : (names : List (List ℕ)) (depth old new : ℕ) (i j k : Input) (added : Before) → Passes (letters the.OpenBrace ∷ []) i j → IsRead names (depth - 1) old new j k added → Stops k.words
+    → ((rest : Spelled) → k.words ≢ letters the.CloseBrace ∷ rest) → NoBody names depth old i.words
+no_close names depth old new i j k added p h stops none named b rest room fits few e =
+    let x = h.only b (letters the.CloseBrace ∷ rest) (record { fits = fits; stops = refl; spelled = rest_is _ _ _ _ (sym p.0 ∙ e) }) in
+    let empty = all_read names x.next (letters the.CloseBrace ∷ rest) k.words refl stops x.can.spelled in
+    none rest (x.can.spelled ∙ ap (λ (c : Block). block_words names c ++ letters the.CloseBrace ∷ rest) empty)
+
+-- ---- one statement after another
+
+pub no_next : (names : List (List ℕ)) (depth old mid : ℕ) (i j : Input) (added : Before) → IsRead names depth old mid i j added → NoBlock names depth mid j.words → NoBlock names depth old i.words
+no_next names depth old mid i j added h none named b rest few can =
+    let x = h.only b rest can in none named x.next rest (let c = x.counts in omega (arith, c, few)) x.can
+
+-- ---- names
+
+pub slice_at : (names : List (List ℕ)) (n : ℕ) → n < length names → slice_get names n ≡ Some (name_at names n)
+slice_at [] n lt = absurd (omega (arith, lt))
+slice_at (x ∷ names) zero lt = refl
+slice_at (x ∷ names) (suc n) lt = slice_at names n (omega (arith, lt))
+
+pub not_known : (names : List (List ℕ)) (words : Spelled) (name : List ℕ) → BeginsWith words name → ((i : ℕ) → slice_get names i ≢ Some name) → NoApplied names words
+not_known names words name h new named number rest lt e =
+    new number (slice_at names number lt ∙ ap Some (first_is _ _ _ _ (sym e ∙ h.begins)))
+
+pub no_name : (words : Spelled) (w : List ℕ) → BeginsWith words w → (IsName w → ⊥) → (name : List ℕ) (rest : Spelled) → IsName name → words ≢ name ∷ rest
+no_name words w h none name rest is e = none (subst IsName (first_is _ _ _ _ (sym e ∙ h.begins)) is)
+
+-- ---- passed words
+
+pub passes_behind : (k : Keyword) (ws : Spelled) (i j l : Input) → Passes (letters k ∷ []) i j → Passes ws (behind k j) l → Passes ws i l
+passes_behind k ws i j l p q = (p.0 ∙ q.0, q.1 ∙ p.1)
+
+pub no_item_begins : (words : Spelled) (first : Keyword) → Found words first → begins_item first ≡ false → BeginsNoItem words
+no_item_begins words first is other k rest among e = let f : false ≡ true = sym other ∙ ap begins_item (is k rest e) ∙ among in absurd cc

@@ -1,0 +1,10 @@
+use Rattle.script_front.proofs.Keys.{found_is}
+use Rattle.script_front.proofs.Refusing.{no_groups}
+use Rattle.script_front.proofs.items.data_groups.Goals as goal
+
+pub returns-in_default-found : goal.returns-in_default-found
+returns-in_default-found c = record {
+  spells = tt;
+  none = λ a rest u e. no_groups c.args.reader.now.words c.in-Some.found (found_is c.keyword.result c.args.reader.now.words c.in-Some.found c.keyword.ensures.is c.in-Some.is) c.in_default-found.not-Groups c.in_default-found.not-Raw a rest e;
+  shorter = tt;
+}

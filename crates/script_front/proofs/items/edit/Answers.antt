@@ -1,0 +1,17 @@
+use Rattle.script_front.proofs.Atoms.{handed_on}
+use Rattle.script_front.proofs.Refusing.{no_move_at, no_rate_at, no_other_edit}
+use Rattle.script_front.proofs.items.edit.Goals as goal
+
+pub returns-in-Move-clause-none : goal.returns-in-Move-clause-none
+returns-in-Move-clause-none c = handed_on c.moved.result (no_move_at c.args.first c.args.reader.now c.in-Move.is) c.moved.ensures.none
+
+pub returns-in-Rate-clause-none : goal.returns-in-Rate-clause-none
+returns-in-Rate-clause-none c = handed_on c.rated.result (no_rate_at c.args.first c.args.reader.now c.in-Rate.is) c.rated.ensures.none
+
+pub returns-in_default : goal.returns-in_default
+returns-in_default c = record {
+  spells = c.item.ensures.spells;
+  range = c.item.ensures.range;
+  none = handed_on c.item.result (no_other_edit c.args.first c.args.reader.now c.in_default.not-Drop c.in_default.not-Move c.in_default.not-Rate) c.item.ensures.none;
+  shorter = c.item.ensures.shorter;
+}

@@ -1,0 +1,5 @@
+use Rattle.script_front.proofs.Alike.{scripts_alike}
+use Rattle.script_front.proofs.laws.scripts.Goals as goal
+
+pub returns : goal.returns
+returns c = scripts_alike

@@ -1,0 +1,5 @@
+use Rattle.script_front.proofs.OneScript.{one_script}
+use Rattle.script_front.proofs.laws.texts_of_scripts.Goals as goal
+
+pub returns : goal.returns
+returns c = one_script

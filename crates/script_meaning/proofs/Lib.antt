@@ -1,0 +1,6 @@
+pub mod Scenes
+pub mod Places
+pub mod Following
+pub mod Openings
+pub mod Playing
+mod Vectors

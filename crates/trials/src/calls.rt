@@ -1,0 +1,419 @@
+//! The calls that take memory, each as a trial over one script.
+
+use crate::trial::{Ended, Trial, tell_bytes, try_call};
+use crate::{code_in, unfit};
+use mux_config::{Config, write_config};
+use mux_tables::Tables;
+use plan_code::{Code, CodeFault, ContactId, Contacts, decode, encode};
+use plan_debug::{Command, Debugger, Report};
+use plan_events::{EventFault, Step, read_commands, read_events};
+use plan_playback::{RunFault, run};
+use plan_player::{Player, Sink, Start, Writer};
+use plan_verifier::{Verified, verify};
+use script_compiler::{CompileFault, compile};
+use script_front::{Script, ScriptFault, Token, lex, parse, print};
+use std::alloc::Global;
+use std::io::{self, Write};
+
+/// A text of events: 70 frames, with contact 3 closed and opened.
+const EVENTS: &str =
+    "frames 1 contact 3 closed contact 3 open contact 3 closed frames 39 contact 3 open frames 30";
+
+/// A text of commands, of each kind.
+const COMMANDS: &str = "break 9 run 100 contact 3 closed run 2 next clear show";
+
+/// The most bytes that the frames of `EVENTS` have.
+const MOST_BYTES: usize = 70 * 128;
+
+/// Tries the call of this name over a script; false where no call has it.
+pub fn try_named<W: Write>(alloc: Global, name: &str, text: &str, out: &mut W) -> io::Result<bool> {
+    match name {
+        "lex" => try_call(alloc, &mut Lex { text }, out)?,
+        "parse" => try_call(alloc, &mut Parse { text }, out)?,
+        "read_events" => try_call(alloc, &mut ReadEvents, out)?,
+        "read_commands" => try_call(alloc, &mut ReadCommands, out)?,
+        "print" => try_print(alloc, text, out)?,
+        "compile" => try_compile(alloc, text, out)?,
+        _ => return try_over_code(alloc, name, text, out),
+    }
+    Ok(true)
+}
+
+/// Tries the call of this name over the code of a script; false where no call has it.
+fn try_over_code<W: Write>(alloc: Global, name: &str, text: &str, out: &mut W) -> io::Result<bool> {
+    let code = compiled(alloc, text)?;
+    let file = encode(alloc, &code)?;
+    match name {
+        "write_config" => try_write_config(alloc, &code, out)?,
+        "encode" => try_call(alloc, &mut Encode { code: &code }, out)?,
+        "decode" => try_call(alloc, &mut Decode { file: &file }, out)?,
+        "run" => try_run(alloc, &file, out)?,
+        "debugger" => try_debugger(alloc, &file, out)?,
+        _ => return Ok(false),
+    }
+    Ok(true)
+}
+
+/// The script that a text is.
+fn script_of(alloc: Global, text: &str) -> io::Result<Script> {
+    match parse(alloc, text) {
+        Ok(script) => Ok(script),
+        Err(_) => Err(unfit()),
+    }
+}
+
+/// The code of the script that a text is.
+fn compiled(alloc: Global, text: &str) -> io::Result<Code> {
+    let script = script_of(alloc, text)?;
+    match compile(alloc, &script) {
+        Ok(code) => Ok(code),
+        Err(_) => Err(unfit()),
+    }
+}
+
+fn try_print<W: Write>(alloc: Global, text: &str, out: &mut W) -> io::Result<()> {
+    let script = script_of(alloc, text)?;
+    try_call(alloc, &mut Print { script: &script }, out)
+}
+
+fn try_compile<W: Write>(alloc: Global, text: &str, out: &mut W) -> io::Result<()> {
+    let script = script_of(alloc, text)?;
+    try_call(alloc, &mut Compile { script: &script }, out)
+}
+
+/// Tries `write_config` of the first configuration of a code.
+fn try_write_config<W: Write>(alloc: Global, code: &Code, out: &mut W) -> io::Result<()> {
+    match code.config(0) {
+        Some(config) => try_call(alloc, &mut WriteConfig { config }, out),
+        None => Err(unfit()),
+    }
+}
+
+#[derive(Drop)]
+struct WriteConfig<'a> {
+    config: &'a Config,
+}
+
+impl Trial for WriteConfig<'_> {
+    type Answer = Vec<u8>;
+
+    fn call(&mut self, alloc: Global) -> Ended<Vec<u8>> {
+        match write_config(alloc, self.config) {
+            Ok(record) => Ended::Answered(record),
+            Err(_) => Ended::NoMemory,
+        }
+    }
+
+    fn tell<W: Write>(&mut self, _alloc: Global, answer: Vec<u8>, out: &mut W) -> io::Result<()> {
+        tell_bytes(&answer, out)
+    }
+}
+
+#[derive(Drop)]
+struct Decode<'a> {
+    file: &'a [u8],
+}
+
+impl Trial for Decode<'_> {
+    type Answer = Code;
+
+    fn call(&mut self, alloc: Global) -> Ended<Code> {
+        match decode(alloc, self.file) {
+            Ok(code) => Ended::Answered(code),
+            Err(CodeFault::Memory) => Ended::NoMemory,
+            Err(_) => Ended::Otherwise,
+        }
+    }
+
+    fn tell<W: Write>(&mut self, alloc: Global, answer: Code, out: &mut W) -> io::Result<()> {
+        let file = encode(alloc, &answer)?;
+        tell_bytes(&file, out)
+    }
+}
+
+#[derive(Drop)]
+struct Encode<'a> {
+    code: &'a Code,
+}
+
+impl Trial for Encode<'_> {
+    type Answer = Vec<u8>;
+
+    fn call(&mut self, alloc: Global) -> Ended<Vec<u8>> {
+        match encode(alloc, self.code) {
+            Ok(file) => Ended::Answered(file),
+            Err(_) => Ended::NoMemory,
+        }
+    }
+
+    fn tell<W: Write>(&mut self, _alloc: Global, answer: Vec<u8>, out: &mut W) -> io::Result<()> {
+        tell_bytes(&answer, out)
+    }
+}
+
+#[derive(Drop)]
+struct Lex<'a> {
+    text: &'a str,
+}
+
+impl Trial for Lex<'_> {
+    type Answer = Vec<Token>;
+
+    fn call(&mut self, alloc: Global) -> Ended<Vec<Token>> {
+        match lex(alloc, self.text) {
+            Ok(tokens) => Ended::Answered(tokens),
+            Err(ScriptFault::Memory) => Ended::NoMemory,
+            Err(_) => Ended::Otherwise,
+        }
+    }
+
+    fn tell<W: Write>(
+        &mut self,
+        _alloc: Global,
+        answer: Vec<Token>,
+        out: &mut W,
+    ) -> io::Result<()> {
+        for token in &answer {
+            write!(out, "{}-{} ", token.start, token.end)?;
+        }
+        writeln!(out)
+    }
+}
+
+#[derive(Drop)]
+struct Parse<'a> {
+    text: &'a str,
+}
+
+impl Trial for Parse<'_> {
+    type Answer = Script;
+
+    fn call(&mut self, alloc: Global) -> Ended<Script> {
+        match parse(alloc, self.text) {
+            Ok(script) => Ended::Answered(script),
+            Err(ScriptFault::Memory) => Ended::NoMemory,
+            Err(_) => Ended::Otherwise,
+        }
+    }
+
+    fn tell<W: Write>(&mut self, alloc: Global, answer: Script, out: &mut W) -> io::Result<()> {
+        let text = print(alloc, &answer)?;
+        write!(out, "{text}")
+    }
+}
+
+#[derive(Drop)]
+struct Print<'a> {
+    script: &'a Script,
+}
+
+impl Trial for Print<'_> {
+    type Answer = String;
+
+    fn call(&mut self, alloc: Global) -> Ended<String> {
+        match print(alloc, self.script) {
+            Ok(text) => Ended::Answered(text),
+            Err(_) => Ended::NoMemory,
+        }
+    }
+
+    fn tell<W: Write>(&mut self, _alloc: Global, answer: String, out: &mut W) -> io::Result<()> {
+        write!(out, "{answer}")
+    }
+}
+
+#[derive(Drop)]
+struct Compile<'a> {
+    script: &'a Script,
+}
+
+impl Trial for Compile<'_> {
+    type Answer = Code;
+
+    fn call(&mut self, alloc: Global) -> Ended<Code> {
+        match compile(alloc, self.script) {
+            Ok(code) => Ended::Answered(code),
+            Err(CompileFault::Memory) => Ended::NoMemory,
+            Err(_) => Ended::Otherwise,
+        }
+    }
+
+    fn tell<W: Write>(&mut self, alloc: Global, answer: Code, out: &mut W) -> io::Result<()> {
+        let file = encode(alloc, &answer)?;
+        tell_bytes(&file, out)
+    }
+}
+
+#[derive(Drop)]
+struct ReadEvents;
+
+impl Trial for ReadEvents {
+    type Answer = Vec<Step>;
+
+    fn call(&mut self, alloc: Global) -> Ended<Vec<Step>> {
+        match read_events(alloc, EVENTS) {
+            Ok(steps) => Ended::Answered(steps),
+            Err(EventFault::Memory) => Ended::NoMemory,
+            Err(_) => Ended::Otherwise,
+        }
+    }
+
+    fn tell<W: Write>(&mut self, _alloc: Global, answer: Vec<Step>, out: &mut W) -> io::Result<()> {
+        for step in &answer {
+            match *step {
+                Step::Contact(contact, closed) => {
+                    let level = if closed { "closed" } else { "open" };
+                    write!(out, "contact {} {level} ", contact.get())?;
+                }
+                Step::Frames(count) => write!(out, "frames {count} ")?,
+            }
+        }
+        writeln!(out)
+    }
+}
+
+#[derive(Drop)]
+struct ReadCommands;
+
+impl Trial for ReadCommands {
+    type Answer = Vec<Command>;
+
+    fn call(&mut self, alloc: Global) -> Ended<Vec<Command>> {
+        match read_commands(alloc, COMMANDS) {
+            Ok(commands) => Ended::Answered(commands),
+            Err(EventFault::Memory) => Ended::NoMemory,
+            Err(_) => Ended::Otherwise,
+        }
+    }
+
+    fn tell<W: Write>(
+        &mut self,
+        _alloc: Global,
+        answer: Vec<Command>,
+        out: &mut W,
+    ) -> io::Result<()> {
+        for command in &answer {
+            match *command {
+                Command::Contact(contact, closed) => {
+                    let level = if closed { "closed" } else { "open" };
+                    write!(out, "contact {} {level} ", contact.get())?;
+                }
+                Command::Run(most) => write!(out, "run {most} ")?,
+                Command::Next => write!(out, "next ")?,
+                Command::Break(line) => write!(out, "break {line} ")?,
+                Command::Clear => write!(out, "clear ")?,
+                Command::Show => write!(out, "show ")?,
+            }
+        }
+        writeln!(out)
+    }
+}
+
+#[derive(Drop)]
+struct Run<'a> {
+    file: &'a [u8],
+    sink: Writer<Vec<u8>>,
+}
+
+impl Trial for Run<'_> {
+    type Answer = u128;
+
+    /// Want of memory counts only where nothing was written.
+    fn call(&mut self, alloc: Global) -> Ended<u128> {
+        if self.sink.failed() {
+            return Ended::Otherwise;
+        }
+        let ended = run(alloc, self.file, EVENTS, 0, 0, Contacts(0), &mut self.sink);
+        let is_silent = self.sink.inner().is_empty() && !self.sink.failed();
+        match ended {
+            Ok(frames) => Ended::Answered(frames),
+            Err(RunFault::Code(CodeFault::Memory)) if is_silent => Ended::NoMemory,
+            Err(RunFault::Events(EventFault::Memory)) if is_silent => Ended::NoMemory,
+            Err(_) => Ended::Otherwise,
+        }
+    }
+
+    fn tell<W: Write>(&mut self, _alloc: Global, answer: u128, out: &mut W) -> io::Result<()> {
+        writeln!(out, "{answer}")?;
+        tell_bytes(self.sink.inner(), out)
+    }
+}
+
+/// Tries `run` of a code file, into a sink that has room for all its frames.
+fn try_run<W: Write>(alloc: Global, file: &[u8], out: &mut W) -> io::Result<()> {
+    let room = Vec::with_capacity(alloc, MOST_BYTES)?;
+    let mut trial = Run {
+        file,
+        sink: Writer::new(room),
+    };
+    try_call(alloc, &mut trial, out)
+}
+
+#[derive(Drop)]
+struct MakeDebugger<'a> {
+    player: Option<Player<'a, Tables>>,
+}
+
+impl<'a> Trial for MakeDebugger<'a> {
+    type Answer = Debugger<'a, Tables>;
+
+    /// Keeps the player that is handed back.
+    fn call(&mut self, alloc: Global) -> Ended<Debugger<'a, Tables>> {
+        let Some(player) = self.player.take() else {
+            return Ended::Otherwise;
+        };
+        match Debugger::new(alloc, player) {
+            Ok(debugger) => Ended::Answered(debugger),
+            Err(player) => {
+                self.player = Some(player);
+                Ended::NoMemory
+            }
+        }
+    }
+
+    fn tell<W: Write>(
+        &mut self,
+        _alloc: Global,
+        answer: Debugger<'a, Tables>,
+        out: &mut W,
+    ) -> io::Result<()> {
+        let mut debugger = answer;
+        tell_report(&debugger.command(Command::Show), out)?;
+        tell_report(&debugger.command(Command::Run(30)), out)
+    }
+}
+
+fn tell_report<W: Write>(report: &Report, out: &mut W) -> io::Result<()> {
+    writeln!(
+        out,
+        "frames {} steps {} pc {} line {} count {}",
+        report.frames, report.steps, report.pc, report.line, report.count
+    )
+}
+
+/// The code in a file as it can be played.
+fn typed(alloc: Global, file: &[u8]) -> io::Result<Verified> {
+    let code = code_in(alloc, file)?;
+    verify::<Tables>(code).map_err(|_| unfit())
+}
+
+/// Tries `Debugger::new` with a player that has made two frames, the second with contact 3 closed.
+fn try_debugger<W: Write>(alloc: Global, file: &[u8], out: &mut W) -> io::Result<()> {
+    let code = typed(alloc, file)?;
+    let start = Start {
+        eid: code.code().plan().eid,
+        count: 0,
+        day: 0,
+        contacts: Contacts(0),
+    };
+    let mut player: Player<Tables> = Player::new(&code, start).map_err(|_| unfit())?;
+    let _first = player.frame();
+    if let Some(third) = ContactId::new(3) {
+        player.contact(third, true);
+    }
+    let _second = player.frame();
+    let mut trial = MakeDebugger {
+        player: Some(player),
+    };
+    try_call(alloc, &mut trial, out)
+}

@@ -1,0 +1,61 @@
+//! Trials of the libraries under hostile use: calls that take memory while it is refused, damaged code files, and a
+//! day of frames that a listener hears.
+//!
+//! `hostile/` has the scripts that run it. `trials call NAME` makes one call twice over the script on standard input,
+//! the first time between the lines `ready` and `called`; `trials damaged` tries each damaged version of the code file
+//! on standard input; `trials day` plays the code file on standard input for a day.
+#![tactic(auto)]
+
+mod calls;
+mod damaged;
+mod day;
+mod trial;
+
+use plan_code::{Code, decode};
+use std::alloc::Global;
+use std::io::{self, Error, ErrorKind, Read, Write};
+use std::process::ExitCode;
+use std::{env, str};
+
+fn main(rt: HostRuntime) -> io::Result<ExitCode> {
+    let words: Vec<String> = env::args(&rt)?.collect(rt.alloc())?;
+    let mut input = Vec::new(rt.alloc());
+    rt.reader().read_to_end(&mut input)?;
+    let mut out = io::writer(&rt);
+    let kind = words.get(1).map(String::as_str);
+    let name = words.get(2).map(String::as_str);
+    let is_done = match (kind, name) {
+        (Some("call"), Some(name)) => calls::try_named(
+            rt.alloc(),
+            name,
+            text_of(&input)?,
+            &mut out,
+        )?,
+        (Some("damaged"), None) => {
+            damaged::try_damaged(rt.alloc(), &mut input, &mut out)?;
+            true
+        }
+        (Some("day"), None) => day::try_day(rt.alloc(), &input, &mut out)?,
+        _ => false,
+    };
+    if is_done {
+        return Ok(ExitCode::from(0));
+    }
+    writeln!(out, "no such trial")?;
+    Ok(ExitCode::from(1))
+}
+
+/// An input that a trial can't begin with.
+fn unfit() -> Error {
+    Error::from(ErrorKind::InvalidData)
+}
+
+/// The text that an input is.
+fn text_of(input: &[u8]) -> io::Result<&str> {
+    str::from_utf8(input).map_err(|_| unfit())
+}
+
+/// The code in a file.
+fn code_in(alloc: Global, file: &[u8]) -> io::Result<Code> {
+    decode(alloc, file).map_err(|_| unfit())
+}

@@ -1,0 +1,110 @@
+"""What the scripts of hostile use share: the built programs, how they are run, and what passed and failed."""
+import pathlib
+import resource
+import subprocess
+import sys
+
+TOP = pathlib.Path(__file__).resolve().parent.parent
+EXAMPLES = TOP / "docs" / "examples"
+SECONDS = 7200
+
+
+class Tally:
+    """Counts what held and what did not, and says what did not."""
+
+    def __init__(self):
+        self.passed = 0
+        self.failed = 0
+
+    def hold(self, holds, what):
+        """Counts one fact; `what` says it where it does not hold."""
+        if holds:
+            self.passed += 1
+        else:
+            self.failed += 1
+            print(f"failed: {what}", flush=True)
+
+    def same(self, what, wanted, found):
+        """Counts that two values are the same."""
+        self.hold(wanted == found, f"{what}\n  wanted: {shown(wanted)}\n  found:  {shown(found)}")
+
+    def end(self):
+        """Prints the count as the last line, and ends with 0 where nothing failed."""
+        print(f"{self.passed} passed, {self.failed} failed")
+        sys.exit(1 if self.failed else 0)
+
+
+def shown(value):
+    """A value as a short text."""
+    text = repr(value)
+    return text if len(text) <= 300 else text[:200] + " .. " + text[-80:]
+
+
+def dabplan():
+    """The path of the program, which is built where it is missing."""
+    subprocess.run([TOP / "dabplan", "--version"], check=True, stdout=subprocess.DEVNULL)
+    return TOP / "crates" / "dabplan" / "out" / "dabplan"
+
+
+def is_stale(program):
+    """Whether a program is missing, or older than a source of this repository."""
+    if not program.exists():
+        return True
+    sources = [TOP / "crates.txt", *(path for crate in (TOP / "crates").iterdir() for folder in ("src", "specs")
+                                     for path in (crate / folder).rglob("*"))]
+    return any(path.stat().st_mtime > program.stat().st_mtime for path in sources if path.is_file())
+
+
+def trials():
+    """The path of the program of trials, which is built where it is missing or older than its sources."""
+    program = TOP / "crates" / "trials" / "out" / "trials"
+    if not is_stale(program):
+        return program
+    made = subprocess.run(["rt", "run"], cwd=TOP / "crates" / "trials", stdin=subprocess.DEVNULL,
+                          capture_output=True, text=True, errors="replace")
+    if not made.stdout.endswith("no such trial\n"):
+        sys.exit(f"trials: not built\n{made.stdout[-2000:]}\n{made.stderr[-4000:]}")
+    program.touch()
+    return program
+
+
+def refusing(folder):
+    """The path of the library that refuses requests for memory, made in a folder by the compiler of the kit."""
+    kit = pathlib.Path(subprocess.run(["rt", "doc"], check=True, capture_output=True, text=True).stdout.strip()).parent
+    library = pathlib.Path(folder, "refuse.so")
+    subprocess.run([kit / "toolchain" / "bin" / "clang", "-shared", "-fPIC", "-O1", "-nostdlib", "-fuse-ld=lld", "-o",
+                    library, TOP / "hostile" / "refuse.c"], check=True)
+    return library
+
+
+class Ended:
+    """How a run ended: its exit status, negative for a signal, and what it printed."""
+
+    def __init__(self, status, printed, messages):
+        self.status = status
+        self.printed = printed
+        self.messages = messages
+
+    def lines(self):
+        """The two facts of an ordinary run that are compared."""
+        return self.status, self.printed
+
+
+def run(words, folder, stdin=b"", stack=None, memory=None, environment=None, pass_fds=()):
+    """Runs a program in a folder, with at most so many KB of stack and of memory where they are given."""
+    def limit():
+        if stack is not None:
+            resource.setrlimit(resource.RLIMIT_STACK, (stack * 1024, stack * 1024))
+        if memory is not None:
+            resource.setrlimit(resource.RLIMIT_AS, (memory * 1024, memory * 1024))
+        resource.setrlimit(resource.RLIMIT_CORE, (0, 0))
+
+    done = subprocess.run([str(word) for word in words], cwd=folder, input=stdin, capture_output=True,
+                          timeout=SECONDS, preexec_fn=limit, env=environment, pass_fds=pass_fds)
+    return Ended(done.returncode, done.stdout, done.stderr)
+
+
+def write(folder, name, content):
+    """Writes a file into a folder, and answers its name."""
+    pathlib.Path(folder, name).write_bytes(content if isinstance(content, bytes) else content.encode())
+    return name

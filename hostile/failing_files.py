@@ -1,0 +1,132 @@
+#!/usr/bin/env python3
+"""Files and outputs of the system that fail, as the program meets them.
+
+Output that takes nothing (`/dev/full`), that is closed, or that ends after so many bytes; files that can't be read or
+made; files that end the disk; no memory for the address space. The last line is 'N passed, M failed'.
+"""
+import pathlib
+import resource
+import subprocess
+import tempfile
+
+import common
+
+CODE = common.EXAMPLES / "contact_lowers_a_rate.code"
+SCRIPT = common.EXAMPLES / "contact_rate.plan"
+RECORD = common.EXAMPLES / "one_programme.rec"
+FRAME = ["--ensemble", "E1C5", "--count", "0"]
+
+
+def try_outputs(tally, program, folder):
+    """`/dev/full` as the file that is made, and as standard output; standard output that is closed."""
+    common.write(folder, "a.events", "frames 5000")
+    common.write(folder, "a.commands", "run 1 " * 5000)
+    common.write(folder, "a.fib", b"")
+    played = common.run([program, "play", CODE, "a.events", "/dev/full"], folder)
+    tally.same("play into /dev/full", (1, b"write failed after 0 frames and 0 bytes\n"), played.lines())
+    compiled = common.run([program, "compile", SCRIPT, "/dev/full"], folder)
+    tally.same("compile into /dev/full", (1, b"cannot write /dev/full\n"), compiled.lines())
+    for words in (["frame", RECORD, *FRAME], ["listen", "a.fib"], ["verify", CODE], ["compile", SCRIPT, "b.code"],
+                  ["play", CODE, "a.events", "b.fib"], ["debug", CODE, "a.commands"], ["--help"], ["nothing"]):
+        for redirection in (">/dev/full", ">&-"):
+            line = " ".join(f"'{word}'" for word in [program, *words]) + " " + redirection
+            ended = common.run(["bash", "-c", line], folder)
+            tally.same(f"{words[0]} {redirection}", (1, b"", b""), (*ended.lines(), ended.messages))
+
+
+def try_pipes(tally, program, folder):
+    """A reader that goes away after so many bytes: nothing more is printed, and the status is 1."""
+    for most in (0, 1, 2047, 2048, 2049, 100_000):
+        script = f"set -o pipefail; '{program}' debug '{CODE}' a.commands | head -c {most} >b.text; echo ${{PIPESTATUS[0]}}"
+        ended = common.run(["bash", "-c", f"trap '' PIPE; {script}"], folder)
+        tally.same(f"debug into a reader of {most} bytes: status", (0, b"1\n"), ended.lines())
+        tally.same(f"debug into a reader of {most} bytes", most, pathlib.Path(folder, "b.text").stat().st_size)
+
+
+def try_small_disk(tally, program, folder):
+    """A file that takes so many bytes and no more: the numbers are those of what it took."""
+    common.write(folder, "a.events", "frames 3000")
+
+    def run(most):
+        def limit():
+            resource.setrlimit(resource.RLIMIT_FSIZE, (most, most))
+        return subprocess.run(["bash", "-c", f"trap '' XFSZ; exec '{program}' play '{CODE}' a.events b.fib"], cwd=folder,
+                              capture_output=True, preexec_fn=limit)
+
+    for most in (0, 1, 95, 96, 97, 98_303, 98_304, 98_305, 196_608, 287_999):
+        pathlib.Path(folder, "b.fib").unlink(missing_ok=True)
+        ended = run(most)
+        line = f"write failed after {most // 96} frames and {most % 96} bytes\n".encode()
+        tally.same(f"play into {most} bytes of disk", (1, line), (ended.returncode, ended.stdout))
+        tally.same(f"play into {most} bytes of disk: its size", most, pathlib.Path(folder, "b.fib").stat().st_size)
+    ended = run(288_000)
+    tally.same("play into 288,000 bytes of disk", (0, b"played 3000 frames\n"), (ended.returncode, ended.stdout))
+
+
+def try_files(tally, program, folder):
+    """Files that can't be read or made, and what is left of those that would be made."""
+    common.write(folder, "latin.text", b"frames 1 # caf\xe9")
+    common.write(folder, "kept", "kept")
+    absent = [
+        (["frame", "absent", *FRAME], "cannot read absent"), (["listen", "absent"], "cannot read absent"),
+        (["verify", "absent"], "cannot read absent"), (["compile", "absent", "kept"], "cannot read absent"),
+        (["play", "absent", "a.events", "kept"], "cannot read absent"),
+        (["play", CODE, "absent", "kept"], "cannot read absent"),
+        (["debug", "absent", "absent"], "cannot read absent"), (["debug", CODE, "absent"], "cannot read absent"),
+        (["compile", "latin.text", "kept"], "cannot read latin.text"),
+        (["play", CODE, "latin.text", "kept"], "cannot read latin.text"),
+        (["debug", CODE, "latin.text"], "cannot read latin.text"),
+        (["listen", "."], "cannot read ."), (["verify", "."], "cannot read ."), (["listen", ""], "cannot read "),
+        (["play", CODE, "a.events", "."], "cannot write ."), (["compile", SCRIPT, "."], "cannot write ."),
+        (["play", CODE, "a.events", "absent/b.fib"], "cannot write absent/b.fib"),
+        (["compile", SCRIPT, "absent/b.code"], "cannot write absent/b.code"),
+        (["play", "a.events", "a.events", "b.fib"], "code: Magic"),
+        (["listen", "/proc/self/mem"], "cannot read /proc/self/mem"),
+    ]
+    common.write(folder, "a.events", "frames 3")
+    for words, line in absent:
+        ended = common.run([program, *words], folder)
+        tally.same(" ".join(map(str, words)), (1, line.encode() + b"\n"), ended.lines())
+    tally.same("what is kept", b"kept", pathlib.Path(folder, "kept").read_bytes())
+    tally.hold(not pathlib.Path(folder, "absent").exists(), "nothing absent is made")
+
+
+def try_input(tally, program, folder):
+    """Standard input that is closed, or that is a folder, for `frame -`."""
+    for redirection in ("<&-", "<."):
+        ended = common.run(["bash", "-c", f"'{program}' frame - {' '.join(FRAME)} {redirection}"], folder)
+        tally.same(f"frame - {redirection}", (1, b"cannot read -\n"), ended.lines())
+    ended = common.run(["bash", "-c", f"cat '{RECORD}' | '{program}' frame - {' '.join(FRAME)}"], folder)
+    tally.same("frame - from a pipe", 0, ended.status)
+
+
+def try_address_space(tally, program, folder):
+    """Less and less address space: the answer, or `no memory`, and nothing between."""
+    common.write(folder, "big.fib", bytes(4_000_000))
+    common.write(folder, "big.events", "frames 1 " * 200_000)
+    whole = {}
+    answered = refused = 0
+    for words in (["listen", "big.fib"], ["play", CODE, "big.events", "/dev/null"], ["compile", SCRIPT, "b.code"]):
+        whole[words[0]] = common.run([program, *words], folder).lines()
+        for memory in list(range(3000, 12_000, 500)) + [16_000, 32_000, 64_000]:
+            ended = common.run([program, *words], folder, memory=memory)
+            if ended.status == 127 or (ended.status < 0 and not ended.printed):
+                continue  # the system could not load the program
+            answered += ended.lines() == whole[words[0]]
+            refused += ended.lines() == (1, b"no memory\n")
+            tally.hold(ended.lines() in (whole[words[0]], (1, b"no memory\n")), f"{words[0]} in {memory} KB: {ended.lines()}")
+    tally.hold(answered > 0 and refused > 0, f"address space: {answered} answers, {refused} times no memory")
+
+
+def main():
+    """Runs all of it."""
+    tally = common.Tally()
+    program = common.dabplan()
+    with tempfile.TemporaryDirectory() as folder:
+        for part in (try_outputs, try_pipes, try_small_disk, try_files, try_input, try_address_space):
+            part(tally, program, folder)
+    tally.end()
+
+
+if __name__ == "__main__":
+    main()

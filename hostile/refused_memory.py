@@ -1,0 +1,174 @@
+#!/usr/bin/env python3
+"""Each request for memory is refused in turn: in every library call that takes memory, and in every command.
+
+A run refuses the request of one number, from 1 on, until a run makes so few that none was refused. Each is made twice:
+once with that request alone refused, and once with it and all later ones. A call has to answer want of memory by its
+own name, with nothing lost, and the same call with memory then gives its answer; `run` has written nothing, and
+`Debugger::new` hands the player back. A command prints `no memory` alone, ends with 1 and leaves nothing in the file
+that it makes; or it does without what was refused, where that is one request alone, and ends as it does with memory.
+The last line is 'N passed, M failed', where each refused run is one, and each whole run one more.
+"""
+import os
+import pathlib
+import re
+import tempfile
+
+import common
+
+SCRIPT = common.EXAMPLES / "contact_rate.plan"
+CODE = common.EXAMPLES / "contact_lowers_a_rate.code"
+EVENTS = "frames 1 contact 3 closed contact 3 open contact 3 closed frames 39 contact 3 open frames 30"
+COMMANDS = "break 9 run 100 contact 3 closed run 2 next clear show"
+RECORD = "0101000100000003008000C22101003F01"
+PRINTED = """\
+ensemble E1C5
+period 4 notice 24 budget 20
+sub 1 at 0 eep 3-A 128
+service C221
+audio 63 sub 1 in C221
+begin
+forever {
+  wait contact 3 closed
+  rate sub 1 96
+  commit in 24
+  join
+  wait contact 3 open
+  rate sub 1 128
+  commit in 24
+  join
+}
+"""
+
+
+def remove(folder, names):
+    """Removes the files of these names."""
+    for name in names:
+        pathlib.Path(folder, name).unlink(missing_ok=True)
+
+
+def requests(library, words, folder, goes_on, between, stdin=b"", made=()):
+    """Runs a program with its first request refused, then its second, and so on, each time without the files that it
+    makes; yields each number, how it ended, and whether a request was refused. Ends after the first run in which none
+    was."""
+    number, is_refused = 0, True
+    while is_refused:
+        number += 1
+        remove(folder, made)
+        environment = dict(os.environ, LD_PRELOAD=str(library), REFUSE=str(number))
+        if goes_on:
+            environment["REFUSE_GOES_ON"] = "1"
+        if between:
+            environment["REFUSE_BETWEEN"] = "1"
+        with tempfile.TemporaryFile() as told:
+            environment["REFUSE_TELLS"] = str(told.fileno())
+            ended = common.run(words, folder, stdin, environment=environment, pass_fds=(told.fileno(),))
+            is_refused = os.fstat(told.fileno()).st_size > 0
+        yield number, ended, is_refused
+
+
+def tokens(text):
+    """Where the tokens of a script begin and end, as the trial prints them."""
+    bare = re.sub(r"#[^\n]*", lambda comment: " " * len(comment[0]), text)
+    return "".join(f"{found.start()}-{found.end()} " for found in re.finditer(r"[{}]|[A-Za-z0-9_:-]+", bare)) + "\n"
+
+
+def answers(program, folder):
+    """What each call answers: from the examples and the words above, and of `run` what `play` writes."""
+    code = CODE.read_bytes().hex().upper() + "\n"
+    common.write(folder, "a.events", EVENTS)
+    played = common.run([program, "play", CODE, "a.events", "a.fib"], folder)
+    frames = pathlib.Path(folder, "a.fib").read_bytes()
+    assert played.lines() == (0, b"played 70 frames\n") and len(frames) == 6720
+    return {
+        "write_config": RECORD + "\n", "decode": code, "encode": code, "lex": tokens(SCRIPT.read_text()),
+        "parse": PRINTED, "print": PRINTED, "compile": code, "read_events": EVENTS + " \n",
+        "read_commands": COMMANDS + " \n", "run": "70\n" + frames.hex().upper() + "\n",
+        "debugger": "frames 0 steps 3 pc 4 line 12 count 2\nframes 30 steps 0 pc 5 line 13 count 32\n",
+    }
+
+
+def try_calls(tally, library, program, trials, folder):
+    """Refuses each request of each call."""
+    for name, answer in answers(program, folder).items():
+        for goes_on in (False, True):
+            refused = 0
+            for number, ended, is_refused in requests(library, [trials, "call", name], folder, goes_on, True,
+                                                      SCRIPT.read_bytes()):
+                outcome = "no memory" if is_refused else "answered"
+                refused += is_refused
+                tally.same(f"{name}, request {number} refused: {is_refused}",
+                           (0, f"ready\ncalled\n{outcome}\n{answer}".encode()), ended.lines())
+            print(f"{name}: {refused} requests refused{', each with all later ones' if goes_on else ''}", flush=True)
+            tally.hold(refused > 0, f"{name} makes a request")
+
+
+def commands():
+    """Each command, with what it needs, and the files that it would make."""
+    return [
+        (["frame", common.EXAMPLES / "one_programme.rec", "--ensemble", "E1C5", "--count", "0"], []),
+        (["frame", "-", "--ensemble", "E1C5", "--count", "0", "--page", "1"], []),
+        (["listen", "a.fib"], []),
+        (["compile", SCRIPT, "made.code"], ["made.code"]),
+        (["compile", "wrong.plan", "made.code"], ["made.code"]),
+        (["verify", CODE], []),
+        (["verify", "wrong.code"], []),
+        (["play", CODE, "a.events", "made.fib"], ["made.fib"]),
+        (["play", CODE, "wrong.events", "made.fib"], ["made.fib"]),
+        (["debug", CODE, "a.commands"], []),
+        (["--help"], []),
+        (["help", "play"], []),
+        (["--version"], []),
+        (["frame", "x"], []),
+        (["listen"], []),
+        ([], []),
+    ]
+
+
+def contents(folder, names):
+    """What the files of these names hold; nothing where they are not there."""
+    return {name: pathlib.Path(folder, name).read_bytes() if pathlib.Path(folder, name).exists() else b""
+            for name in names}
+
+
+def try_commands(tally, library, program, folder):
+    """Refuses each request of each command."""
+    record = (common.EXAMPLES / "one_programme.rec").read_bytes()
+    common.write(folder, "a.commands", COMMANDS)
+    common.write(folder, "wrong.plan", SCRIPT.read_text().replace("wait contact 3 open", "join"))
+    common.write(folder, "wrong.code", CODE.read_bytes()[:-1])
+    common.write(folder, "wrong.events", EVENTS + " frames 0")
+    for words, made in commands():
+        shown = "dabplan " + " ".join(str(word).rsplit("/", 1)[-1] for word in words)
+        remove(folder, made)
+        whole = common.run([program, *words], folder, record).lines()
+        files = contents(folder, made)
+        for goes_on in (False, True):
+            refused = without = 0
+            for number, ended, is_refused in requests(library, [program, *words], folder, goes_on, False, record, made):
+                refused += is_refused
+                found = (*ended.lines(), contents(folder, made))
+                is_whole = found == (*whole, files)
+                without += is_refused and is_whole
+                if is_refused and not (is_whole and not goes_on):
+                    is_silent = found[:2] == (1, b"no memory\n") and not any(found[2].values())
+                    tally.hold(is_silent, f"{shown}, request {number} refused: {found}")
+                else:
+                    tally.hold(is_whole, f"{shown}, request {number}: {found}")
+            print(f"{shown}: {refused} requests refused, {'each with all later ones' if goes_on else 'each alone'}, "
+                  f"{without} of them done without", flush=True)
+            tally.hold(refused > 0, f"{shown} makes a request")
+
+
+def main():
+    """Runs all of it."""
+    tally = common.Tally()
+    program, trials = common.dabplan(), common.trials()
+    with tempfile.TemporaryDirectory() as folder:
+        library = common.refusing(folder)
+        try_calls(tally, library, program, trials, folder)
+        try_commands(tally, library, program, folder)
+    tally.end()
+
+
+if __name__ == "__main__":
+    main()
