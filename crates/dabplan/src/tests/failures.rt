@@ -57,45 +57,78 @@ fn files_of<'a>(record: &'a [u8], code: &'a [u8], fibs: &'a [u8]) -> [Named<'a>;
     ]
 }
 
+/// How a command ended over files: its exit status, what it printed, what it made, and how many files it called for.
+#[derive(Drop)]
+struct Outcome {
+    status: u8,
+    printed: String,
+    made: Vec<u8>,
+    calls: u32,
+}
+
+/// How a command ends over these files, of which the call of the number that is named fails as told there.
+fn ended_over<'f>(
+    alloc: Global,
+    line: &str,
+    files: &'f [Named<'f>],
+    failing: Option<(u32, FileFault)>,
+) -> Result<Outcome, Fail> {
+    let made = RefCell::new(Vec::new(alloc));
+    let mut shelf = Shelf::new(files, &made, 10_000, failing);
+    let (status, printed) = run(alloc, line, &mut shelf)?;
+    let calls = shelf.calls;
+    Ok(Outcome {
+        status,
+        printed,
+        made: made.into_inner(),
+        calls,
+    })
+}
+
 /// What `play` makes of these files.
 fn fibs_of(alloc: Global, record: &[u8], code: &[u8]) -> Result<Vec<u8>, Fail> {
     let files = files_of(record, code, &[]);
-    let made = RefCell::new(Vec::new(alloc));
-    let mut shelf = Shelf::new(&files, &made, 10_000);
-    let (status, _) = run(alloc, "play x.code x.events x.out", &mut shelf)?;
-    if status != 0 {
+    let played = ended_over(alloc, "play x.code x.events x.out", &files, None)?;
+    if played.status != 0 {
         return Err("frames to listen to".into());
     }
-    Ok(made.into_inner())
+    Ok(played.made)
+}
+
+/// What a command prints whose call of this number fails as `fault`: the line of that call, or want of memory. `None`
+/// where there is no such call.
+fn refusal_at(
+    refusals: &'static [&'static str],
+    call: u32,
+    fault: FileFault,
+) -> Option<&'static str> {
+    let refusal: &'static str = refusals.get(call.saturating_sub(1) as usize)?;
+    Some(match fault {
+        FileFault::Failed => refusal,
+        FileFault::Memory => "no memory\n",
+    })
 }
 
 /// The command whose call of this number fails prints the line of that, calls no file after it and makes none.
-fn fails_at(
+fn fails_at<'f>(
     rt: &impl Abort,
     alloc: Global,
-    files: &[Named<'_>],
+    files: &'f [Named<'f>],
     row: Row,
     call: u32,
     fault: FileFault,
 ) -> Result<(), Fail> {
     let (line, refusals) = row;
-    let made = RefCell::new(Vec::new(alloc));
-    let mut shelf = Shelf::new(files, &made, 10_000);
-    shelf.fail_at(call, fault);
-    let (status, printed) = run(alloc, line, &mut shelf)?;
-    let refusal = refusals.get(call.saturating_sub(1) as usize);
-    match (refusal, fault) {
-        (None, _) => {
-            assert_eq!(rt; status, 0, "{line}");
-            assert_eq!(rt; shelf.calls as usize, refusals.len());
-            return Ok(());
-        }
-        (Some(refusal), FileFault::Failed) => assert_eq!(rt; printed.as_str(), *refusal),
-        (Some(_), FileFault::Memory) => assert_eq!(rt; printed.as_str(), "no memory\n"),
-    }
-    assert_eq!(rt; status, 1);
-    assert_eq!(rt; shelf.calls, call);
-    assert_eq!(rt; made.into_inner().len(), 0);
+    let ended = ended_over(alloc, line, files, Some((call, fault)))?;
+    let Some(wanted) = refusal_at(refusals, call, fault) else {
+        assert_eq!(rt; ended.status, 0, "{line}");
+        assert_eq!(rt; ended.calls as usize, refusals.len());
+        return Ok(());
+    };
+    assert!(rt; ended.printed.as_str() == wanted, "{line}");
+    assert_eq!(rt; ended.status, 1);
+    assert_eq!(rt; ended.calls, call);
+    assert_eq!(rt; ended.made.len(), 0);
     Ok(())
 }
 
@@ -117,16 +150,16 @@ fn files_that_fail_at_each_call(rt: HostRuntime) -> Result<(), Fail> {
 
 /// The exit status of a command whose output takes eight bytes at a call for so many calls, and fails as `fault` then;
 /// and that output.
-fn told(
+fn told<'f>(
     alloc: Global,
     line: &str,
-    files: &[Named<'_>],
+    files: &'f [Named<'f>],
     calls: u32,
     fault: Option<ErrorKind>,
 ) -> Result<(u8, Failing), Fail> {
     let words = words_of(alloc, line)?;
     let made = RefCell::new(Vec::new(alloc));
-    let mut shelf = Shelf::new(files, &made, 10_000);
+    let mut shelf = Shelf::new(files, &made, 10_000, None);
     let mut out = Failing {
         takes: 8,
         calls,
@@ -139,7 +172,12 @@ fn told(
 }
 
 /// After the first write that fails there is no other, and the exit status is 1.
-fn stops(rt: &impl Abort, alloc: Global, line: &str, files: &[Named<'_>]) -> Result<(), Fail> {
+fn stops<'f>(
+    rt: &impl Abort,
+    alloc: Global,
+    line: &str,
+    files: &'f [Named<'f>],
+) -> Result<(), Fail> {
     let (status, whole) = told(alloc, line, files, u32::MAX, None)?;
     assert_eq!(rt; status, 0, "{line}");
     assert!(rt; whole.taken > 0, "{line}");
@@ -147,7 +185,7 @@ fn stops(rt: &impl Abort, alloc: Global, line: &str, files: &[Named<'_>]) -> Res
         for fault in [Some(ErrorKind::Other), Some(ErrorKind::Interrupted), None] {
             let (status, out) = told(alloc, line, files, calls, fault)?;
             assert_eq!(rt; status, 1, "{line} after {calls}");
-            assert_eq!(rt; out.taken, 8 * calls as usize);
+            assert_eq!(rt; out.taken, (calls as usize).saturating_mul(8));
             assert_eq!(rt; out.tried, calls.saturating_add(1));
         }
     }

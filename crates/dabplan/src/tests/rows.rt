@@ -44,7 +44,7 @@ fn led(
 ) -> Result<(u8, String, Vec<u8>), Fail> {
     let files: [Named; 2] = [("x.code", code), ("x.text", text.as_bytes())];
     let made = RefCell::new(Vec::new(alloc));
-    let mut shelf = Shelf::new(&files, &made, room);
+    let mut shelf = Shelf::new(&files, &made, room, None);
     let (status, printed) = run(alloc, line, &mut shelf)?;
     Ok((status, printed, made.into_inner()))
 }

@@ -10,29 +10,29 @@ pub type Named<'a> = (&'a str, &'a [u8]);
 
 /// These files. What is made is kept in `made`, which takes so many bytes in all.
 #[derive(Drop)]
-pub struct Shelf<'a> {
-    files: &'a [Named<'a>],
-    made: &'a RefCell<Vec<u8>>,
+pub struct Shelf<'f, 'm> {
+    files: &'f [Named<'f>],
+    made: &'m RefCell<Vec<u8>>,
     room: usize,
     failing: Option<(u32, FileFault)>,
     pub calls: u32,
 }
 
-impl<'a> Shelf<'a> {
-    /// These files, with room for what is made; no call fails.
-    pub fn new(files: &'a [Named<'a>], made: &'a RefCell<Vec<u8>>, room: usize) -> Self {
+impl<'f, 'm> Shelf<'f, 'm> {
+    /// These files, with room for what is made; the call of the number that is named, from 1 on, fails as told there.
+    pub fn new(
+        files: &'f [Named<'f>],
+        made: &'m RefCell<Vec<u8>>,
+        room: usize,
+        failing: Option<(u32, FileFault)>,
+    ) -> Self {
         Shelf {
             files,
             made,
             room,
-            failing: None,
+            failing,
             calls: 0,
         }
-    }
-
-    /// The call of this number, from 1 on, fails so.
-    pub fn fail_at(&mut self, call: u32, fault: FileFault) {
-        self.failing = Some((call, fault));
     }
 
     fn call(&mut self) -> Result<(), FileFault> {
@@ -44,8 +44,8 @@ impl<'a> Shelf<'a> {
     }
 }
 
-impl<'a> Files for Shelf<'a> {
-    type Out = Kept<'a>;
+impl<'m> Files for Shelf<'_, 'm> {
+    type Out = Kept<'m>;
 
     fn read(&mut self, alloc: Global, path: &str) -> Result<Vec<u8>, FileFault> {
         self.call()?;
@@ -61,7 +61,7 @@ impl<'a> Files for Shelf<'a> {
         self.read(alloc, "-")
     }
 
-    fn create(&mut self, _path: &str) -> Result<Kept<'a>, FileFault> {
+    fn create(&mut self, _path: &str) -> Result<Kept<'m>, FileFault> {
         self.call()?;
         Ok(Kept {
             made: self.made,
