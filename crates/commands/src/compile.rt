@@ -119,7 +119,8 @@ pub fn compile_text(alloc: Global, text: &str) -> Result<Compiled, ScriptRefusal
 
 /// Prints the numbers of a code's parts.
 fn print_counts<W: Write>(compiled: &Compiled, out: &mut W) -> io::Result<()>
-    ensures { OnOk result (Appends (W.contents out.old) (W.contents out.new) (counts_line compiled.now)) }
+    ensures { OnOk result (Appends (W.contents out.old) (W.contents out.new)
+        (counts_line compiled.now)) }
 {
     let instructions = compiled.instructions;
     let labels = compiled.labels;

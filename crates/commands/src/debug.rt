@@ -124,7 +124,8 @@ fn lead<W: Write>(
     commands: &[Command],
     out: &mut W,
 ) -> io::Result<()>
-    ensures { OnOk result ((lines : List ℕ) × Transcript debugger.old commands.now lines debugger.new
+    ensures { OnOk result ((lines : List ℕ)
+        × Transcript debugger.old commands.now lines debugger.new
         × Appends (W.contents out.old) (W.contents out.new) lines) }
 {
     for command in commands {
@@ -137,7 +138,8 @@ fn lead<W: Write>(
 
 /// Prints the line of a report, and `break` where the break line was met.
 fn print_report<W: Write>(report: &Report, out: &mut W) -> io::Result<()>
-    ensures { OnOk result (Appends (W.contents out.old) (W.contents out.new) (report_lines report.now)) }
+    ensures { OnOk result (Appends (W.contents out.old) (W.contents out.new)
+        (report_lines report.now)) }
 {
     print_place(report, out)?;
     print_swap(report, out)?;
@@ -146,7 +148,8 @@ fn print_report<W: Write>(report: &Report, out: &mut W) -> io::Result<()>
 
 /// What was played, and where the player stands.
 fn print_place<W: Write>(report: &Report, out: &mut W) -> io::Result<()>
-    ensures { OnOk result (Appends (W.contents out.old) (W.contents out.new) (place_text report.now)) }
+    ensures { OnOk result (Appends (W.contents out.old) (W.contents out.new)
+        (place_text report.now)) }
 {
     let frames = report.frames;
     let steps = report.steps;
@@ -157,7 +160,8 @@ fn print_place<W: Write>(report: &Report, out: &mut W) -> io::Result<()>
 
 /// The count, and the frames until the swap, to the end of the line.
 fn print_swap<W: Write>(report: &Report, out: &mut W) -> io::Result<()>
-    ensures { OnOk result (Appends (W.contents out.old) (W.contents out.new) (swap_text report.now)) }
+    ensures { OnOk result (Appends (W.contents out.old) (W.contents out.new)
+        (swap_text report.now)) }
 {
     let count = report.count;
     match report.remaining {
@@ -210,7 +214,8 @@ fn print_announcements<W: Write>(debugger: &Debugger<'_, Tables>, out: &mut W) -
 
 /// An announcement.
 fn print_announcement<W: Write>(announcement: Announcement, out: &mut W) -> io::Result<()>
-    ensures { OnOk result (Appends (W.contents out.old) (W.contents out.new) (announcement_line announcement)) }
+    ensures { OnOk result (Appends (W.contents out.old) (W.contents out.new)
+        (announcement_line announcement)) }
 {
     let count = announcement.count;
     let occurrence = announcement.occurrence;

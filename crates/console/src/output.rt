@@ -41,7 +41,8 @@ impl<W: Write> Write for Output<'_, W> {
 
     fn write(&mut self, bytes: &[u8]) -> io::Result<usize>
         ensures bound { WritesAtMost result bytes.now }
-        ensures bytes { WriteAppends (printed W.contents self.old) (printed W.contents self.new) result bytes.now }
+        ensures bytes { WriteAppends (printed W.contents self.old) (printed W.contents self.new)
+            result bytes.now }
         ensures some { IfOk result (λ count. 0 < length bytes.now → 0 < count) }
     {
         if self.held.is_full() {
@@ -56,7 +57,8 @@ impl<W: Write> Write for Output<'_, W> {
 
     fn flush(&mut self) -> io::Result<()>
         ensures bytes { Keeps (printed W.contents self.old) (printed W.contents self.new) }
-        ensures passed { OnOk result (Keeps (printed W.contents self.old) (W.contents (writer_of self.new))) }
+        ensures passed { OnOk result (Keeps (printed W.contents self.old)
+            (W.contents (writer_of self.new))) }
         ensures emptied { OnOk result (length self.new.held.items ≡ 0) }
     {
         if self.has_failed {

@@ -16,7 +16,8 @@ use std::io::{self, Write};
 
 /// Prints the lines of an entry. Ensemble information has none.
 pub fn print_entry<W: Write>(entry: &Entry, out: &mut W) -> io::Result<()>
-    ensures { OnOk result (Appends (W.contents out.old) (W.contents out.new) (entry_lines entry.now)) }
+    ensures { OnOk result (Appends (W.contents out.old) (W.contents out.new)
+        (entry_lines entry.now)) }
 {
     match entry {
         Entry::Ensemble(_) => Ok(()),
@@ -51,7 +52,8 @@ fn print_sub<W: Write>(sub: &SubEntry, out: &mut W) -> io::Result<()>
 
 /// A sub-channel in the short form.
 fn print_short<W: Write>(short: &ShortEntry, out: &mut W) -> io::Result<()>
-    ensures { OnOk result (Appends (W.contents out.old) (W.contents out.new) (short_line short.now)) }
+    ensures { OnOk result (Appends (W.contents out.old) (W.contents out.new)
+        (short_line short.now)) }
 {
     let id = short.id.get();
     let start = short.start.get();
@@ -62,7 +64,8 @@ fn print_short<W: Write>(short: &ShortEntry, out: &mut W) -> io::Result<()>
 
 /// A service, and a line for each of its components in order.
 fn print_service<W: Write>(service: &ServiceEntry, out: &mut W) -> io::Result<()>
-    ensures { OnOk result (Appends (W.contents out.old) (W.contents out.new) (service_lines service.now)) }
+    ensures { OnOk result (Appends (W.contents out.old) (W.contents out.new)
+        (service_lines service.now)) }
 {
     out.write_all(b"service ")?;
     print_sid(service.sid, out)?;
@@ -88,7 +91,8 @@ fn print_sid<W: Write>(sid: Sid, out: &mut W) -> io::Result<()>
 
 /// A component.
 fn print_component<W: Write>(component: ComponentEntry, out: &mut W) -> io::Result<()>
-    ensures { OnOk result (Appends (W.contents out.old) (W.contents out.new) (component_line component)) }
+    ensures { OnOk result (Appends (W.contents out.old) (W.contents out.new)
+        (component_line component)) }
 {
     match component {
         ComponentEntry::Sound {
@@ -120,7 +124,9 @@ fn print_stream<W: Write>(
     primary: bool,
     out: &mut W,
 ) -> io::Result<()>
-    ensures { OnOk result (Appends (W.contents out.old) (W.contents out.new) (codes "  " ++ kind.now ++ codes " " ++ decimal ty ++ codes " sub " ++ decimal sub ++ codes " " ++ place_word primary ++ codes "\n")) }
+    ensures { OnOk result (Appends (W.contents out.old) (W.contents out.new)
+        (codes "  " ++ kind.now ++ codes " " ++ decimal ty ++ codes " sub " ++ decimal sub
+        ++ codes " " ++ place_word primary ++ codes "\n")) }
 {
     let ty = ty.get();
     let sub = sub.get();
@@ -130,7 +136,8 @@ fn print_stream<W: Write>(
 
 /// A component of TMId 10: its 16 bits.
 fn print_other<W: Write>(whole: u16, out: &mut W) -> io::Result<()>
-    ensures { OnOk result (Appends (W.contents out.old) (W.contents out.new) (codes "  other " ++ digits_of_word whole ++ codes "\n")) }
+    ensures { OnOk result (Appends (W.contents out.old) (W.contents out.new)
+        (codes "  other " ++ digits_of_word whole ++ codes "\n")) }
 {
     out.write_all(b"  other ")?;
     out.write_all(&digits_of_word(whole))?;
@@ -153,7 +160,8 @@ fn groups_word(dg: bool) -> &'static str
 
 /// A packet component.
 fn print_packet<W: Write>(packet: &PacketEntry, out: &mut W) -> io::Result<()>
-    ensures { OnOk result (Appends (W.contents out.old) (W.contents out.new) (packet_line packet.now)) }
+    ensures { OnOk result (Appends (W.contents out.old) (W.contents out.new)
+        (packet_line packet.now)) }
 {
     print_groups(packet, out)?;
     print_address(packet, out)
@@ -161,7 +169,8 @@ fn print_packet<W: Write>(packet: &PacketEntry, out: &mut W) -> io::Result<()>
 
 /// What a packet component is.
 fn print_groups<W: Write>(packet: &PacketEntry, out: &mut W) -> io::Result<()>
-    ensures { OnOk result (Appends (W.contents out.old) (W.contents out.new) (groups_text packet.now)) }
+    ensures { OnOk result (Appends (W.contents out.old) (W.contents out.new)
+        (groups_text packet.now)) }
 {
     let scid = packet.scid.get();
     let groups = groups_word(packet.dg);
@@ -171,7 +180,8 @@ fn print_groups<W: Write>(packet: &PacketEntry, out: &mut W) -> io::Result<()>
 
 /// Where its packets are, to the end of the line.
 fn print_address<W: Write>(packet: &PacketEntry, out: &mut W) -> io::Result<()>
-    ensures { OnOk result (Appends (W.contents out.old) (W.contents out.new) (address_text packet.now)) }
+    ensures { OnOk result (Appends (W.contents out.old) (W.contents out.new)
+        (address_text packet.now)) }
 {
     let sub = packet.sub.get();
     let address = packet.address.get();

@@ -191,7 +191,8 @@ impl<'a, S: Store> Debugger<'a, S> {
             IsTrue result.broke ↔ IsBroken p.code self.old.stop command p.state result.frames }
         ensures bytes { let p = self.old.player in
             result.fibs ≡ last_bytes p.code p.state result.frames }
-        ensures player { self.new.player ≡ played self.old.player (events_of command result.frames) }
+        ensures player { self.new.player
+            ≡ played self.old.player (events_of command result.frames) }
         ensures views { IsView self.new.player result }
         ensures stop { self.new.stop ≡ stop_after command self.old.stop }
         ensures announcements { let p = self.old.player in

@@ -87,7 +87,8 @@ fn stop(words: &mut Words) -> Result<Command, EventFault>
 
 /// The rest of a command, after its first word.
 fn command_of(keyword: Keyword, words: &mut Words) -> Result<Command, EventFault>
-    ensures read { IfOk result (λ s. keyword_word keyword ∷ words.old ≡ command_words s ++ words.new) }
+    ensures read { IfOk result (λ s. keyword_word keyword ∷ words.old
+        ≡ command_words s ++ words.new) }
     ensures range { IfOk result IsCommand }
     ensures none { IfErr result (λ e. (s : Command) (rest : List (List ℕ)) → IsCommand s
         → keyword_word keyword ∷ words.old ≢ command_words s ++ rest) }
@@ -162,7 +163,8 @@ fn commands(alloc: Global, text: &[u8], tokens: &[Token]) -> Result<Vec<Command>
 /// of commands.
 pub fn read_commands(alloc: Global, text: &str) -> Result<Vec<Command>, EventFault>
     ensures found { IfOk result (λ v. HoldsCommands text.now v.items) }
-    ensures only { IfErr result (λ e. e ≢ Memory → (all : List Command) → HoldsCommands text.now all → ⊥) }
+    ensures only { IfErr result (λ e. e ≢ Memory → (all : List Command)
+        → HoldsCommands text.now all → ⊥) }
 {
     match cut(alloc, text, NO_LIMITS) {
         Ok(tokens) => commands(alloc, text.as_bytes(), tokens.as_slice()),

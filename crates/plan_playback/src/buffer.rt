@@ -52,7 +52,8 @@ impl<W: Write> Buffer<W> {
     pub(crate) fn deliver(&mut self) -> bool
         ensures bytes { Keeps (taken_by W.contents self.old) (taken_by W.contents self.new) }
         ensures all { result ≡ true → length self.new.held.items ≡ 0 }
-        ensures left { result ≡ false → self.old.is_failed ≡ false → 0 < length self.new.held.items }
+        ensures left { result ≡ false → self.old.is_failed ≡ false
+            → 0 < length self.new.held.items }
         ensures works { result ≡ true → self.new.is_failed ≡ false }
         ensures fails { result ≡ false → self.new.is_failed ≡ true }
     {
@@ -128,7 +129,8 @@ fn write_out<W: Write>(bytes: &[u8], out: &mut W) -> Result<(), usize>
 /// What is left of so many frames of this size, and bytes of the next one, without the last `held` bytes of all.
 pub(crate) fn without(frames: u128, bytes: usize, held: usize, size: usize) -> (u128, usize)
     requires { held + size ≤ 100000 }
-    ensures whole { held ≤ frames * size + bytes → result.0 * size + result.1 + held ≡ frames * size + bytes }
+    ensures whole { held ≤ frames * size + bytes
+        → result.0 * size + result.1 + held ≡ frames * size + bytes }
     ensures part { bytes < size → result.1 < size }
 {
     let mut frames = frames;

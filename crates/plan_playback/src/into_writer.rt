@@ -54,7 +54,8 @@ pub fn run_into<W: Write>(
 ) -> (Result<u128, RunFault>, W)
     // Into a writer that tells its bytes and has none yet goes what `run` gives a sink.
     ensures played { (p : Playing) (steps : List Step)
-        → IsPlayback (asked code.now events.now count day contacts) p steps → W.contents out ≡ Some []
+        → IsPlayback (asked code.now events.now count day contacts) p steps
+        → W.contents out ≡ Some []
         → Delivers p (events_of steps) (W.contents out) (W.contents result.1) result.0 }
     // The frames of every writer are counted.
     ensures counted { IfOk result.0 (λ n. (p : Playing) (steps : List Step)

@@ -29,7 +29,8 @@ fn play_events<'a, S: Store, K: Sink>(
         Delivered player.old player.new events.now (K.taken sink.old) (K.taken sink.new) n) }
     ensures works { OnOk result (K.has_failed sink.new ≡ false) }
     ensures stopped { IfErr result (λ cut.
-        Stopped player.old player.new events.now (K.taken sink.old) (K.taken sink.new) cut.frames cut.bytes) }
+        Stopped player.old player.new events.now (K.taken sink.old) (K.taken sink.new)
+        cut.frames cut.bytes) }
     ensures fails { OnErr result (K.has_failed sink.new ≡ true) }
 {
     match play(player, events, sink) {
