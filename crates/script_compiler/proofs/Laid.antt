@@ -1,5 +1,5 @@
 -- Code that is laid down, piece by piece.
-use Rattle.std.proofs.Common.{◌≡◌, ℕ, ◌+◌, Bool, true, false, if◌then◌else◌, List, [], ◌∷◌, ◌++◌, length, Option, Some, None, is_some, refl, sym, ap, ◌∙◌, subst, arith, add_assoc, append_assoc, append-nil, length-append}
+use Rattle.std.proofs.Common.{◌≡◌, ℕ, ◌+◌, ◌≤◌, Bool, true, false, if◌then◌else◌, List, [], ◌∷◌, ◌++◌, length, Option, Some, None, is_some, refl, sym, ap, ◌∙◌, subst, arith, add_assoc, append_assoc, append-nil, length-append}
 use Rattle.std.specs.Prelude.{slice_set}
 use Rattle.std.proofs.Math.Seq.{set-append_seam}
 use Rattle.plan_code.specs.declared.instr.Instr.{Instr}
@@ -9,8 +9,10 @@ use Rattle.plan_code.specs.declared.plan.Plan.{Plan}
 use Rattle.script_front.specs.declared.tree.Act.{Act}
 use Rattle.script_front.specs.Block.{Block, nothing, basic, stop, when, either, repeat, forever, apply}
 use Rattle.script_scheme.specs.declared.flow.Spot.{Spot}
-use Rattle.script_scheme.specs.Scheme.{Place, moved, past, at_label, meet, join, onward, head, after, placed, alone, places, mark_of, marks_of, instr_of, falls_out}
-use Rattle.script_scheme.specs.Compiled.{lines_of}
+use Rattle.script_scheme.specs.Scheme.{Place, known_at, moved, past, at_label, meet, join, onward, head, after, placed, alone, places, mark_of, marks_of, instr_of, falls_out}
+use Rattle.plan_verifier.specs.Typing.{IsFine}
+use Rattle.script_scheme.specs.Judged.{IsJudged, Reached, WaysAgree, BranchesAgree, ComesRound}
+use Rattle.script_scheme.specs.Compiled.{lines_of, nested}
 use Rattle.script_compiler.specs.declared.work.Work.{Work}
 use Rattle.script_compiler.specs.Laying.{Lays, Left, Forks, ClosesIf, Turns, GoesRound, Arrives, aimed_at, line_at, way, kept}
 use Rattle.script_compiler.proofs.Leading.{after_falls}
@@ -56,6 +58,10 @@ left_start plan r b w = record {
   lays = record { lines = sym (append-nil w.lines.items); marks = sym (append-nil w.marks.items); saved = refl };
   whole = refl;
   leads = refl;
+  judged = λ h. h;
+  only = λ h. h;
+  repeats = λ h. h;
+  fewer = omega arith;
 }
 
 pub left_then : (plan : Plan) (r : ℕ) (b c d : Block) (u v w : Work) (f : Bool) → Left plan r b u v true c → Left plan r c v w f d → Left plan r b u w f d
@@ -64,21 +70,27 @@ left_then plan r b c d u v w f h k = record {
   lays = lays_both u v w h.laid k.laid h.lays k.lays;
   whole = h.whole ∙ ap (λ xs. h.laid ++ xs) k.whole ∙ sym (append_assoc h.laid k.laid _);
   leads = h.leads ∙ k.leads;
+  judged = λ j. h.judged (k.judged j);
+  only = λ j. k.only (h.only j);
+  repeats = λ n. h.repeats (k.repeats n);
+  fewer = omega (arith, h.fewer, k.fewer);
 }
 
 -- ---- statements
 
-pub left_act : (plan : Plan) (r line : ℕ) (a : Act) (i : Instr) (rest : Block) (v w : Work) → i ≡ instr_of a → Lays v w (alone line i r v.now) → w.now ≡ past (moved plan i v.now.flow) → Left plan r (basic line a rest) v w true rest
-left_act plan r line a i rest v w is l e =
+pub left_act : (plan : Plan) (r line : ℕ) (a : Act) (rest : Block) (v w : Work) → Lays v w (alone line (instr_of a) r v.now) → w.now ≡ past (moved plan (instr_of a) v.now.flow) → IsFine plan (instr_of a) (known_at v.now.flow) → Left plan r (basic line a rest) v w true rest
+left_act plan r line a rest v w l e fine =
     let at : length w.lines.items ≡ length v.lines.items + 1 = laid_length v w _ l in
-    let f : past (moved plan (instr_of a) v.now.flow) ≡ w.now = ap (λ x. past (moved plan x v.now.flow)) (sym is) ∙ sym e in
     record {
-      laid = alone line i r v.now;
+      laid = alone line (instr_of a) r v.now;
       lays = l;
       whole = ap (λ n. placed line (instr_of a) r v.now ∷ places plan r n rest (past (moved plan (instr_of a) v.now.flow))) (sym at)
-          ∙ ap (λ s. placed line (instr_of a) r v.now ∷ places plan r (length w.lines.items) rest s) f
-          ∙ ap (λ x. placed line x r v.now ∷ places plan r (length w.lines.items) rest w.now) (sym is);
-      leads = ap (λ s. after plan rest s) f;
+          ∙ ap (λ s. placed line (instr_of a) r v.now ∷ places plan r (length w.lines.items) rest s) (sym e);
+      leads = ap (λ s. after plan rest s) (sym e);
+      judged = λ j. (fine, subst (λ s. IsJudged plan rest s) e j);
+      only = λ j. subst (λ s. IsJudged plan rest s) (sym e) j.1;
+      repeats = λ h. h;
+      fewer = omega arith;
     }
 
 pub left_stop : (plan : Plan) (r line : ℕ) (rest : Block) (v w : Work) → Lays v w (alone line End r v.now) → Left plan r (stop line rest) v w false rest
@@ -87,6 +99,10 @@ left_stop plan r line rest v w l = record {
   lays = l;
   whole = refl;
   leads = refl;
+  judged = λ j. j;
+  only = λ j. j;
+  repeats = λ h. h;
+  fewer = omega arith;
 }
 
 -- ---- a block that has been laid down whole
@@ -96,6 +112,8 @@ pub record Whole (plan : Plan) (r pc : ℕ) (b : Block) (s : Spot) (old new : Wo
   pub marks : new.marks.items ≡ old.marks.items ++ marks_of pc (places plan r pc b s)
   pub saved : new.saved.items ≡ old.saved.items
   pub leads : after plan b s ≡ way f new
+  pub judged : IsJudged plan b s
+  pub repeats : r ≤ 8 → r + nested b ≤ 8
 
 nothing_more : (w : Option Spot) → onward w None (λ u. Some u) ≡ w
 nothing_more None = refl
@@ -105,6 +123,10 @@ no_more : {A : Type 0} (w : Option Spot) → onward {A = List A} w [] (λ u. [])
 no_more None = refl
 no_more (Some s) = refl
 
+none_reached : (w : Option Spot) → Reached w nothing (λ u. Unit {0})
+none_reached None = tt
+none_reached (Some s) = tt
+
 whole_here : (plan : Plan) (r : ℕ) (b : Block) (v w : Work) (f : Bool) → Left plan r b v w f nothing → Whole plan r (length v.lines.items) b v.now v w f
 whole_here plan r b v w f l =
     let e : places plan r (length v.lines.items) b v.now ≡ l.laid = l.whole ∙ ap (λ xs. l.laid ++ xs) (no_more (way f w)) ∙ append-nil l.laid in
@@ -113,6 +135,8 @@ whole_here plan r b v w f l =
       marks = l.lays.marks ∙ ap (λ ps. v.marks.items ++ marks_of (length v.lines.items) ps) (sym e);
       saved = l.lays.saved;
       leads = l.leads ∙ nothing_more (way f w);
+      judged = l.judged (none_reached (way f w));
+      repeats = λ h. l.repeats (omega (arith, h));
     }
 
 pub whole_of : (plan : Plan) (r pc : ℕ) (b : Block) (s : Spot) (v w : Work) (f : Bool) → length v.lines.items ≡ pc → v.now ≡ s → Left plan r b v w f nothing → Whole plan r pc b s v w f
@@ -124,11 +148,11 @@ aimed xs ys i j zs e = ap (λ z. slice_set z (length xs) j) (e ∙ append_assoc 
 
 module _ (plan : Plan) (r line : ℕ) (c : ℕ) (first rest : Block) (w0 w2 w3 w5 : Work) (f : Bool) where
   pub left_when :
-      Forks line (Test c 0) r w0 w2 →
+      r ≤ 8 → Forks line (Test c 0) r w0 w2 →
       Left plan r first w2 w3 f nothing →
       ((front : List Spot) (entry : Spot) → w3.saved.items ≡ front ++ entry ∷ [] → ClosesIf f line c (length w0.lines.items) front entry w3 w5) →
       Left plan r (when line c first rest) w0 w5 true rest
-  left_when fork left closing =
+  left_when deep fork left closing =
       let pc = length w0.lines.items in
       let close = closing w0.saved.items w0.now (left.lays.saved ∙ fork.saved) in
       let test = line_at line (Test c 0) in
@@ -147,11 +171,16 @@ module _ (plan : Plan) (r line : ℕ) (c : ℕ) (first rest : Block) (w0 w2 w3 w
       close.marks ∙ h.marks ∙ ap (λ xs. xs ++ marks_of (pc + 1) firsts) fork.marks ∙ append_assoc w0.marks.items (marks_of pc (alone line (Test c 0) r w0.now)) (marks_of (pc + 1) firsts)
       ∙ ap (λ xs. w0.marks.items ++ xs) (sym (marks_both pc (alone line (Test c end) r w0.now) firsts)) in
       let met : meet (after plan first t) (Some w0.now) ≡ Some w5.now = ap (λ w. meet w (Some w0.now)) h.leads ∙ close.met in
+      let agree : WaysAgree (after plan first t) (Some w0.now) = subst (λ w. WaysAgree w (Some w0.now)) (sym h.leads) close.agree in
       record {
         laid = placed line (Test c end) r w0.now ∷ firsts;
         lays = record { lines = code; marks = labels; saved = close.saved };
         whole = ap (λ w. placed line (Test c end) r w0.now ∷ (firsts ++ onward w [] (λ u. places plan r end rest u))) met ∙ ap (λ n. placed line (Test c end) r w0.now ∷ (firsts ++ places plan r n rest w5.now)) (sym len5);
         leads = ap (λ w. onward w None (λ u. after plan rest u)) met;
+        judged = λ j. (h.judged, agree, subst (λ w. Reached w rest (λ u. IsJudged plan rest u)) (sym met) j);
+        only = λ j. subst (λ w. Reached w rest (λ u. IsJudged plan rest u)) met j.2;
+        repeats = λ n. let k = h.repeats deep in omega (arith, n, k);
+        fewer = omega arith;
       }
 
 -- ---- the statements with blocks, but for the first
@@ -175,13 +204,13 @@ aimed_jump line r jump end (Some u) before ys code e h k =
 
 module _ (plan : Plan) (r line : ℕ) (c : ℕ) (first second rest : Block) (w0 w2 w3 w6 w7 w8 : Work) (f1 f2 f : Bool) where
   pub left_either :
-      Forks line (Test c 0) r w0 w2 →
+      r ≤ 8 → Forks line (Test c 0) r w0 w2 →
       Left plan r first w2 w3 f1 nothing →
       ((front : List Spot) (entry : Spot) → w3.saved.items ≡ front ++ entry ∷ [] → Turns f1 line r c (length w0.lines.items) front entry w3 w6) →
       Left plan r second w6 w7 f2 nothing →
       ((front : List Spot) (a : Option Spot) → f1 ≡ is_some a → w7.saved.items ≡ front ++ kept a → Arrives a (way f2 w7) front line (length w3.lines.items) w7 w8 f) →
       Left plan r (either line c first second rest) w0 w8 f rest
-  left_either fork left turning left2 arriving =
+  left_either deep fork left turning left2 arriving =
       let pc = length w0.lines.items in
       let turn = turning w0.saved.items w0.now (left.lays.saved ∙ fork.saved) in
       let some_is : (g : Bool) → g ≡ is_some (way g w3) = λ g. elim g as (λ b. b ≡ is_some (way b w3)) [ true ↦ refl | false ↦ refl ] in
@@ -239,6 +268,7 @@ module _ (plan : Plan) (r line : ℕ) (c : ℕ) (first second rest : Block) (w0 
       arr.marks ∙ h2.marks ∙ ap (λ xs. xs ++ l3) (turn.marks ∙ ap (λ xs. xs ++ l2) labels3)
       ∙ append_assoc ((w0.marks.items ++ l0) ++ l1) l2 l3 ∙ append_assoc (w0.marks.items ++ l0) l1 (l2 ++ l3) ∙ append_assoc w0.marks.items l0 (l1 ++ (l2 ++ l3)) ∙ ap (λ xs. w0.marks.items ++ xs) (sym lab_all) in
       let joins : join a b ≡ way f w8 = ap (λ w. join w b) h.leads ∙ ap (λ w. join (way f1 w3) w) h2.leads ∙ sym arr.leads in
+      let agree : BranchesAgree a b = subst (λ w. BranchesAgree w b) (sym h.leads) (subst (λ w. BranchesAgree (way f1 w3) w) (sym h2.leads) arr.agree) in
       let len8 : length w8.lines.items ≡ end =
       let n = ap length code in let m = length-append w0.lines.items (there ∷ lines_of (firsts ++ more)) in let k = length_lines (firsts ++ more) in let q = length-append firsts more in let z = length-append jumps seconds in omega (arith, n, m, k, q, z, jcount) in
       let rests = onward (way f w8) [] (λ u. places plan r (length w8.lines.items) rest u) in
@@ -248,6 +278,10 @@ module _ (plan : Plan) (r line : ℕ) (c : ℕ) (first second rest : Block) (w0 
         lays = record { lines = code; marks = labels; saved = arr.saved };
         whole = ap (λ xs. placed line (Test c start) r w0.now ∷ (firsts ++ (jumps ++ (seconds ++ xs)))) at_rests ∙ ap (λ xs. placed line (Test c start) r w0.now ∷ (firsts ++ xs)) (sym (append_assoc jumps seconds rests)) ∙ ap (λ xs. placed line (Test c start) r w0.now ∷ xs) (sym (append_assoc firsts more rests));
         leads = ap (λ w. onward w None (λ u. after plan rest u)) joins;
+        judged = λ j. (h.judged, h2.judged, agree, subst (λ w. Reached w rest (λ u. IsJudged plan rest u)) (sym joins) j);
+        only = λ j. subst (λ w. Reached w rest (λ u. IsJudged plan rest u)) joins j.3;
+        repeats = λ n. let k = h.repeats deep in let k2 = h2.repeats deep in omega (arith, n, k, k2);
+        fewer = omega arith;
       }
 
 -- ---- loops
@@ -261,14 +295,22 @@ loop_leads : (plan : Plan) (rest : Block) (f : Bool) (v w : Work) → w.now ≡ 
 loop_leads plan rest true v w e = ap (λ s. after plan rest s) (sym e)
 loop_leads plan rest false v w e = refl
 
+loop_reached : (plan : Plan) (rest : Block) (f : Bool) (v w : Work) → w.now ≡ (if f then past v.now.flow else v.now) → Reached (way f w) rest (λ u. IsJudged plan rest u) → Reached (way f v) rest (λ u. IsJudged plan rest (past u.flow))
+loop_reached plan rest true v w e j = subst (λ s. IsJudged plan rest s) e j
+loop_reached plan rest false v w e j = j
+
+loop_reached_back : (plan : Plan) (rest : Block) (f : Bool) (v w : Work) → w.now ≡ (if f then past v.now.flow else v.now) → Reached (way f v) rest (λ u. IsJudged plan rest (past u.flow)) → Reached (way f w) rest (λ u. IsJudged plan rest u)
+loop_reached_back plan rest true v w e j = subst (λ s. IsJudged plan rest s) (sym e) j
+loop_reached_back plan rest false v w e j = j
+
 module _ (plan : Plan) (r line n : ℕ) (body rest : Block) (w0 w1 w2 w3 w4 : Work) (f : Bool) where
   pub left_repeat :
-      Lays w0 w1 (alone line (Set r n) r w0.now) → w1.now ≡ past w0.now.flow →
+      r + 1 ≤ 8 → Lays w0 w1 (alone line (Set r n) r w0.now) → w1.now ≡ past w0.now.flow →
       w2.lines.items ≡ w1.lines.items → w2.marks.items ≡ w1.marks.items → w2.now ≡ head body w1.now →
       Left plan (r + 1) body w2 w3 f nothing →
-      GoesRound f line (r + 1) (Loop r (length w1.lines.items)) w1.saved.items w3 w4 →
+      GoesRound f line (r + 1) (Loop r (length w1.lines.items)) w1.saved.items w2.now w3 w4 →
       Left plan r (repeat line n body rest) w0 w4 f rest
-  left_repeat lays1 now1 code2 labels2 now2 left g =
+  left_repeat deep lays1 now1 code2 labels2 now2 left g =
       let pc = length w0.lines.items in
       let pc1 : length w1.lines.items ≡ pc + 1 = laid_length w0 w1 _ lays1 in
       let start = head body (past w0.now.flow) in
@@ -293,20 +335,25 @@ module _ (plan : Plan) (r line n : ℕ) (body rest : Block) (w0 w1 w2 w3 w4 : Wo
       let rests = onward (way f w4) [] (λ u. places plan r (length w4.lines.items) rest u) in
       let whole : onward a [] (λ u. placed line i (r + 1) u ∷ places plan r (end + 1) rest (past u.flow)) ≡ back ++ rests =
       ap (λ w. onward w [] (λ u. placed line i (r + 1) u ∷ places plan r (end + 1) rest (past u.flow))) h.leads ∙ loop_whole plan line i (r + 1) r end rest f w3 w4 g.now len4 ∙ ap (λ w. onward w [] (alone line i (r + 1)) ++ rests) (sym h.leads) in
+      let round : ComesRound a start = subst (λ w. ComesRound w start) (sym h.leads) (subst (λ s. ComesRound (way f w3) s) now2' g.round) in
       record {
         laid = placed line (Set r n) r w0.now ∷ (bodies ++ back);
         lays = lays;
         whole = ap (λ xs. placed line (Set r n) r w0.now ∷ (bodies ++ xs)) whole ∙ ap (λ xs. placed line (Set r n) r w0.now ∷ xs) (sym (append_assoc bodies back rests));
         leads = ap (λ w. onward w None (λ u. after plan rest (past u.flow))) h.leads ∙ loop_leads plan rest f w3 w4 g.now;
+        judged = λ j. (h.judged, round, subst (λ w. Reached w rest (λ u. IsJudged plan rest (past u.flow))) (sym h.leads) (loop_reached plan rest f w3 w4 g.now j));
+        only = λ j. loop_reached_back plan rest f w3 w4 g.now (subst (λ w. Reached w rest (λ u. IsJudged plan rest (past u.flow))) h.leads j.2);
+        repeats = λ m. let k = h.repeats deep in omega (arith, m, k);
+        fewer = omega arith;
       }
 
 module _ (plan : Plan) (r line : ℕ) (body rest : Block) (w0 w2 w3 w4 : Work) (f : Bool) where
   pub left_forever :
-      w2.lines.items ≡ w0.lines.items → w2.marks.items ≡ w0.marks.items → w2.now ≡ head body w0.now →
+      r ≤ 8 → w2.lines.items ≡ w0.lines.items → w2.marks.items ≡ w0.marks.items → w2.now ≡ head body w0.now →
       Left plan r body w2 w3 f nothing →
-      GoesRound f line r (Jump (length w0.lines.items)) w0.saved.items w3 w4 →
+      GoesRound f line r (Jump (length w0.lines.items)) w0.saved.items w2.now w3 w4 →
       Left plan r (forever line body rest) w0 w4 false rest
-  left_forever code2 labels2 now2 left g =
+  left_forever deep code2 labels2 now2 left g =
       let pc = length w0.lines.items in
       let start = head body w0.now in
       let h = whole_of plan r pc body start w2 w3 f (ap length code2) now2 left in
@@ -317,6 +364,7 @@ module _ (plan : Plan) (r line : ℕ) (body rest : Block) (w0 w2 w3 w4 : Work) (
       let back = onward a [] (alone line i r) in
       let at_end : length w3.lines.items ≡ end = ap length h.lines ∙ length-append w2.lines.items (lines_of bodies) ∙ ap (λ m. m + length (lines_of bodies)) (ap length code2) ∙ ap (λ m. pc + m) (length_lines bodies) in
       let back_is : onward (way f w3) [] (alone line i r) ≡ back = ap (λ w. onward w [] (alone line i r)) (sym h.leads) in
+      let round : ComesRound a start = subst (λ w. ComesRound w start) (sym h.leads) (subst (λ s. ComesRound (way f w3) s) now2 g.round) in
       record {
         laid = bodies ++ back;
         lays = record {
@@ -327,10 +375,14 @@ module _ (plan : Plan) (r line : ℕ) (body rest : Block) (w0 w2 w3 w4 : Work) (
         };
         whole = sym (append-nil (bodies ++ back));
         leads = refl;
+        judged = λ j. (h.judged, round, j);
+        only = λ j. j.2;
+        repeats = λ m. let k = h.repeats deep in omega (arith, m, k);
+        fewer = omega arith;
       }
 
-pub left_apply : (plan : Plan) (r line number : ℕ) (named rest : Block) (v w : Work) (f : Bool) → Left plan r named v w f nothing → Left plan r (apply line number named rest) v w f rest
-left_apply plan r line number named rest v w f left =
+pub left_apply : (plan : Plan) (r line number : ℕ) (named rest : Block) (v w : Work) (f : Bool) → r ≤ 8 → Left plan r named v w f nothing → Left plan r (apply line number named rest) v w f rest
+left_apply plan r line number named rest v w f deep left =
     let pc = length v.lines.items in
     let h = whole_here plan r named v w f left in
     let names = places plan r pc named v.now in
@@ -341,4 +393,8 @@ left_apply plan r line number named rest v w f left =
       lays = lays;
       whole = ap (λ x. names ++ onward x [] (λ u. places plan r (pc + length names) rest u)) h.leads ∙ ap (λ m. names ++ onward (way f w) [] (λ u. places plan r m rest u)) (sym len);
       leads = ap (λ x. onward x None (λ u. after plan rest u)) h.leads;
+      judged = λ j. (h.judged, subst (λ x. Reached x rest (λ u. IsJudged plan rest u)) (sym h.leads) j);
+      only = λ j. subst (λ x. Reached x rest (λ u. IsJudged plan rest u)) h.leads j.1;
+      repeats = λ m. let k = h.repeats deep in omega (arith, m, k);
+      fewer = omega arith;
     }

@@ -9,3 +9,4 @@ mod Blocks
 mod Steps
 mod Tabling
 mod Whole
+mod Accepting

@@ -1,14 +1,16 @@
 -- The statements with blocks, as the compiler goes through them.
 use Rattle.std.proofs.Common.{◌≡◌, ℕ, zero, suc, ◌+◌, map, take, Vec, Global, Result, Ok, Err, ◌<◌, ◌≤◌, Bool, true, false, if◌then◌else◌, List, [], ◌∷◌, ◌++◌, ◌&&◌, length, Option, Some, None, is_some, refl, sym, ap, ◌∙◌, subst, arith, append-nil, drop, get_or}
 use Rattle.std.specs.Prelude.{IfOk, OnOk}
-use Rattle.plan_code.specs.declared.instr.Instr.{Instr}
 use Rattle.plan_code.specs.declared.instr.Instr.TheVariants.{Test, Jump, Set, Loop}
 use Rattle.plan_code.specs.declared.plan.Plan.{Plan}
 use Rattle.script_front.specs.declared.tree.Act.{Act}
 use Rattle.script_front.specs.declared.tree.Statement.{Statement}
 use Rattle.script_front.specs.Block.{Block, nothing, basic, stop, when, either, repeat, forever, apply, named_at, before, block_of}
 use Rattle.script_scheme.specs.declared.flow.Spot.{Spot}
-use Rattle.script_scheme.specs.Scheme.{moved, past, onward, alone, after, places, instr_of, falls_out}
+use Rattle.script_scheme.specs.Scheme.{known_at, moved, past, onward, alone, after, places, instr_of, falls_out}
+use Rattle.plan_verifier.specs.Typing.{IsFine}
+use Rattle.script_scheme.specs.Judged.{IsJudged, Reached}
+use Rattle.script_scheme.specs.Compiled.{nested}
 use Rattle.script_compiler.specs.declared.work.Work.{Work}
 use Rattle.script_compiler.specs.declared.fault.CompileFault.{CompileFault}
 use Rattle.script_compiler.specs.Laying.{Lays, Left, Forks, ClosesIf, Turns, GoesRound, Arrives, kept, way, tables, lays_nothing}
@@ -34,54 +36,54 @@ pub left_as : (plan : Plan) (r : ℕ) (old new : Work) (x : Result Bool CompileF
 left_as plan r old new (Ok f) shape shape' e h = λ rest. subst (λ b. Left plan r b old new f rest) (sym (e rest)) (h rest)
 left_as plan r old new (Err y) shape shape' e h = h
 
-pub act_step : (plan : Plan) (r line : ℕ) (a : Act) (i : Instr) (v w : Work) (x : Result Bool CompileFault) → i ≡ instr_of a → IfOk x (λ f. f ≡ true) → OnOk x (Lays v w (alone line i r v.now)) → OnOk x (w.now ≡ past (moved plan i v.now.flow)) → IfOk x (λ f. (rest : Block) → Left plan r (basic line a rest) v w f rest)
-act_step plan r line a i v w x is goes lays now = ok_true x _ _ goes (ok_both x _ _ lays now) (λ both rest. left_act plan r line a i rest v w is both.0 both.1)
+pub act_step : (plan : Plan) (r line : ℕ) (a : Act) (v w : Work) (x : Result Bool CompileFault) → IfOk x (λ f. f ≡ true) → OnOk x (Lays v w (alone line (instr_of a) r v.now)) → OnOk x (w.now ≡ past (moved plan (instr_of a) v.now.flow)) → OnOk x (IsFine plan (instr_of a) (known_at v.now.flow)) → IfOk x (λ f. (rest : Block) → Left plan r (basic line a rest) v w f rest)
+act_step plan r line a v w x goes lays now fine = ok_true x _ _ goes (ok_both x _ _ lays (ok_both x _ _ now fine)) (λ (all : Lays v w (alone line (instr_of a) r v.now) × ((w.now ≡ past (moved plan (instr_of a) v.now.flow)) × IsFine plan (instr_of a) (known_at v.now.flow))) rest. left_act plan r line a rest v w all.0 all.1.0 all.1.1)
 
 module _ (plan : Plan) (r line c at : ℕ) (first : Block) (w0 w2 w3 w5 : Work) (f : Bool) (x : Result Bool CompileFault) where
   pub when_step :
-      at ≡ length w0.lines.items → Forks line (Test c 0) r w0 w2 → Left plan r first w2 w3 f nothing → IfOk x (λ g. g ≡ true) →
+      r ≤ 8 → at ≡ length w0.lines.items → Forks line (Test c 0) r w0 w2 → Left plan r first w2 w3 f nothing → IfOk x (λ g. g ≡ true) →
       OnOk x ((front : List Spot) (entry : Spot) → w3.saved.items ≡ front ++ entry ∷ [] → ClosesIf f line c at front entry w3 w5) →
       IfOk x (λ g. (rest : Block) → Left plan r (when line c first rest) w0 w5 g rest)
-  when_step ea fork left goes closes = ok_true x _ _ goes closes (λ h rest. left_when plan r line c first rest w0 w2 w3 w5 f fork left (λ front entry e. subst (λ n. ClosesIf f line c n front entry w3 w5) ea (h front entry e)))
+  when_step deep ea fork left goes closes = ok_true x _ _ goes closes (λ h rest. left_when plan r line c first rest w0 w2 w3 w5 f deep fork left (λ front entry e. subst (λ n. ClosesIf f line c n front entry w3 w5) ea (h front entry e)))
 
 module _ (plan : Plan) (r line c at jump : ℕ) (first second : Block) (w0 w2 w3 w6 w7 w8 : Work) (f1 f2 f : Bool) where
   pub either_step :
-      at ≡ length w0.lines.items → jump ≡ length w3.lines.items → Forks line (Test c 0) r w0 w2 → Left plan r first w2 w3 f1 nothing →
+      r ≤ 8 → at ≡ length w0.lines.items → jump ≡ length w3.lines.items → Forks line (Test c 0) r w0 w2 → Left plan r first w2 w3 f1 nothing →
       ((front : List Spot) (entry : Spot) → w3.saved.items ≡ front ++ entry ∷ [] → Turns f1 line r c at front entry w3 w6) →
       Left plan r second w6 w7 f2 nothing →
       ((front : List Spot) (a : Option Spot) → f1 ≡ is_some a → w7.saved.items ≡ front ++ kept a → Arrives a (way f2 w7) front line jump w7 w8 f) →
       (rest : Block) → Left plan r (either line c first second rest) w0 w8 f rest
-  either_step ea ej fork left turns left2 arrives rest =
-      left_either plan r line c first second rest w0 w2 w3 w6 w7 w8 f1 f2 f fork left
+  either_step deep ea ej fork left turns left2 arrives rest =
+      left_either plan r line c first second rest w0 w2 w3 w6 w7 w8 f1 f2 f deep fork left
       (λ front entry e. subst (λ n. Turns f1 line r c n front entry w3 w6) ea (turns front entry e)) left2
       (λ front a g e. subst (λ n. Arrives a (way f2 w7) front line n w7 w8 f) ej (arrives front a g e))
 
 module _ (plan : Plan) (r line n : ℕ) (body : Block) (w0 w1 w2 w3 w4 : Work) (f falls : Bool) (at k : ℕ) where
   pub repeat_step :
-      k ≡ r → Lays w0 w1 (alone line (Set k n) r w0.now) → w1.now ≡ past w0.now.flow → at ≡ length w1.lines.items →
+      r + 1 ≤ 8 → k ≡ r → Lays w0 w1 (alone line (Set k n) r w0.now) → w1.now ≡ past w0.now.flow → at ≡ length w1.lines.items →
       falls ≡ falls_out body → w2.lines ≡ w1.lines → w2.marks ≡ w1.marks →
       w2.now ≡ record { flow = w1.now.flow; labelled = if falls then true else w1.now.labelled } → w2.saved.items ≡ w1.saved.items ++ w2.now ∷ [] →
       Left plan (r + 1) body w2 w3 f nothing →
-      ((front : List Spot) (entry : Spot) → w3.saved.items ≡ front ++ entry ∷ [] → GoesRound f line (r + 1) (Loop k at) front w3 w4) →
+      ((front : List Spot) (entry : Spot) → w3.saved.items ≡ front ++ entry ∷ [] → GoesRound f line (r + 1) (Loop k at) front entry w3 w4) →
       (rest : Block) → Left plan r (repeat line n body rest) w0 w4 f rest
-  repeat_step ek l1 n1 ea ef c2 m2 n2 s2 left g rest =
+  repeat_step deep ek l1 n1 ea ef c2 m2 n2 s2 left g rest =
       let round = g w1.saved.items w2.now (left.lays.saved ∙ s2) in
       let now2 = n2 ∙ ap (λ b. let t : Spot = record { flow = w1.now.flow; labelled = if b then true else w1.now.labelled } in t) ef in
-      left_repeat plan r line n body rest w0 w1 w2 w3 w4 f (subst (λ m. Lays w0 w1 (alone line (Set m n) r w0.now)) ek l1) n1 (ap (λ v. v.items) c2) (ap (λ v. v.items) m2) now2 left
-      (subst (λ m. GoesRound f line (r + 1) (Loop r m) w1.saved.items w3 w4) ea (subst (λ m. GoesRound f line (r + 1) (Loop m at) w1.saved.items w3 w4) ek round))
+      left_repeat plan r line n body rest w0 w1 w2 w3 w4 f deep (subst (λ m. Lays w0 w1 (alone line (Set m n) r w0.now)) ek l1) n1 (ap (λ v. v.items) c2) (ap (λ v. v.items) m2) now2 left
+      (subst (λ m. GoesRound f line (r + 1) (Loop r m) w1.saved.items w2.now w3 w4) ea (subst (λ m. GoesRound f line (r + 1) (Loop m at) w1.saved.items w2.now w3 w4) ek round))
 
 module _ (plan : Plan) (r line : ℕ) (body : Block) (w0 w2 w3 w4 : Work) (f falls : Bool) (at : ℕ) where
   pub forever_step :
-      at ≡ length w0.lines.items → falls ≡ falls_out body → w2.lines ≡ w0.lines → w2.marks ≡ w0.marks →
+      r ≤ 8 → at ≡ length w0.lines.items → falls ≡ falls_out body → w2.lines ≡ w0.lines → w2.marks ≡ w0.marks →
       w2.now ≡ record { flow = w0.now.flow; labelled = if falls then true else w0.now.labelled } → w2.saved.items ≡ w0.saved.items ++ w2.now ∷ [] →
       Left plan r body w2 w3 f nothing →
-      ((front : List Spot) (entry : Spot) → w3.saved.items ≡ front ++ entry ∷ [] → GoesRound f line r (Jump at) front w3 w4) →
+      ((front : List Spot) (entry : Spot) → w3.saved.items ≡ front ++ entry ∷ [] → GoesRound f line r (Jump at) front entry w3 w4) →
       (rest : Block) → Left plan r (forever line body rest) w0 w4 false rest
-  forever_step ea ef c2 m2 n2 s2 left g rest =
+  forever_step deep ea ef c2 m2 n2 s2 left g rest =
       let round = g w0.saved.items w2.now (left.lays.saved ∙ s2) in
       let now2 = n2 ∙ ap (λ b. let t : Spot = record { flow = w0.now.flow; labelled = if b then true else w0.now.labelled } in t) ef in
-      left_forever plan r line body rest w0 w2 w3 w4 f (ap (λ v. v.items) c2) (ap (λ v. v.items) m2) now2 left
-      (subst (λ m. GoesRound f line r (Jump m) w0.saved.items w3 w4) ea round)
+      left_forever plan r line body rest w0 w2 w3 w4 f deep (ap (λ v. v.items) c2) (ap (λ v. v.items) m2) now2 left
+      (subst (λ m. GoesRound f line r (Jump m) w0.saved.items w2.now w3 w4) ea round)
 
 -- ---- a block's statements
 
@@ -123,9 +125,11 @@ silent_named table silent k d e lt = by table k (omega (arith, lt, ap length e))
 record Silent (plan : Plan) (b : Block) (s : Spot) : Type 0 where
   empty : (r pc : ℕ) → places plan r pc b s ≡ []
   leads : after plan b s ≡ Some s
+  judged : IsJudged plan b s
+  flat : nested b ≡ 0
 
 silent_block : (plan : Plan) (b : Block) (s : Spot) → lays_nothing b ≡ true → Silent plan b s
-silent_block plan nothing s h = record { empty = λ r pc. refl; leads = refl }
+silent_block plan nothing s h = record { empty = λ r pc. refl; leads = refl; judged = tt; flat = refl }
 silent_block plan (basic line act rest) s h = cc
 silent_block plan (stop line rest) s h = cc
 silent_block plan (when line c first rest) s h = cc
@@ -142,11 +146,13 @@ silent_block plan (apply line k name rest) s h =
           let at : pc + length (places plan r pc name s) ≡ pc = let n = ap length (a.empty r pc) in omega (arith, n) in
           ap (λ xs. xs ++ onward (after plan name s) [] (λ u. places plan r (pc + length (places plan r pc name s)) rest u)) (a.empty r pc) ∙ ap (λ w. onward w [] (λ u. places plan r (pc + length (places plan r pc name s)) rest u)) a.leads ∙ ap (λ n. places plan r n rest s) at ∙ b.empty r pc;
       leads = ap (λ w. onward w None (λ u. after plan rest u)) a.leads ∙ b.leads;
+      judged = (a.judged, subst (λ w. Reached w rest (λ u. IsJudged plan rest u)) (sym a.leads) b.judged);
+      flat = let n = a.flat in let m = b.flat in omega (arith, n, m);
     }
 
 -- a block without an instruction leaves all as it is
-pub silent_step : (plan : Plan) (r line : ℕ) (bs : List (Vec Statement Global)) (s : Statement) (name k : ℕ) (silent : List Bool) (w : Work) → ((rest : Block) → before (tables bs) s rest ≡ apply line name (named_at (tables bs) name) rest) → k ≡ name → silent ≡ map lays_nothing (tables bs) → k < length silent → get_or silent k false ≡ true → (rest : Block) → Left plan r (before (tables bs) s rest) w w true rest
-silent_step plan r line bs s name k silent w e ek es lt is_silent rest =
+pub silent_step : (plan : Plan) (r line : ℕ) (bs : List (Vec Statement Global)) (s : Statement) (name k : ℕ) (silent : List Bool) (w : Work) → r ≤ 8 → ((rest : Block) → before (tables bs) s rest ≡ apply line name (named_at (tables bs) name) rest) → k ≡ name → silent ≡ map lays_nothing (tables bs) → k < length silent → get_or silent k false ≡ true → (rest : Block) → Left plan r (before (tables bs) s rest) w w true rest
+silent_step plan r line bs s name k silent w deep e ek es lt is_silent rest =
     let b = named_at (tables bs) name in
     let is : lays_nothing b ≡ true = ap (λ n. lays_nothing (named_at (tables bs) n)) (sym ek) ∙ silent_named (tables bs) silent k false es lt ∙ is_silent in
     let h = silent_block plan b w.now is in
@@ -155,20 +161,24 @@ silent_step plan r line bs s name k silent w e ek es lt is_silent rest =
       lays = record { lines = sym (append-nil w.lines.items); marks = sym (append-nil w.marks.items); saved = refl };
       whole = h.empty r (length w.lines.items);
       leads = h.leads;
+      judged = λ _. h.judged;
+      only = λ _. tt;
+      repeats = λ m. let n = h.flat in omega (arith, n, m);
+      fewer = omega arith;
     } in
-    subst (λ x. Left plan r x w w true rest) (sym (e rest)) (left_apply plan r line name b rest w w true none)
+    subst (λ x. Left plan r x w w true rest) (sym (e rest)) (left_apply plan r line name b rest w w true deep none)
 
 named_past : (table : List Block) (k : ℕ) → length table ≤ k → named_at table k ≡ nothing
 named_past [] k le = refl
 named_past (b ∷ table) zero le = absurd (omega (arith, le))
 named_past (b ∷ table) (suc k) le = named_past table k (omega (arith, le))
 
-pub unnamed_step : (plan : Plan) (r line : ℕ) (bs : List (Vec Statement Global)) (s : Statement) (name k : ℕ) (w : Work) → ((rest : Block) → before (tables bs) s rest ≡ apply line name (named_at (tables bs) name) rest) → k ≡ name → length bs ≤ k → (rest : Block) → Left plan r (before (tables bs) s rest) w w true rest
-unnamed_step plan r line bs s name k w e ek le rest =
+pub unnamed_step : (plan : Plan) (r line : ℕ) (bs : List (Vec Statement Global)) (s : Statement) (name k : ℕ) (w : Work) → r ≤ 8 → ((rest : Block) → before (tables bs) s rest ≡ apply line name (named_at (tables bs) name) rest) → k ≡ name → length bs ≤ k → (rest : Block) → Left plan r (before (tables bs) s rest) w w true rest
+unnamed_step plan r line bs s name k w deep e ek le rest =
     let past : named_at (tables bs) name ≡ nothing = named_past (tables bs) name (omega (arith, tables_length bs, ek, le)) in
-    let h = left_apply plan r line name nothing rest w w true (left_start plan r nothing w) in
+    let h = left_apply plan r line name nothing rest w w true deep (left_start plan r nothing w) in
     subst (λ b. Left plan r b w w true rest) (sym (e rest ∙ ap (λ b. apply line name b rest) past)) h
 
-pub apply_left : (plan : Plan) (r line number : ℕ) (name : Block) (shape : Block → Block) (v w : Work) (x : Result Bool CompileFault) → ((rest : Block) → shape rest ≡ apply line number name rest) → IfOk x (λ f. Left plan r name v w f nothing) → IfOk x (λ f. (rest : Block) → Left plan r (shape rest) v w f rest)
-apply_left plan r line number name shape v w (Ok f) e h = λ rest. subst (λ b. Left plan r b v w f rest) (sym (e rest)) (left_apply plan r line number name rest v w f h)
-apply_left plan r line number name shape v w (Err y) e h = h
+pub apply_left : (plan : Plan) (r line number : ℕ) (name : Block) (shape : Block → Block) (v w : Work) (x : Result Bool CompileFault) → r ≤ 8 → ((rest : Block) → shape rest ≡ apply line number name rest) → IfOk x (λ f. Left plan r name v w f nothing) → IfOk x (λ f. (rest : Block) → Left plan r (shape rest) v w f rest)
+apply_left plan r line number name shape v w (Ok f) deep e h = λ rest. subst (λ b. Left plan r b v w f rest) (sym (e rest)) (left_apply plan r line number name rest v w f deep h)
+apply_left plan r line number name shape v w (Err y) deep e h = h

@@ -1,11 +1,12 @@
 -- A whole script.
-use Rattle.std.proofs.Common.{◌≡◌, ℕ, ◌+◌, Bool, [], ◌++◌, length, sym, ap, ◌∙◌, subst, arith}
+use Rattle.std.proofs.Common.{◌≡◌, ℕ, ◌+◌, ◌≤◌, Bool, [], ◌++◌, length, sym, ap, ◌∙◌, subst, arith}
 use Rattle.plan_code.specs.declared.instr.Instr.TheVariants.{End}
 use Rattle.plan_code.specs.declared.plan.Plan.{Plan}
 use Rattle.script_front.specs.Block.{Block, nothing}
 use Rattle.script_scheme.specs.declared.flow.Spot.{Spot}
 use Rattle.script_scheme.specs.Scheme.{onward, after, alone, places, all_places, marks_of}
-use Rattle.script_scheme.specs.Compiled.{lines_of}
+use Rattle.script_scheme.specs.Judged.{IsJudged}
+use Rattle.script_scheme.specs.Compiled.{lines_of, nested}
 use Rattle.script_compiler.specs.declared.work.Work.{Work}
 use Rattle.script_compiler.specs.Laying.{Lays, Left, way}
 use Rattle.script_compiler.proofs.Laid.{whole_of, lines_both, marks_both, length_lines}
@@ -13,6 +14,8 @@ use Rattle.script_compiler.proofs.Laid.{whole_of, lines_both, marks_both, length
 pub record LaidWhole (plan : Plan) (last : ℕ) (b : Block) (t : Spot) (w : Work) : Type 0 where
   pub lines : w.lines.items ≡ lines_of (all_places plan last b t)
   pub marks : w.marks.items ≡ marks_of 0 (all_places plan last b t)
+  pub judged : IsJudged plan b t
+  pub repeats : nested b ≤ 8
 
 pub laid_whole : (plan : Plan) (last : ℕ) (b c : Block) (t : Spot) (w0 w1 w2 : Work) (f : Bool) → c ≡ b → w0.lines.items ≡ [] → w0.marks.items ≡ [] → w0.now ≡ t → Left plan 0 c w0 w1 f nothing →
     Lays w1 w2 (onward (way f w1) [] (alone last End 0)) → LaidWhole plan last b t w2
@@ -28,4 +31,6 @@ laid_whole plan last b c t w0 w1 w2 f same c0 l0 n0 left' lays =
     record {
       lines = lays.lines ∙ ap (λ ps. w1.lines.items ++ lines_of ps) ending_is ∙ ap (λ xs. xs ++ lines_of ending) code1 ∙ sym (lines_both body ending);
       marks = lays.marks ∙ ap (λ ps. w1.marks.items ++ marks_of (length w1.lines.items) ps) ending_is ∙ ap (λ n. w1.marks.items ++ marks_of n ending) at ∙ ap (λ xs. xs ++ marks_of (0 + length body) ending) labels1 ∙ sym (marks_both 0 body ending);
+      judged = h.judged;
+      repeats = let k = h.repeats (omega arith) in omega (arith, k);
     }

@@ -1,5 +1,5 @@
 -- Code that is laid down, piece by piece. No public contract needs this to be believed.
-use Rattle.std.specs.Prelude.{◌≡◌, ℕ, Bool, Vec, if◌then◌else◌, true, false, ◌&&◌, List, [], ◌∷◌, ◌++◌, slice_set, slice_get, length, map, Option, Some, None}
+use Rattle.std.specs.Prelude.{◌≡◌, ℕ, ◌+◌, ◌≤◌, Bool, Vec, if◌then◌else◌, true, false, ◌&&◌, List, [], ◌∷◌, ◌++◌, slice_set, slice_get, length, map, Option, Some, None}
 use Rattle.std.specs.Global.{Global}
 use Rattle.mux_config.specs.Configuration.{Configuration}
 use Rattle.plan_code.specs.declared.plan.Plan.{Plan}
@@ -12,7 +12,8 @@ use Rattle.script_scheme.specs.declared.flow.Spot.{Spot}
 use Rattle.script_scheme.specs.Scheme.{Place, onward, after, places, marks_of, alone, past, at_label, meet, join}
 use Rattle.plan_code.specs.declared.label.Label.{Label}
 use Rattle.script_scheme.specs.declared.flow.Mark.{Mark}
-use Rattle.script_scheme.specs.Compiled.{lines_of, Added, IsLabelOf}
+use Rattle.script_scheme.specs.Judged.{IsJudged, Reached, WaysAgree, BranchesAgree, ComesRound}
+use Rattle.script_scheme.specs.Compiled.{lines_of, nested, Added, IsLabelOf}
 use Rattle.script_compiler.specs.declared.work.Work.{Work}
 
 -- the meanings of defined blocks
@@ -41,6 +42,10 @@ pub record Left (plan : Plan) (r : ℕ) (b : Block) (old new : Work) (goes_on : 
   pub lays : Lays old new laid
   pub whole : places plan r (length old.lines.items) b old.now ≡ laid ++ onward (way goes_on new) [] (λ u. places plan r (length new.lines.items) rest u)
   pub leads : after plan b old.now ≡ onward (way goes_on new) None (λ u. after plan rest u)
+  pub judged : Reached (way goes_on new) rest (λ u. IsJudged plan rest u) → IsJudged plan b old.now
+  pub only : IsJudged plan b old.now → Reached (way goes_on new) rest (λ u. IsJudged plan rest u)
+  pub repeats : r + nested rest ≤ 8 → r + nested b ≤ 8
+  pub fewer : nested rest ≤ nested b
 
 abbrev pub line_at : ℕ → Instr → Line
 line_at line instr = record { number = line; instr = instr }
@@ -53,11 +58,12 @@ pub record Forks (line : ℕ) (i : Instr) (r : ℕ) (old new : Work) : Type 0 wh
   pub saved : new.saved.items ≡ old.saved.items ++ old.now ∷ []
 
 -- a loop goes back to its head, if its body falls out; what was kept there is kept no more
-pub record GoesRound (falls : Bool) (line r : ℕ) (back : Instr) (front : List Spot) (old new : Work) : Type 0 where
+pub record GoesRound (falls : Bool) (line r : ℕ) (back : Instr) (front : List Spot) (entry : Spot) (old new : Work) : Type 0 where
   pub lines : new.lines.items ≡ old.lines.items ++ lines_of (onward (way falls old) [] (alone line back r))
   pub marks : new.marks.items ≡ old.marks.items ++ marks_of (length old.lines.items) (onward (way falls old) [] (alone line back r))
   pub saved : new.saved.items ≡ front
   pub now : new.now ≡ (if falls then past old.now.flow else old.now)
+  pub round : ComesRound (way falls old) entry
 
 -- what is kept of a way
 abbrev pub kept : Option Spot → List Spot
@@ -70,6 +76,7 @@ pub record ClosesIf (falls : Bool) (line contact at : ℕ) (front : List Spot) (
   pub marks : new.marks.items ≡ old.marks.items
   pub saved : new.saved.items ≡ front
   pub met : meet (way falls old) (Some entry) ≡ Some new.now
+  pub agree : WaysAgree (way falls old) (Some entry)
 
 -- what a first branch adds at its end, where it falls out
 abbrev pub jumping : Bool → ℕ → ℕ → Work → List Place
@@ -95,6 +102,7 @@ pub record Arrives (a b : Option Spot) (front : List Spot) (line jump : ℕ) (ol
   pub marks : new.marks.items ≡ old.marks.items
   pub saved : new.saved.items ≡ front
   pub leads : way f new ≡ join a b
+  pub agree : BranchesAgree a b
 
 -- what stands in the one stands there in the other
 abbrev pub Grows : List Configuration → List Configuration → Type 0

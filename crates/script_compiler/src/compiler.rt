@@ -2,7 +2,8 @@
 
 ghost use Rattle.std.specs.Prelude.{◌≡◌, ◌≢◌, ℕ, ◌<◌, ◌≤◌, length, map, slice_index, IsOk, IfOk, IfErr};
 ghost use Rattle.script_scheme.specs.Scheme.{falls_out, all_places, marks_of};
-ghost use Rattle.script_scheme.specs.Compiled.{plan_of, lines_of, body_of, beginning, opening_of, places_of, instrs_of, AreFine, IsCodeOf, CostsItsNeeds};
+ghost use Rattle.script_scheme.specs.Compiled.{plan_of, lines_of, body_of, beginning, opening_of, places_of, instrs_of, nested, AreFine, IsCodeOf, CostsItsNeeds, IsAccepted};
+ghost use Rattle.script_scheme.specs.Judged.{IsJudged};
 ghost use Rattle.script_scheme.specs.Need.{IsWithin};
 ghost use Rattle.mux_config.specs.Configuration.{nothing};
 ghost use Rattle.mux_config.specs.Sound.{IsSound};
@@ -73,6 +74,9 @@ fn lay(alloc: Global, plan: &Plan, script: &Script, config: &Config) -> Result<W
     ensures marks { IfOk result (λ w. w.marks.items ≡ marks_of 0 (all_places plan.now
         script.now.last_line (body_of script.now) (beginning config.now))) }
     ensures room { IfOk result (λ w. length w.lines.items ≤ 4096) }
+    ensures judged { IsOk result → IsJudged plan.now (body_of script.now)
+        (beginning config.now) }
+    ensures repeats { IsOk result → nested (body_of script.now) ≤ 8 }
 {
     let known = known_of(alloc, script.blocks())?;
     let silent = silent_of(alloc, script.blocks())?;
@@ -143,8 +147,10 @@ fn promise(script: &Script, code: &Code)
 /// code needs from there, the most instructions that can run in one frame; and it is typed, so that the verifier accepts
 /// it. It plays as the script reads: from every start in range, over every list of contact changes and frames, the
 /// current and the next configuration, the frames until the swap and the CIF count are those to which the statements of
-/// the script lead. There is a code only where the items have no fault, the opening that they make is sound and goes out
-/// within the period, and no path of the code is longer than the budget.
+/// the script lead. There is a code only where the script is accepted: the items have no fault, the opening that they
+/// make is sound and goes out within the period, each statement may stand where it stands, repeats stand at most eight
+/// deep, the code keeps the limits on instructions, labels and configurations, and no path of it is longer than the
+/// budget.
 ///
 /// # Errors
 ///
@@ -156,6 +162,7 @@ fn promise(script: &Script, code: &Code)
 pub fn compile(alloc: Global, script: &Script) -> Result<Code, CompileFault>
     ensures code { IfOk result (λ c. IsCodeOf script.now c) }
     ensures costs { IfOk result (λ c. CostsItsNeeds c) }
+    ensures accepted { IsOk result → IsAccepted script.now }
     ensures made { IsOk result → AreFine script.now.items nothing }
     ensures sound { IsOk result → IsSound (opening_of script.now) }
     ensures within_period { IsOk result → pages_alone (plan_of script.now)

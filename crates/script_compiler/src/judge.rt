@@ -1,9 +1,12 @@
 //! What is known after a statement that is one instruction, or why it is refused.
 
-ghost use Rattle.std.specs.Prelude.{◌≡◌, OnOk};
-ghost use Rattle.mux_config.specs.Edits.{changed};
+ghost use Rattle.std.specs.Prelude.{◌≡◌, ◌≢◌, ◌↔◌, None, IsOk, IsTrue, OnOk};
+ghost use Rattle.mux_config.specs.Edits.{changed, edit_fault};
+ghost use Rattle.mux_config.specs.Sound.{IsSound};
+ghost use Rattle.plan_code.specs.Machine.{IsSwapCount};
 ghost use Rattle.plan_code.specs.declared.instr.Instr.TheVariants.{CommitIn, CommitAt};
-ghost use Rattle.plan_verifier.specs.Typing.{pages_alone, swapped, waited, paused, perhaps_swapped, settled};
+ghost use Rattle.plan_code.specs.declared.label.Swap.TheVariants.{Idle};
+ghost use Rattle.plan_verifier.specs.Typing.{pages_alone, swapped, waited, paused, perhaps_swapped, settled, HasRoom, IsCertain, IsSurelyPending, IsFine};
 ghost use Rattle.script_scheme.specs.Scheme.{known_at, flow_of, moved, instr_of};
 
 use crate::fault::CompileFault;
@@ -32,7 +35,9 @@ pub(crate) fn instr_of(act: Act) -> Instr
 }
 
 /// Whether no swap is pending.
-pub(crate) fn is_idle(pending: Swap) -> bool {
+pub(crate) fn is_idle(pending: Swap) -> bool
+    ensures { IsTrue result ↔ (pending ≡ Idle) }
+{
     match pending {
         Swap::Idle => true,
         Swap::Within(_, _) => false,
@@ -42,7 +47,11 @@ pub(crate) fn is_idle(pending: Swap) -> bool {
 
 /// Edits the next configuration: refused are `Pending` and `Edit`.
 fn change(edit: Edit, flow: &mut Flow) -> Result<(), Cause>
-    ensures { OnOk result (flow.new ≡ record flow.old { next = changed edit flow.old.next }) }
+    ensures left { OnOk result (flow.new ≡ record flow.old {
+      next = changed edit flow.old.next;
+    }) }
+    ensures fine { IsOk result ↔ ((flow.old.pending ≡ Idle)
+        × (edit_fault edit flow.old.next ≡ None)) }
 {
     if !is_idle(flow.pending) {
         return Err(Cause::Pending);
@@ -62,7 +71,9 @@ pub(crate) fn pages_alone(plan: &Plan, config: &Config) -> usize
 }
 
 /// Whether a notice has room for the pages of both configurations, and the period for those of each.
-fn has_room(plan: &Plan, flow: &Flow) -> bool {
+fn has_room(plan: &Plan, flow: &Flow) -> bool
+    ensures { IsTrue result ↔ HasRoom plan.now (known_at flow.now) }
+{
     let both = pages(plan.mode, &flow.current, Some(&flow.next));
     both <= usize::from(plan.period)
         && both <= usize::from(plan.notice) / 3
@@ -71,7 +82,10 @@ fn has_room(plan: &Plan, flow: &Flow) -> bool {
 
 /// Whether the next configuration can be committed, where no swap is pending: refused are `Config`, where it
 /// is not sound, `NoChange` and `Round`.
-fn test_change(plan: &Plan, flow: &Flow) -> Result<(), Cause> {
+fn test_change(plan: &Plan, flow: &Flow) -> Result<(), Cause>
+    ensures { IsOk result ↔ (IsSound flow.now.next × (flow.now.next ≢ flow.now.current)
+        × HasRoom plan.now (known_at flow.now)) }
+{
     if let Err(fault) = soundness(&flow.next) {
         return Err(Cause::Config(fault));
     }
@@ -86,7 +100,8 @@ fn test_change(plan: &Plan, flow: &Flow) -> Result<(), Cause> {
 
 /// Commits the next configuration, for a swap after this delay.
 fn commit_in(plan: &Plan, delay: Delay, flow: &mut Flow) -> Result<(), Cause>
-    ensures { OnOk result (flow.new ≡ moved plan.now (CommitIn delay) flow.old) }
+    ensures left { OnOk result (flow.new ≡ moved plan.now (CommitIn delay) flow.old) }
+    ensures fine { IsOk result ↔ IsFine plan.now (CommitIn delay) (known_at flow.old) }
 {
     let least = delay.get();
     if !is_idle(flow.pending) {
@@ -102,7 +117,8 @@ fn commit_in(plan: &Plan, delay: Delay, flow: &mut Flow) -> Result<(), Cause>
 
 /// Commits the next configuration, for a swap at this CIF count.
 fn commit_at(plan: &Plan, count: u16, flow: &mut Flow) -> Result<(), Cause>
-    ensures { OnOk result (flow.new ≡ moved plan.now (CommitAt count) flow.old) }
+    ensures left { OnOk result (flow.new ≡ moved plan.now (CommitAt count) flow.old) }
+    ensures fine { IsOk result ↔ IsFine plan.now (CommitAt count) (known_at flow.old) }
 {
     let notice = u16::from(plan.notice);
     if !is_idle(flow.pending) {
@@ -126,8 +142,9 @@ fn swap(flow: &mut Flow)
 
 /// This many frames have passed: refused is `SwapUncertain`, where the wait may end before the swap or after it.
 fn wait(frames: u16, flow: &mut Flow) -> Result<(), Cause>
-    ensures { OnOk result (flow.new ≡ flow_of (waited frames flow.old.pending
+    ensures left { OnOk result (flow.new ≡ flow_of (waited frames flow.old.pending
         (known_at flow.old))) }
+    ensures fine { IsOk result ↔ IsCertain frames flow.old.pending }
 {
     match flow.pending {
         Swap::Idle => {}
@@ -176,7 +193,8 @@ fn pause(flow: &mut Flow)
 
 /// Waits for the swap: refused is `JoinIdle`, where it may be that none is pending.
 fn join(flow: &mut Flow) -> Result<(), Cause>
-    ensures { OnOk result (flow.new ≡ flow_of (swapped (known_at flow.old))) }
+    ensures left { OnOk result (flow.new ≡ flow_of (swapped (known_at flow.old))) }
+    ensures fine { IsOk result ↔ IsSurelyPending flow.old.pending }
 {
     match flow.pending {
         Swap::Idle => return Err(Cause::JoinIdle),
@@ -198,34 +216,31 @@ fn settle(flow: &mut Flow)
     }
 }
 
-/// What is known after an instruction that is a statement, or why it is refused.
-fn step(plan: &Plan, instr: Instr, flow: &mut Flow) -> Result<(), Cause>
-    ensures { OnOk result (flow.new ≡ moved plan.now instr flow.old) }
+/// What is known after a statement that is one instruction, or why it is refused.
+fn step(plan: &Plan, act: Act, flow: &mut Flow) -> Result<(), Cause>
+    ensures left { OnOk result (flow.new ≡ moved plan.now (instr_of act) flow.old) }
+    ensures fine { IsOk result ↔ IsFine plan.now (instr_of act) (known_at flow.old) }
 {
-    match instr {
-        Instr::Edit(edit) => return change(edit, flow),
-        Instr::CommitIn(delay) => return commit_in(plan, delay, flow),
-        Instr::CommitAt(count) => return commit_at(plan, count, flow),
-        Instr::Wait(frames) => return wait(frames.get(), flow),
-        Instr::Join => return join(flow),
-        Instr::Until(_) => pause(flow),
-        Instr::WaitContact { .. } => pause(flow),
-        Instr::Settle => settle(flow),
-        _ => {}
+    match act {
+        Act::Edit(edit) => return change(edit, flow),
+        Act::CommitIn(delay) => return commit_in(plan, delay, flow),
+        Act::CommitAt(count) => return commit_at(plan, count, flow),
+        Act::Wait(frames) => return wait(frames.get(), flow),
+        Act::Join => return join(flow),
+        Act::Until(_) => pause(flow),
+        Act::WaitContact { .. } => pause(flow),
+        Act::Settle => settle(flow),
     }
     Ok(())
 }
 
-/// The same, where the instruction is that of a statement in this line.
-pub(crate) fn judge(
-    plan: &Plan,
-    line: u16,
-    instr: Instr,
-    flow: &mut Flow,
-) -> Result<(), CompileFault>
-    ensures left { OnOk result (flow.new ≡ moved plan.now instr flow.old) }
+/// The same, where the statement stands in this line. It may stand there exactly where its instruction needs no more
+/// than what is known.
+pub(crate) fn judge(plan: &Plan, line: u16, act: Act, flow: &mut Flow) -> Result<(), CompileFault>
+    ensures left { OnOk result (flow.new ≡ moved plan.now (instr_of act) flow.old) }
+    ensures fine { IsOk result ↔ IsFine plan.now (instr_of act) (known_at flow.old) }
 {
-    match step(plan, instr, flow) {
+    match step(plan, act, flow) {
         Ok(()) => Ok(()),
         Err(cause) => Err(CompileFault::Refused { line, cause }),
     }

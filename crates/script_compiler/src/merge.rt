@@ -1,19 +1,25 @@
 //! Where two ways through a script meet.
 
-ghost use Rattle.std.specs.Prelude.{◌≡◌, min, max, IfSome};
+ghost use Rattle.std.specs.Prelude.{◌≡◌, ◌↔◌, min, max, IsTrue, IsSome, IfSome};
 ghost use Rattle.script_scheme.specs.Scheme.{latest, widest, telling, merged};
+ghost use Rattle.script_scheme.specs.Judged.{FitsFlow};
 
 use mux_config::Store;
 use plan_code::Swap;
 use script_scheme::Flow;
 
 /// Whether both flows have the same configurations.
-fn has_same_configurations(flow: &Flow, other: &Flow) -> bool {
+fn has_same_configurations(flow: &Flow, other: &Flow) -> bool
+    ensures { IsTrue result ↔ ((flow.now.current ≡ other.now.current)
+        × (flow.now.next ≡ other.now.next)) }
+{
     flow.current.same(&other.current) && flow.next.same(&other.next)
 }
 
 /// Whether what is known fits what a label declares: it says as much or more.
-pub(crate) fn fits(flow: &Flow, label: &Flow) -> bool {
+pub(crate) fn fits(flow: &Flow, label: &Flow) -> bool
+    ensures { IsTrue result ↔ FitsFlow flow.now label.now }
+{
     match (flow.pending, label.pending) {
         (Swap::Idle, Swap::Idle) => has_same_configurations(flow, label),
         (Swap::Idle, Swap::Within(_, _)) => false,
@@ -86,7 +92,9 @@ fn telling(first: &Flow, second: &Flow) -> Flow
 
 /// What is known where two ways meet; None where one of them does not fit it.
 pub(crate) fn meeting(first: &Flow, second: &Flow) -> Option<Flow>
-    ensures { IfSome result (λ f. f ≡ merged first.now second.now) }
+    ensures met { IfSome result (λ f. f ≡ merged first.now second.now) }
+    ensures agree { IsSome result ↔ (FitsFlow first.now (merged first.now second.now)
+        × FitsFlow second.now (merged first.now second.now)) }
 {
     let mut met = telling(first, second);
     met.pending = widest(first.pending, second.pending);

@@ -7,7 +7,6 @@ ghost use Rattle.script_compiler.specs.Laying.{Left, tables, lays_nothing};
 
 use crate::falls::all_fall;
 use crate::fault::CompileFault;
-use crate::judge::instr_of;
 use crate::work::{Work, refused};
 use plan_code::{ContactId, CounterId, Instr, Plan, Times};
 use plan_verifier::Cause;
@@ -81,7 +80,7 @@ impl Work {
         ensures room { OnOk result (length self.new.lines.items ≤ 4096) }
     {
         match statement {
-            Statement::Act { line, act } => self.act(plan, *line, counters, &instr_of(*act)),
+            Statement::Act { line, act } => self.act(plan, *line, counters, act),
             Statement::End { line } => {
                 if let Err(fault) = self.put(*line, counters, Instr::End) {
                     return Err(fault);

@@ -4,18 +4,21 @@ ghost use Rattle.std.specs.Prelude.{◌≡◌, ℕ, ◌+◌, ◌<◌, ◌≤◌,
 ghost use Rattle.plan_code.specs.declared.instr.Instr.{Instr};
 ghost use Rattle.plan_code.specs.declared.instr.Instr.TheVariants.{End};
 ghost use Rattle.script_scheme.specs.declared.flow.Spot.{Spot};
-ghost use Rattle.script_scheme.specs.Scheme.{past, at_label, moved, alone, onward, meet, marks_of};
+ghost use Rattle.script_scheme.specs.Scheme.{past, at_label, known_at, moved, alone, onward, meet, marks_of, instr_of};
+ghost use Rattle.script_scheme.specs.Judged.{WaysAgree};
+ghost use Rattle.plan_verifier.specs.Typing.{IsFine};
 ghost use Rattle.script_scheme.specs.Compiled.{lines_of};
 ghost use Rattle.script_compiler.specs.Laying.{Lays, Forks, ClosesIf, Turns, GoesRound, Arrives, line_at, way, kept};
 
 use crate::fault::CompileFault;
-use crate::judge::judge;
+use crate::judge::{instr_of, judge};
 use crate::merge::{fits, meeting};
 use crate::table::{index_of, size_with};
 use mux_config::Config;
 use plan_code::limits::{MOST_CONFIGURATIONS, MOST_INSTRUCTIONS, MOST_LABELS};
 use plan_code::{ContactId, Instr, Line, Plan};
 use plan_verifier::Cause;
+use script_front::Act;
 use script_scheme::{Mark, Spot};
 
 /// What has been laid down, and what is known there.
@@ -115,23 +118,25 @@ impl Work {
         plan: &Plan,
         line: u16,
         counters: u8,
-        instr: &Instr,
+        act: &Act,
     ) -> Result<bool, CompileFault>
         requires room { length self.old.lines.items ≤ 4096 }
         ensures goes_on { IfOk result (λ f. f ≡ true) }
         ensures lays { OnOk result (Lays self.old self.new
-            (alone line instr.now counters self.old.now)) }
+            (alone line (instr_of act.now) counters self.old.now)) }
         ensures now { OnOk result (self.new.now ≡ past
-            (moved plan.now instr.now self.old.now.flow)) }
+            (moved plan.now (instr_of act.now) self.old.now.flow)) }
+        ensures fine { OnOk result (IsFine plan.now (instr_of act.now)
+            (known_at self.old.now.flow)) }
         ensures room { OnOk result (length self.new.lines.items ≤ 4096) }
     {
         if let Err(fault) = self.put_label(counters) {
             return Err(fault);
         }
-        if let Err(fault) = judge(plan, line, *instr, &mut self.now.flow) {
+        if let Err(fault) = judge(plan, line, *act, &mut self.now.flow) {
             return Err(fault);
         }
-        if let Err(fault) = self.put_instr(line, *instr) {
+        if let Err(fault) = self.put_instr(line, instr_of(*act)) {
             return Err(fault);
         }
         Ok(true)
@@ -243,7 +248,8 @@ impl Work {
         requires saved { 0 < length self.old.saved.items }
         requires few { length self.old.lines.items ≤ 4096 }
         ensures round { OnOk result ((front : List Spot) (entry : Spot) → self.old.saved.items
-            ≡ front ++ entry ∷ [] → GoesRound falls line counters back front self.old self.new) }
+            ≡ front
+            ++ entry ∷ [] → GoesRound falls line counters back front entry self.old self.new) }
         ensures room { OnOk result (length self.new.lines.items ≤ 4096) }
     {
         let entry = self.restore();
@@ -262,6 +268,7 @@ impl Work {
         ensures marks { self.new.marks ≡ self.old.marks }
         ensures saved { self.new.saved ≡ self.old.saved }
         ensures met { OnOk result (meet (way falls self.old) (Some other) ≡ Some self.new.now) }
+        ensures agree { OnOk result (WaysAgree (way falls self.old) (Some other)) }
     {
         if !falls {
             self.now = other;

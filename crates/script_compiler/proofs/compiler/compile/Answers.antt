@@ -1,4 +1,4 @@
-use Rattle.std.proofs.Common.{ℕ, List, ap, ◌∙◌, ◌≡◌, ◌≤◌, arith, refl, subst, get_or, ◌+◌}
+use Rattle.std.proofs.Common.{ℕ, List, [], sym, ap, ◌∙◌, ◌≡◌, ◌≤◌, arith, refl, subst, get_or, ◌+◌}
 use Rattle.plan_code.specs.declared.instr.Line.{Line}
 use Rattle.plan_code.specs.Program.{Program}
 use Rattle.plan_code.specs.declared.plan.Plan.{Plan}
@@ -9,6 +9,17 @@ use Rattle.script_scheme.specs.Compiled.{plan_of, with_items, opening_of, body_o
 use Rattle.script_compiler.proofs.Paths.{within_from}
 use Rattle.script_compiler.specs.Longest.{longest, Priced}
 use Rattle.script_compiler.proofs.Tabling.{costs_needs}
+use Rattle.mux_config.specs.Configuration.{Configuration}
+use Rattle.mux_config.specs.Sound.{IsSound}
+use Rattle.plan_code.specs.declared.label.Label.{Label}
+use Rattle.plan_code.specs.Program.{IsProgram}
+use Rattle.plan_verifier.specs.Typing.{pages_alone}
+use Rattle.script_front.specs.declared.tree.Item.{Item}
+use Rattle.script_scheme.specs.declared.flow.Mark.{Mark}
+use Rattle.script_scheme.specs.Scheme.{marks_of}
+use Rattle.script_scheme.specs.Judged.{IsJudged}
+use Rattle.script_scheme.specs.Compiled.{AreFine, Tabled, AreLabelsOf, IsCodeOf}
+use Rattle.script_compiler.proofs.Accepting.{is_accepted}
 use Rattle.script_compiler.proofs.compiler.compile.Goals as goal
 
 pub returns-in-Some-clause-costs : goal.returns-in-Some-clause-costs
@@ -38,3 +49,46 @@ returns-in-Some-clause-within_budget c = λ e.
     let within : (pc : ℕ) → longest (instrs_of lines) (budget + 1) pc ≤ budget = λ pc. let h = c.in_ok-test_costs.ensures.within refl pc in let x = ap (λ xs. get_or xs pc 0) c.deref-3.ensures.value in let y = each pc in omega (arith, h, x, y) in
     let all : IsWithin budget (instrs_of lines) = within_from (instrs_of lines) budget within in
     subst (λ b. IsWithin b (instrs_of (lines_of (places_of s)))) budget_is (subst (λ (ls : List Line). IsWithin budget (instrs_of ls)) lines_are all)
+
+pub returns-in-Some-clause-accepted : goal.returns-in-Some-clause-accepted
+returns-in-Some-clause-accepted c = λ e.
+    let s = c.args.script.now in
+    let code = c.in-Some.code in
+    let lines = c.in_ok-work.work.lines.items in
+    let marks = c.in_ok-work.work.marks.items in
+    let configs = c.in_ok-made.made.configs.items in
+    let labels = c.in_ok-made.made.labels.items in
+    let needs = c.in_ok-costs.costs.items in
+    let budget = c.plan_of-plan.result.budget in
+    let config = c.in_ok-config.config in
+    let plan_is : c.plan_of-plan.result ≡ plan_of s = c.plan_of-plan.ensures in
+    let config_is : config ≡ opening_of s = c.in_ok-config.ensures.made ∙ ap (λ xs. with_items xs nothing) c.items.ensures.value in
+    let places_are = ap (λ (p : Plan). all_places p s.last_line (body_of s) (beginning config)) plan_is ∙ ap (λ x. all_places (plan_of s) s.last_line (body_of s) (beginning x)) config_is in
+    let lines_are : lines ≡ lines_of (places_of s) = c.in_ok-work.ensures.lines ∙ ap lines_of places_are in
+    let marks_are : marks ≡ marks_of 0 (places_of s) = c.in_ok-work.ensures.marks ∙ ap (λ ps. marks_of 0 ps) places_are in
+    let marks_of_table = c.deref-4.ensures.value ∙ marks_are in
+    let same = c.in-Some.ensures.value in
+    let configs_are : code.configurations ≡ configs = ap (λ (p : Program). p.configurations) same in
+    let labels_are : code.labels ≡ labels = ap (λ (p : Program). p.labels) same in
+    let tabled : Tabled [] (marks_of 0 (places_of s)) configs = subst (λ (ms : List Mark). Tabled [] ms configs) marks_of_table c.in_ok-made.ensures.table in
+    let labelled : AreLabelsOf configs (marks_of 0 (places_of s)) labels = subst (λ (ms : List Mark). AreLabelsOf configs ms labels) marks_of_table c.in_ok-made.ensures.labels in
+    let labelled' : AreLabelsOf code.configurations (marks_of 0 (places_of s)) labels = subst (λ (t : List Configuration). AreLabelsOf t (marks_of 0 (places_of s)) labels) (sym configs_are) labelled in
+    let is : IsCodeOf s code = record {
+      plan = ap (λ (p : Program). p.plan) same ∙ plan_is;
+      lines = ap (λ (p : Program). p.lines) same ∙ lines_are;
+      table = subst (λ (t : List Configuration). Tabled [] (marks_of 0 (places_of s)) t) (sym configs_are) tabled;
+      labels = subst (λ (ls : List Label). AreLabelsOf code.configurations (marks_of 0 (places_of s)) ls) (sym labels_are) labelled';
+    } in
+    let formed : IsProgram code = subst IsProgram (sym same) (c.in-Some.ensures.within.0 refl) in
+    let fine : AreFine s.items nothing = subst (λ (xs : List Item). AreFine xs nothing) c.items.ensures.value (c.in_ok-config.ensures.fine refl) in
+    let sound : IsSound (opening_of s) = subst IsSound config_is (c.in_ok-test.ensures.sound refl) in
+    let period : pages_alone (plan_of s) (opening_of s) ≤ s.header.period =
+    subst (λ (x : Configuration). pages_alone (plan_of s) x ≤ s.header.period) config_is (subst (λ (p : Plan). pages_alone p config ≤ p.period) plan_is (c.in_ok-test.ensures.within refl)) in
+    let judged : IsJudged (plan_of s) (body_of s) (beginning (opening_of s)) =
+    subst (λ (x : Configuration). IsJudged (plan_of s) (body_of s) (beginning x)) config_is (subst (λ (p : Plan). IsJudged p (body_of s) (beginning config)) plan_is (c.in_ok-work.ensures.judged refl)) in
+    let budget_is : budget ≡ s.header.budget = ap (λ (p : Plan). p.budget) plan_is in
+    let each : (pc : ℕ) → get_or needs pc 0 ≡ longest (instrs_of lines) (budget + 1) pc = λ pc. c.in_ok-costs.ensures pc ∙ ap (λ (ls : List Line). longest (instrs_of ls) (budget + 1) pc) c.deref.ensures.value in
+    let within : (pc : ℕ) → longest (instrs_of lines) (budget + 1) pc ≤ budget = λ pc. let h = c.in_ok-test_costs.ensures.within refl pc in let x = ap (λ xs. get_or xs pc 0) c.deref-3.ensures.value in let y = each pc in omega (arith, h, x, y) in
+    let all : IsWithin budget (instrs_of lines) = within_from (instrs_of lines) budget within in
+    let afford : IsWithin s.header.budget (instrs_of (lines_of (places_of s))) = subst (λ b. IsWithin b (instrs_of (lines_of (places_of s)))) budget_is (subst (λ (ls : List Line). IsWithin budget (instrs_of ls)) lines_are all) in
+    is_accepted s code formed is fine sound period judged (c.in_ok-work.ensures.repeats refl) afford

@@ -26,3 +26,21 @@ returns-in-Ok-close-clause-marks c =
     let lays = subst (λ n. Lays c.block.new.self c.close.new.self (onward (way c.in-Ok.falls c.block.new.self) [] (alone n End 0))) c.last_line.ensures c.in-Ok-close.ensures.lays in
     let whole = laid_whole c.args.plan.now s.last_line (body_of s) (block_of (tables c.blocks-4.result.now) c.statements.result.now) (beginning c.args.config.now) w0 c.block.new.self c.close.new.self c.in-Ok.falls same c.new.ensures.items c.new-2.ensures.items (ap (λ (t : Flow). at_label t) c.opening.ensures) c.in-Ok.ensures.left lays in
     whole.marks
+
+pub returns-in-Ok-close-clause-judged : goal.returns-in-Ok-close-clause-judged
+returns-in-Ok-close-clause-judged c =
+    let s = c.args.script.now in
+    let w0 : Work = record { lines = c.new.result; marks = c.new-2.result; configs = c.new-3.result; now = record { flow = c.opening.result; labelled = true }; saved = c.new-4.result } in
+    let same : block_of (tables c.blocks-4.result.now) c.statements.result.now ≡ body_of s = ap (λ xs. block_of (table_of [] xs) c.statements.result.now) c.blocks-4.ensures.value ∙ ap (λ xs. block_of (table_of [] s.blocks) xs) c.statements.ensures.value in
+    let lays = subst (λ n. Lays c.block.new.self c.close.new.self (onward (way c.in-Ok.falls c.block.new.self) [] (alone n End 0))) c.last_line.ensures c.in-Ok-close.ensures.lays in
+    let whole = laid_whole c.args.plan.now s.last_line (body_of s) (block_of (tables c.blocks-4.result.now) c.statements.result.now) (beginning c.args.config.now) w0 c.block.new.self c.close.new.self c.in-Ok.falls same c.new.ensures.items c.new-2.ensures.items (ap (λ (t : Flow). at_label t) c.opening.ensures) c.in-Ok.ensures.left lays in
+    (λ _. whole.judged)
+
+pub returns-in-Ok-close-clause-repeats : goal.returns-in-Ok-close-clause-repeats
+returns-in-Ok-close-clause-repeats c =
+    let s = c.args.script.now in
+    let w0 : Work = record { lines = c.new.result; marks = c.new-2.result; configs = c.new-3.result; now = record { flow = c.opening.result; labelled = true }; saved = c.new-4.result } in
+    let same : block_of (tables c.blocks-4.result.now) c.statements.result.now ≡ body_of s = ap (λ xs. block_of (table_of [] xs) c.statements.result.now) c.blocks-4.ensures.value ∙ ap (λ xs. block_of (table_of [] s.blocks) xs) c.statements.ensures.value in
+    let lays = subst (λ n. Lays c.block.new.self c.close.new.self (onward (way c.in-Ok.falls c.block.new.self) [] (alone n End 0))) c.last_line.ensures c.in-Ok-close.ensures.lays in
+    let whole = laid_whole c.args.plan.now s.last_line (body_of s) (block_of (tables c.blocks-4.result.now) c.statements.result.now) (beginning c.args.config.now) w0 c.block.new.self c.close.new.self c.in-Ok.falls same c.new.ensures.items c.new-2.ensures.items (ap (λ (t : Flow). at_label t) c.opening.ensures) c.in-Ok.ensures.left lays in
+    (λ _. whole.repeats)

@@ -1,4 +1,4 @@
-use Rattle.std.proofs.Common.{◌≡◌, ◌+◌, ◌<◌, ap, sym, ◌∙◌, take, length, arith}
+use Rattle.std.proofs.Common.{◌≡◌, ◌+◌, ◌<◌, ap, sym, ◌∙◌, refl, take, length, arith}
 use Rattle.std.proofs.lemmas.List.{length-take}
 use Rattle.script_front.specs.Block.{nothing, basic, when, either, repeat, forever, apply, named_at, before, block_of}
 use Rattle.script_scheme.specs.Scheme.{falls_out}
@@ -24,23 +24,23 @@ either-returns-clause-left t c =
     let first = block_of (tables c.args.blocks.now) c.args.first.now in
     let second = block_of (tables c.args.blocks.now) c.args.second.now in
     ok_map c.close_else.result (λ f h. either_step c.args.plan.now c.args.counters c.args.line c.args.contact c.len-at.result c.len-jump.result first second c.args.self.now c.fork.new.self c.block.new.self c.turn.new.self c.block-2.new.self c.close_else.new.self c.in-Ok.falls c.in-Ok-block.falls f
-    (c.len-at.ensures ∙ c.args.self.now.lines.ok.0) (c.len-jump.ensures ∙ c.block.new.self.lines.ok.0) c.in_default.ensures.forks c.in-Ok.ensures.left c.in_default-turn.ensures.turns c.in-Ok-block.ensures.left h) c.close_else.ensures.arrives
+    c.requires.counters (c.len-at.ensures ∙ c.args.self.now.lines.ok.0) (c.len-jump.ensures ∙ c.block.new.self.lines.ok.0) c.in_default.ensures.forks c.in-Ok.ensures.left c.in_default-turn.ensures.turns c.in-Ok-block.ensures.left h) c.close_else.ensures.arrives
 
 pub forever-returns-clause-left : goal.forever-returns-clause-left
 forever-returns-clause-left t c =
     let body = block_of (tables c.args.blocks.now) c.args.body.now in
     forever_step c.args.plan.now c.args.counters c.args.line body c.args.self.now c.enter.new.self c.block.new.self c.go_round.new.self c.in-Ok.falls c.all_fall.result c.len-target.result
-    (c.len-target.ensures ∙ c.args.self.now.lines.ok.0) (c.all_fall.ensures (tables c.args.blocks.now) c.requires.known) c.in_default.ensures.lines c.in_default.ensures.marks c.in_default.ensures.now c.in_default.ensures.saved c.in-Ok.ensures.left c.in_default-go_round.ensures.round
+    c.requires.counters (c.len-target.ensures ∙ c.args.self.now.lines.ok.0) (c.all_fall.ensures (tables c.args.blocks.now) c.requires.known) c.in_default.ensures.lines c.in_default.ensures.marks c.in_default.ensures.now c.in_default.ensures.saved c.in-Ok.ensures.left c.in_default-go_round.ensures.round
 
 pub repeat-returns-clause-left : goal.repeat-returns-clause-left
 repeat-returns-clause-left t c =
     let body = block_of (tables c.args.blocks.now) c.args.body.now in
     repeat_step c.args.plan.now c.args.counters c.args.line c.args.times body c.args.self.now c.put.new.self c.enter.new.self c.block.new.self c.go_round.new.self c.in-Ok.falls c.all_fall.result c.len-target.result c.in-Some.counter
-    c.in-Some.ensures.value c.in_default-put.ensures.lays c.in_default-put.ensures.now (c.len-target.ensures ∙ c.put.new.self.lines.ok.0) (c.all_fall.ensures (tables c.args.blocks.now) c.requires.known) c.in_default-enter.ensures.lines c.in_default-enter.ensures.marks c.in_default-enter.ensures.now c.in_default-enter.ensures.saved c.in-Ok.ensures.left c.in_default-go_round.ensures.round
+    (let lt : c.args.counters < 8 = c.in-Some.ensures.in_range.0 refl in omega (arith, lt)) c.in-Some.ensures.value c.in_default-put.ensures.lays c.in_default-put.ensures.now (c.len-target.ensures ∙ c.put.new.self.lines.ok.0) (c.all_fall.ensures (tables c.args.blocks.now) c.requires.known) c.in_default-enter.ensures.lines c.in_default-enter.ensures.marks c.in_default-enter.ensures.now c.in_default-enter.ensures.saved c.in-Ok.ensures.left c.in_default-go_round.ensures.round
 
 pub statement-returns-then-number-blocks-clause-left : goal.statement-returns-then-number-blocks-clause-left
 statement-returns-then-number-blocks-clause-left t c =
-    unnamed_step c.args.plan.now c.args.counters c.in-Apply.line c.args.blocks.now c.args.statement.now c.in-Apply.block c.from-number.result c.args.self.now (λ rest. is_apply (tables c.args.blocks.now) c.args.statement.now c.in-Apply.line c.in-Apply.block c.in-Apply.is rest) (c.from-number.ensures ∙ c.get.ensures.value) c.if-number-blocks.true
+    unnamed_step c.args.plan.now c.args.counters c.in-Apply.line c.args.blocks.now c.args.statement.now c.in-Apply.block c.from-number.result c.args.self.now c.requires.counters (λ rest. is_apply (tables c.args.blocks.now) c.args.statement.now c.in-Apply.line c.in-Apply.block c.in-Apply.is rest) (c.from-number.ensures ∙ c.get.ensures.value) c.if-number-blocks.true
 
 pub statement-bounds-silent-number : goal.statement-bounds-silent-number
 statement-bounds-silent-number t c =
@@ -50,7 +50,7 @@ pub statement-returns-then-silent-number-clause-left : goal.statement-returns-th
 statement-returns-then-silent-number-clause-left t c =
     let n = told_length lays_nothing c.args.silent.now c.args.blocks.now c.requires.silent in
     let lt : c.from-number.result < length c.args.silent.now = omega (arith, n, c.if-number-blocks.false) in
-    silent_step c.args.plan.now c.args.counters c.in-Apply.line c.args.blocks.now c.args.statement.now c.in-Apply.block c.from-number.result c.args.silent.now c.args.self.now (λ rest. is_apply (tables c.args.blocks.now) c.args.statement.now c.in-Apply.line c.in-Apply.block c.in-Apply.is rest) (c.from-number.ensures ∙ c.get.ensures.value) c.requires.silent lt c.if-silent-number.true
+    silent_step c.args.plan.now c.args.counters c.in-Apply.line c.args.blocks.now c.args.statement.now c.in-Apply.block c.from-number.result c.args.silent.now c.args.self.now c.requires.counters (λ rest. is_apply (tables c.args.blocks.now) c.args.statement.now c.in-Apply.line c.in-Apply.block c.in-Apply.is rest) (c.from-number.ensures ∙ c.get.ensures.value) c.requires.silent lt c.if-silent-number.true
 
 pub statement-slice_bounds-block-end : goal.statement-slice_bounds-block-end
 statement-slice_bounds-block-end t c =
@@ -77,7 +77,7 @@ pub statement-returns-in-Act-clause-left : goal.statement-returns-in-Act-clause-
 statement-returns-in-Act-clause-left t c =
     let table = tables c.args.blocks.now in
     left_as c.args.plan.now c.args.counters c.args.self.now c.act.new.self c.act.result (λ rest. before table c.args.statement.now rest) (λ rest. basic c.in-Act.line c.in-Act.act rest) (λ rest. is_act table c.args.statement.now c.in-Act.line c.in-Act.act c.in-Act.is rest)
-    (act_step c.args.plan.now c.args.counters c.in-Act.line c.in-Act.act c.instr_of.result c.args.self.now c.act.new.self c.act.result c.instr_of.ensures c.act.ensures.goes_on c.act.ensures.lays c.act.ensures.now)
+    (act_step c.args.plan.now c.args.counters c.in-Act.line c.in-Act.act c.args.self.now c.act.new.self c.act.result c.act.ensures.goes_on c.act.ensures.lays c.act.ensures.now c.act.ensures.fine)
 
 pub statement-returns-in-If-clause-left : goal.statement-returns-in-If-clause-left
 statement-returns-in-If-clause-left t c =
@@ -108,7 +108,7 @@ statement-returns-else-silent-number-clause-left t c =
     let lt : k < length bs = omega (arith, c.if-number-blocks.false) in
     let at = tables_at bs k c.index-blocks-number.result c.index-blocks-number.is lt in
     let inner = block_of (tables (take k bs)) c.deref-in-Apply.result.now in
-    apply_left c.args.plan.now c.args.counters c.in-Apply.line c.in-Apply.block inner (λ rest. before table c.args.statement.now rest) c.args.self.now c.block.new.self c.block.result
+    apply_left c.args.plan.now c.args.counters c.in-Apply.line c.in-Apply.block inner (λ rest. before table c.args.statement.now rest) c.args.self.now c.block.new.self c.block.result c.requires.counters
     (λ rest. is_apply table c.args.statement.now c.in-Apply.line c.in-Apply.block c.in-Apply.is rest ∙ ap (λ n. apply c.in-Apply.line c.in-Apply.block (named_at table n) rest) (sym (c.from-number.ensures ∙ c.get.ensures.value)) ∙ ap (λ b. apply c.in-Apply.line c.in-Apply.block b rest) at ∙ ap (λ x. apply c.in-Apply.line c.in-Apply.block (block_of (tables (take k bs)) x) rest) (sym c.deref-in-Apply.ensures.value))
     c.block.ensures.left
 
@@ -116,4 +116,4 @@ pub when-returns-clause-left : goal.when-returns-clause-left
 when-returns-clause-left t c =
     let first = block_of (tables c.args.blocks.now) c.args.first.now in
     when_step c.args.plan.now c.args.counters c.args.line c.args.contact c.len-at.result first c.args.self.now c.fork.new.self c.block.new.self c.close_if.new.self c.in-Ok.falls c.close_if.result
-    (c.len-at.ensures ∙ c.args.self.now.lines.ok.0) c.in_default.ensures.forks c.in-Ok.ensures.left c.close_if.ensures.goes_on c.close_if.ensures.closes
+    c.requires.counters (c.len-at.ensures ∙ c.args.self.now.lines.ok.0) c.in_default.ensures.forks c.in-Ok.ensures.left c.close_if.ensures.goes_on c.close_if.ensures.closes

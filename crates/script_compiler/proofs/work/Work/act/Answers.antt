@@ -1,17 +1,26 @@
-use Rattle.std.proofs.Common.{Bool, ap, ◌∙◌}
+use Rattle.std.proofs.Common.{Bool, ◌++◌, ◌∷◌, [], ap, ◌∙◌, subst, refl}
+use Rattle.plan_verifier.specs.Typing.{IsFine}
+use Rattle.plan_code.specs.declared.instr.Instr.{Instr}
 use Rattle.script_scheme.specs.declared.flow.Flow.{Flow}
 use Rattle.script_scheme.specs.declared.flow.Spot.{Spot}
-use Rattle.script_scheme.specs.Scheme.{moved}
+use Rattle.script_scheme.specs.Scheme.{known_at, moved, instr_of}
+use Rattle.script_compiler.specs.Laying.{line_at}
 use Rattle.script_compiler.proofs.Putting.{put_lays}
 use Rattle.script_compiler.proofs.work.Work.act.Goals as goal
 
 pub returns-clause-lays : goal.returns-clause-lays
 returns-clause-lays c =
-    put_lays c.args.line c.args.counters c.args.instr.now c.args.self.now c.put_label.new.self c.put_instr.new.self
-    c.put_label.ensures.lines c.put_label.ensures.saved (c.in_default.ensures.marks c.args.line c.args.instr.now) c.put_instr.ensures.saved c.put_instr.ensures.marks c.in_default-put_instr.ensures.lines
+    let i = instr_of c.args.act.now in
+    put_lays c.args.line c.args.counters i c.args.self.now c.put_label.new.self c.put_instr.new.self
+    c.put_label.ensures.lines c.put_label.ensures.saved (c.in_default.ensures.marks c.args.line i) c.put_instr.ensures.saved c.put_instr.ensures.marks
+    (c.in_default-put_instr.ensures.lines ∙ ap (λ (x : Instr). c.put_label.new.self.lines.items ++ line_at c.args.line x ∷ []) c.instr_of.ensures)
 
 pub returns-clause-now : goal.returns-clause-now
 returns-clause-now c =
+    let i = instr_of c.args.act.now in
     c.put_instr.ensures.now
-    ∙ ap (λ (t : Flow). let s : Spot = record { flow = t; labelled = c.put_label.new.self.now.labelled } in s) (c.in_default-judge.ensures.left ∙ ap (λ (s : Spot). moved c.args.plan.now c.args.instr.now s.flow) c.in_default.ensures.now)
-    ∙ ap (λ (b : Bool). let s : Spot = record { flow = moved c.args.plan.now c.args.instr.now c.args.self.now.now.flow; labelled = b } in s) (ap (λ (s : Spot). s.labelled) c.in_default.ensures.now)
+    ∙ ap (λ (t : Flow). let s : Spot = record { flow = t; labelled = c.put_label.new.self.now.labelled } in s) (c.in_default-judge.ensures.left ∙ ap (λ (s : Spot). moved c.args.plan.now i s.flow) c.in_default.ensures.now)
+    ∙ ap (λ (b : Bool). let s : Spot = record { flow = moved c.args.plan.now i c.args.self.now.now.flow; labelled = b } in s) (ap (λ (s : Spot). s.labelled) c.in_default.ensures.now)
+
+pub returns-clause-fine : goal.returns-clause-fine
+returns-clause-fine c = subst (λ (s : Spot). IsFine c.args.plan.now (instr_of c.args.act.now) (known_at s.flow)) c.in_default.ensures.now (c.in_default-judge.ensures.fine.0 refl)
