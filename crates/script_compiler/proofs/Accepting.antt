@@ -2,7 +2,9 @@
 use Rattle.std.proofs.Common.{◌≡◌, ◌≤◌, List, [], ◌∷◌, length, inl, inr, sym, ap, ◌∙◌, subst, arith}
 use Rattle.mux_config.specs.Configuration.{Configuration, nothing}
 use Rattle.mux_config.specs.Sound.{IsSound}
+use Rattle.plan_code.specs.declared.instr.Line.{Line}
 use Rattle.plan_code.specs.declared.label.Label.{Label}
+use Rattle.plan_code.specs.declared.plan.Plan.{Plan}
 use Rattle.plan_code.specs.Program.{Program, IsProgram}
 use Rattle.plan_verifier.specs.Typing.{pages_alone}
 use Rattle.script_front.specs.Tree.{Tree}
@@ -46,4 +48,14 @@ is_accepted s code formed is made sound period judged repeats within = record {
       let e = ap length (tabled_one (marks_of 0 (places_of s)) [] code.configurations table is.table h) in omega (arith, e, formed.configurations_to);
   repeats = repeats;
   within = within;
+}
+
+-- parts that were made of what was laid down are the code of a script
+pub is_code_of : (s : Tree) (plan : Plan) (configs : List Configuration) (labels : List Label) (lines : List Line) (marks : List Mark) → plan ≡ plan_of s → lines ≡ lines_of (places_of s) → marks ≡ marks_of 0 (places_of s) → Tabled [] marks configs
+    → AreLabelsOf configs marks labels → IsCodeOf s (record { plan = plan; configurations = configs; labels = labels; lines = lines })
+is_code_of s plan configs labels lines marks plan_is lines_are marks_are tabled labelled = record {
+  plan = plan_is;
+  lines = lines_are;
+  table = subst (λ (ms : List Mark). Tabled [] ms configs) marks_are tabled;
+  labels = subst (λ (ms : List Mark). AreLabelsOf configs ms labels) marks_are labelled;
 }

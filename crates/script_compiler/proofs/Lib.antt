@@ -10,3 +10,4 @@ mod Steps
 mod Tabling
 mod Whole
 mod Accepting
+mod Refusing

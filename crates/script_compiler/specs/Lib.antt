@@ -1,2 +1,3 @@
+pub mod Refusals
 pub mod Laying
 pub mod Longest

@@ -1,7 +1,8 @@
 //! Whether a code that has been laid down is typed.
 
-ghost use Rattle.std.specs.Prelude.{◌≡◌, IsOk, IfOk};
+ghost use Rattle.std.specs.Prelude.{◌≡◌, IsOk, IfOk, IfErr};
 ghost use Rattle.plan_verifier.specs.Typing.{IsTyped};
+ghost use Rattle.script_compiler.specs.Refusals.{IsRefusal};
 
 use crate::fault::CompileFault;
 use crate::work::refused;
@@ -37,13 +38,18 @@ pub(crate) fn test_typed(
     labels: &[Label],
     lines: &[Line],
 ) -> Result<(), CompileFault>
-    ensures { IsOk result → IsTyped (record {
+    ensures typed { IsOk result → IsTyped (record {
       plan = plan;
       configurations = configs.now;
-      labels =
-          labels.now;
+      labels = labels.now;
       lines = lines.now;
     }) }
+    ensures refused { IfErr result (λ e. IsRefusal e → IsTyped (record {
+      plan = plan;
+      configurations = configs.now;
+      labels = labels.now;
+      lines = lines.now;
+    }) → ⊥) }
 {
     let configs = copies(alloc, configs)?;
     let mut label_copies = Vec::new(alloc);

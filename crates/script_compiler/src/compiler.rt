@@ -8,6 +8,7 @@ ghost use Rattle.script_scheme.specs.Need.{IsWithin};
 ghost use Rattle.mux_config.specs.Configuration.{nothing};
 ghost use Rattle.mux_config.specs.Sound.{IsSound};
 ghost use Rattle.script_compiler.specs.Laying.{tables, lays_nothing};
+ghost use Rattle.script_compiler.specs.Refusals.{IsRefusal, IsTypedAsCode};
 ghost use Rattle.script_compiler.specs.declared.fault.CompileFault.TheVariants.{Memory};
 ghost use Rattle.plan_code.specs.Program.{IsProgram};
 ghost use Rattle.plan_verifier.specs.Typing.{IsTyped, pages_alone};
@@ -77,6 +78,8 @@ fn lay(alloc: Global, plan: &Plan, script: &Script, config: &Config) -> Result<W
     ensures judged { IsOk result → IsJudged plan.now (body_of script.now)
         (beginning config.now) }
     ensures repeats { IsOk result → nested (body_of script.now) ≤ 8 }
+    ensures refused { IfErr result (λ e. IsRefusal e → IsJudged plan.now (body_of script.now)
+        (beginning config.now) → ⊥) }
 {
     let known = known_of(alloc, script.blocks())?;
     let silent = silent_of(alloc, script.blocks())?;
@@ -171,6 +174,8 @@ pub fn compile(alloc: Global, script: &Script) -> Result<Code, CompileFault>
         (instrs_of (lines_of (places_of script.now))) }
     ensures typed { IfOk result (λ c. IsTyped c) }
     ensures plays { IfOk result (λ c. PlaysAsItReads script.now c) }
+    ensures refused { IfErr result (λ e. IsRefusal e → IsAccepted script.now
+        → IsTypedAsCode script.now → ⊥) }
 {
     let plan = plan_of(script);
     let config = built(script.items())?;
@@ -179,7 +184,9 @@ pub fn compile(alloc: Global, script: &Script) -> Result<Code, CompileFault>
     let costs = needs(alloc, &work.lines, plan.budget)?;
     test_costs(alloc, &work.lines, &costs, plan.budget)?;
     let made = labels_of(alloc, &work.marks, &costs)?;
-    test_typed(alloc, plan, &made.configs, &made.labels, &work.lines)?;
+    if let Err(fault) = test_typed(alloc, plan, &made.configs, &made.labels, &work.lines) {
+        return Err(fault);
+    }
     match Code::new(plan, made.configs, made.labels, work.lines) {
         Some(code) => {
             promise(script, &code);

@@ -1,9 +1,10 @@
 //! The labels of a code, and the configurations that they name.
 
-ghost use Rattle.std.specs.Prelude.{◌≡◌, ℕ, ◌≤◌, [], ◌∷◌, ◌++◌, length, slice_index, OnOk, IfOk, IfSome};
+ghost use Rattle.std.specs.Prelude.{◌≡◌, ℕ, ◌≤◌, [], ◌∷◌, ◌++◌, length, slice_index, OnOk, IfOk, IfErr, IfSome};
 ghost use Rattle.script_scheme.specs.Compiled.{first_counters, Tabled, AreLabelsOf};
 ghost use Rattle.script_compiler.specs.Laying.{Names};
 ghost use Rattle.script_compiler.specs.Longest.{Priced};
+ghost use Rattle.script_compiler.specs.Refusals.{IsRefusal};
 
 use crate::fault::CompileFault;
 use crate::needs::at;
@@ -41,6 +42,7 @@ fn label_of(mark: &Mark, needs: &[u16], configs: &mut Vec<Config>) -> Result<Lab
     ensures room { OnOk result (length configs.new.items ≤ 256) }
     ensures made { IfOk result (λ l. Names configs.old.items mark.now l configs.new.items) }
     ensures cost { IfOk result (λ l. l.cost ≡ slice_index needs.now l.pc) }
+    ensures refused { IfErr result (λ e. IsRefusal e → ⊥) }
 {
     let Some(counters) = first_counters(mark.repeats) else {
         return Err(CompileFault::Limit);
@@ -60,6 +62,7 @@ fn label_of(mark: &Mark, needs: &[u16], configs: &mut Vec<Config>) -> Result<Lab
 /// One label more.
 fn add(labels: &mut Vec<Label>, label: Label) -> Result<(), CompileFault>
     ensures added { OnOk result (labels.new.items ≡ labels.old.items ++ label ∷ []) }
+    ensures refused { IfErr result (λ e. IsRefusal e → ⊥) }
 {
     if labels.push(label).is_err() {
         return Err(CompileFault::Memory);
@@ -81,6 +84,7 @@ pub(crate) fn labels_of(
     ensures table { IfOk result (λ l. Tabled [] marks.now l.configs.items) }
     ensures labels { IfOk result (λ l. AreLabelsOf l.configs.items marks.now l.labels.items) }
     ensures costs { IfOk result (λ l. Priced needs.now l.labels.items) }
+    ensures refused { IfErr result (λ e. IsRefusal e → ⊥) }
 {
     let mut configs = Vec::new(alloc);
     let mut labels = Vec::new(alloc);

@@ -1,6 +1,6 @@
 //! The configuration that a script begins with.
 
-ghost use Rattle.std.specs.Prelude.{◌≡◌, ◌≤◌, None, OnOk, IsOk, IfOk};
+ghost use Rattle.std.specs.Prelude.{◌≡◌, ◌≤◌, ◌↔◌, None, OnOk, IsOk, IfOk};
 ghost use Rattle.mux_config.specs.Configuration.{nothing};
 ghost use Rattle.mux_config.specs.Edits.{changed, edit_fault};
 ghost use Rattle.mux_config.specs.Sound.{IsSound};
@@ -18,7 +18,7 @@ use script_front::Item;
 /// One item: refused is `Edit` at its line.
 fn add(item: &Item, config: &mut Config) -> Result<(), CompileFault>
     ensures made { OnOk result (config.new ≡ changed item.now.edit config.old) }
-    ensures fine { IsOk result → edit_fault item.now.edit config.old ≡ None }
+    ensures fine { IsOk result ↔ (edit_fault item.now.edit config.old ≡ None) }
 {
     if let Err(fault) = item.edit.apply(config) {
         return Err(refused(item.line, Cause::Edit(fault)));
@@ -29,7 +29,7 @@ fn add(item: &Item, config: &mut Config) -> Result<(), CompileFault>
 /// The items, one after another, on the empty configuration: refused is `Edit` at the item's line.
 pub(crate) fn built(items: &[Item]) -> Result<Config, CompileFault>
     ensures made { IfOk result (λ c. c ≡ with_items items.now nothing) }
-    ensures fine { IsOk result → AreFine items.now nothing }
+    ensures fine { IsOk result ↔ AreFine items.now nothing }
 {
     let mut config = Config::empty();
     for item in items {
@@ -44,6 +44,8 @@ pub(crate) fn built(items: &[Item]) -> Result<Config, CompileFault>
 pub(crate) fn test(plan: &Plan, config: &Config, line: u16) -> Result<(), CompileFault>
     ensures sound { IsOk result → IsSound config.now }
     ensures within { IsOk result → pages_alone plan.now config.now ≤ plan.now.period }
+    ensures refused { IsSound config.now → pages_alone plan.now config.now ≤ plan.now.period
+        → IsOk result }
 {
     if let Err(fault) = soundness(config) {
         return Err(refused(line, Cause::Config(fault)));

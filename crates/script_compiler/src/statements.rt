@@ -1,9 +1,11 @@
 //! The statements of a script, laid down one after another.
 
-ghost use Rattle.std.specs.Prelude.{◌≡◌, ◌≤◌, ◌<◌, length, map, OnOk, IfOk};
+ghost use Rattle.std.specs.Prelude.{◌≡◌, ◌≤◌, ◌<◌, length, map, OnOk, IfOk, IfErr};
 ghost use Rattle.script_front.specs.Block.{Block, nothing, when, either, repeat, forever, block_of, before};
 ghost use Rattle.script_scheme.specs.Scheme.{falls_out};
+ghost use Rattle.script_scheme.specs.Judged.{IsJudged};
 ghost use Rattle.script_compiler.specs.Laying.{Left, tables, lays_nothing};
+ghost use Rattle.script_compiler.specs.Refusals.{IsRefusal};
 
 use crate::falls::all_fall;
 use crate::fault::CompileFault;
@@ -45,6 +47,8 @@ impl Work {
             (block_of (tables blocks.now) statements.now) self.old
             self.new f nothing) }
         ensures room { OnOk result (length self.new.lines.items ≤ 4096) }
+        ensures refused { IfErr result (λ e. IsRefusal e → IsJudged plan.now
+            (block_of (tables blocks.now) statements.now) self.old.now → ⊥) }
     {
         let mut goes_on = true;
         for statement in statements {
@@ -78,6 +82,8 @@ impl Work {
             (before (tables blocks.now) statement.now rest) self.old
             self.new f rest) }
         ensures room { OnOk result (length self.new.lines.items ≤ 4096) }
+        ensures refused { IfErr result (λ e. IsRefusal e → (rest : Block) → IsJudged plan.now
+            (before (tables blocks.now) statement.now rest) self.old.now → ⊥) }
     {
         match statement {
             Statement::Act { line, act } => self.act(plan, *line, counters, act),
@@ -149,6 +155,8 @@ impl Work {
             contact (block_of (tables blocks.now) first.now) rest) self.old
             self.new f rest) }
         ensures room { OnOk result (length self.new.lines.items ≤ 4096) }
+        ensures refused { IfErr result (λ e. IsRefusal e → (rest : Block) → IsJudged plan.now
+            (when line contact (block_of (tables blocks.now) first.now) rest) self.old.now → ⊥) }
     {
         let at = self.lines.len();
         if let Err(fault) = self.fork(line, counters, Instr::Test { contact, target: 0 }) {
@@ -184,6 +192,9 @@ impl Work {
             second.now) rest) self.old
             self.new f rest) }
         ensures room { OnOk result (length self.new.lines.items ≤ 4096) }
+        ensures refused { IfErr result (λ e. IsRefusal e → (rest : Block) → IsJudged plan.now
+            (either line contact (block_of (tables blocks.now) first.now)
+            (block_of (tables blocks.now) second.now) rest) self.old.now → ⊥) }
     {
         let at = self.lines.len();
         if let Err(fault) = self.fork(line, counters, Instr::Test { contact, target: 0 }) {
@@ -225,6 +236,8 @@ impl Work {
             times (block_of (tables blocks.now) body.now) rest) self.old
             self.new f rest) }
         ensures room { OnOk result (length self.new.lines.items ≤ 4096) }
+        ensures refused { IfErr result (λ e. IsRefusal e → (rest : Block) → IsJudged plan.now
+            (repeat line times (block_of (tables blocks.now) body.now) rest) self.old.now → ⊥) }
     {
         let Some(counter) = CounterId::new(counters) else {
             return Err(CompileFault::Limit);
@@ -271,6 +284,8 @@ impl Work {
             (block_of (tables blocks.now) body.now) rest) self.old
             self.new f rest) }
         ensures room { OnOk result (length self.new.lines.items ≤ 4096) }
+        ensures refused { IfErr result (λ e. IsRefusal e → (rest : Block) → IsJudged plan.now
+            (forever line (block_of (tables blocks.now) body.now) rest) self.old.now → ⊥) }
     {
         let target = self.lines.len() as u16;
         if let Err(fault) = self.enter(all_fall(known, body)) {

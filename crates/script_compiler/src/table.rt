@@ -1,8 +1,9 @@
 //! The table of configurations that labels name, each content once.
 
-ghost use Rattle.std.specs.Prelude.{◌≡◌, ◌≢◌, ◌≤◌, ◌<◌, ℕ, length, slice_get, Some, None, OnOk, IfOk, IfSome};
+ghost use Rattle.std.specs.Prelude.{◌≡◌, ◌≢◌, ◌≤◌, ◌<◌, ℕ, length, slice_get, Some, None, OnOk, IfOk, IfErr, IfSome};
 ghost use Rattle.script_scheme.specs.Compiled.{Added};
 ghost use Rattle.script_compiler.specs.Laying.{Grows};
+ghost use Rattle.script_compiler.specs.Refusals.{IsRefusal};
 
 use crate::fault::CompileFault;
 use mux_config::{Config, Store};
@@ -33,6 +34,7 @@ pub(crate) fn index_of(table: &mut Vec<Config>, config: &Config) -> Result<u16, 
     ensures added { OnOk result (Added config.now table.old.items table.new.items) }
     ensures index { IfOk result (λ i. slice_get table.new.items i ≡ Some config.now) }
     ensures grows { OnOk result (Grows table.old.items table.new.items) }
+    ensures refused { IfErr result (λ e. IsRefusal e → ⊥) }
 {
     if let Some(index) = find(table, config) {
         return Ok(index as u16);

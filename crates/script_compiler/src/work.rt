@@ -1,13 +1,14 @@
 //! Code that is laid down, instruction by instruction, with what is known where it has come to.
 
-ghost use Rattle.std.specs.Prelude.{◌≡◌, ℕ, ◌+◌, ◌<◌, ◌≤◌, true, false, if◌then◌else◌, [], ◌∷◌, ◌++◌, length, slice_set, List, Option, Some, is_some, OnOk, IfOk};
+ghost use Rattle.std.specs.Prelude.{◌≡◌, ℕ, ◌+◌, ◌<◌, ◌≤◌, true, false, if◌then◌else◌, [], ◌∷◌, ◌++◌, length, slice_set, List, Option, Some, is_some, OnOk, IfOk, IfErr};
 ghost use Rattle.plan_code.specs.declared.instr.Instr.{Instr};
 ghost use Rattle.plan_code.specs.declared.instr.Instr.TheVariants.{End};
 ghost use Rattle.script_scheme.specs.declared.flow.Spot.{Spot};
 ghost use Rattle.script_scheme.specs.Scheme.{past, at_label, known_at, moved, alone, onward, meet, marks_of, instr_of};
-ghost use Rattle.script_scheme.specs.Judged.{WaysAgree};
+ghost use Rattle.script_scheme.specs.Judged.{WaysAgree, BranchesAgree, ComesRound};
 ghost use Rattle.plan_verifier.specs.Typing.{IsFine};
 ghost use Rattle.script_scheme.specs.Compiled.{lines_of};
+ghost use Rattle.script_compiler.specs.Refusals.{IsRefusal};
 ghost use Rattle.script_compiler.specs.Laying.{Lays, Forks, ClosesIf, Turns, GoesRound, Arrives, line_at, way, kept};
 
 use crate::fault::CompileFault;
@@ -49,6 +50,7 @@ impl Work {
             ≡ self.old.marks.items
             ++ marks_of (length self.old.lines.items) (alone line i counters self.old.now)) }
         ensures now { OnOk result (self.new.now ≡ past self.old.now.flow) }
+        ensures refused { IfErr result (λ e. IsRefusal e → ⊥) }
     {
         if !self.now.labelled {
             return Ok(());
@@ -85,6 +87,7 @@ impl Work {
         ensures lines { OnOk result (self.new.lines.items ≡ self.old.lines.items
             ++ line_at line instr ∷ []) }
         ensures room { OnOk result (length self.new.lines.items ≤ 4096) }
+        ensures refused { IfErr result (λ e. IsRefusal e → ⊥) }
     {
         if self.lines.len() >= usize::from(MOST_INSTRUCTIONS) {
             return Err(CompileFault::Limit);
@@ -104,6 +107,7 @@ impl Work {
             (alone line instr counters self.old.now)) }
         ensures now { OnOk result (self.new.now ≡ past self.old.now.flow) }
         ensures room { OnOk result (length self.new.lines.items ≤ 4096) }
+        ensures refused { IfErr result (λ e. IsRefusal e → ⊥) }
     {
         if let Err(fault) = self.put_label(counters) {
             return Err(fault);
@@ -129,6 +133,8 @@ impl Work {
         ensures fine { OnOk result (IsFine plan.now (instr_of act.now)
             (known_at self.old.now.flow)) }
         ensures room { OnOk result (length self.new.lines.items ≤ 4096) }
+        ensures refused { IfErr result (λ e. IsRefusal e → IsFine plan.now (instr_of act.now)
+            (known_at self.old.now.flow) → ⊥) }
     {
         if let Err(fault) = self.put_label(counters) {
             return Err(fault);
@@ -148,6 +154,7 @@ impl Work {
         ensures marks { self.new.marks ≡ self.old.marks }
         ensures saved { self.new.saved ≡ self.old.saved }
         ensures now { OnOk result (self.new.now ≡ at_label self.old.now.flow) }
+        ensures refused { IfErr result (λ e. IsRefusal e → ⊥) }
     {
         if !self.now.labelled && self.marks.len() >= usize::from(MOST_LABELS) {
             return Err(CompileFault::Limit);
@@ -167,6 +174,7 @@ impl Work {
         ensures now { self.new.now ≡ self.old.now }
         ensures saved { OnOk result (self.new.saved.items ≡ self.old.saved.items
             ++ self.old.now ∷ []) }
+        ensures refused { IfErr result (λ e. IsRefusal e → ⊥) }
     {
         let kept = self.now.copied();
         if self.saved.push(kept).is_err() {
@@ -208,6 +216,7 @@ impl Work {
         requires room { length self.old.lines.items ≤ 4096 }
         ensures forks { OnOk result (Forks line instr counters self.old self.new) }
         ensures room { OnOk result (length self.new.lines.items ≤ 4096) }
+        ensures refused { IfErr result (λ e. IsRefusal e → ⊥) }
     {
         if let Err(fault) = self.save() {
             return Err(fault);
@@ -227,6 +236,7 @@ impl Work {
         }) }
         ensures saved { OnOk result (self.new.saved.items ≡ self.old.saved.items
             ++ self.new.now ∷ []) }
+        ensures refused { IfErr result (λ e. IsRefusal e → ⊥) }
     {
         if falls {
             if let Err(fault) = self.mark() {
@@ -251,6 +261,9 @@ impl Work {
             ≡ front
             ++ entry ∷ [] → GoesRound falls line counters back front entry self.old self.new) }
         ensures room { OnOk result (length self.new.lines.items ≤ 4096) }
+        ensures refused { IfErr result (λ e. IsRefusal e → (front : List Spot) (entry : Spot)
+            → self.old.saved.items ≡ front
+            ++ entry ∷ [] → ComesRound (way falls self.old) entry → ⊥) }
     {
         let entry = self.restore();
         if !falls {
@@ -269,6 +282,8 @@ impl Work {
         ensures saved { self.new.saved ≡ self.old.saved }
         ensures met { OnOk result (meet (way falls self.old) (Some other) ≡ Some self.new.now) }
         ensures agree { OnOk result (WaysAgree (way falls self.old) (Some other)) }
+        ensures refused { IfErr result (λ e. IsRefusal e
+            → WaysAgree (way falls self.old) (Some other) → ⊥) }
     {
         if !falls {
             self.now = other;
@@ -301,6 +316,9 @@ impl Work {
             → self.old.saved.items ≡ front
             ++ entry ∷ [] → ClosesIf falls line contact at front entry self.old self.new) }
         ensures room { OnOk result (length self.new.lines.items ≤ 4096) }
+        ensures refused { IfErr result (λ e. IsRefusal e → (front : List Spot) (entry : Spot)
+            → self.old.saved.items ≡ front
+            ++ entry ∷ [] → WaysAgree (way falls self.old) (Some entry) → ⊥) }
     {
         let entry = self.restore();
         let target = self.lines.len() as u16;
@@ -329,6 +347,7 @@ impl Work {
             ≡ front
             ++ entry ∷ [] → Turns falls line counters contact at front entry self.old self.new) }
         ensures room { OnOk result (length self.new.lines.items ≤ 4096) }
+        ensures refused { IfErr result (λ e. IsRefusal e → ⊥) }
     {
         let mut entry = self.restore();
         if falls {
@@ -360,6 +379,11 @@ impl Work {
             → self.old.saved.items ≡ front ++ kept a → Arrives a (way second self.old) front line
             jump self.old self.new f) }
         ensures room { OnOk result (length self.new.lines.items ≤ 4096) }
+        ensures refused { IfErr result (λ e. IsRefusal e → (front : List Spot) (a : Option Spot)
+            → first
+            ≡ is_some a
+            → self.old.saved.items ≡ front
+            ++ kept a → BranchesAgree a (way second self.old) → ⊥) }
     {
         if !first {
             return Ok(second);
@@ -379,6 +403,7 @@ impl Work {
         ensures lays { OnOk result (Lays self.old self.new (onward (way falls self.old) []
             (alone line End 0))) }
         ensures room { OnOk result (length self.new.lines.items ≤ 4096) }
+        ensures refused { IfErr result (λ e. IsRefusal e → ⊥) }
     {
         if !falls {
             return Ok(());

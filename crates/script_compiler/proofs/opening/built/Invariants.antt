@@ -7,4 +7,5 @@ abbrev pub invariant-loop-item : goal.invariant-loop-item
 invariant-loop-item l = record {
   made : with_items (drop l.item-index l.items) l.config ≡ with_items l.items nothing;
   fine : AreFine (drop l.item-index l.items) l.config → AreFine l.items nothing;
+  only : AreFine l.items nothing → AreFine (drop l.item-index l.items) l.config;
 }

@@ -6,6 +6,7 @@ use Rattle.script_compiler.specs.Laying.{tables, lays_nothing}
 use Rattle.script_compiler.proofs.Weight.{weight, weight_each, tables_at}
 use Rattle.script_compiler.proofs.Arms.{is_act, is_if, is_if_else, is_repeat, is_forever, is_apply}
 use Rattle.script_compiler.proofs.Steps.{ok_map, left_as, act_step, when_step, either_step, repeat_step, forever_step, block_step, told_length, told_take, silent_step, unnamed_step, apply_left}
+use Rattle.script_compiler.proofs.Refusing.{block_refused, refused_as, apply_refused}
 use Rattle.script_compiler.proofs.work.Work.+work.Goals as goal
 
 pub block-statement-requires : goal.block-statement-requires
@@ -117,3 +118,24 @@ when-returns-clause-left t c =
     let first = block_of (tables c.args.blocks.now) c.args.first.now in
     when_step c.args.plan.now c.args.counters c.args.line c.args.contact c.len-at.result first c.args.self.now c.fork.new.self c.block.new.self c.close_if.new.self c.in-Ok.falls c.close_if.result
     c.requires.counters (c.len-at.ensures ∙ c.args.self.now.lines.ok.0) c.in_default.ensures.forks c.in-Ok.ensures.left c.close_if.ensures.goes_on c.close_if.ensures.closes
+
+pub block-returns-in-Err-clause-refused : goal.block-returns-in-Err-clause-refused
+block-returns-in-Err-clause-refused t c = λ is judged.
+    block_refused c.args.plan.now c.args.counters (tables c.args.blocks.now) c.args.statements.now c.loop-statement.statement-index c.statement-item.result c.args.self.now c.loop-statement.self c.loop-statement.goes_on c.statement-item.is c.loop-statement-test.true c.if-not-goes_on.false c.loop-statement.invariant.left (c.in-Err.ensures.refused is) judged
+
+pub statement-returns-in-Repeat-clause-refused : goal.statement-returns-in-Repeat-clause-refused
+statement-returns-in-Repeat-clause-refused t c =
+    let table = tables c.args.blocks.now in
+    refused_as c.args.plan.now c.args.self.now.now c.repeat.result (λ rest. before table c.args.statement.now rest) (λ rest. repeat c.in-Repeat.line c.in-Repeat.times (block_of table c.deref-in-Repeat.result.now) rest) (λ rest. is_repeat table c.args.statement.now c.in-Repeat.line c.in-Repeat.times c.in-Repeat.body c.in-Repeat.is rest ∙ ap (λ x. repeat c.in-Repeat.line c.in-Repeat.times (block_of table x) rest) (sym c.deref-in-Repeat.ensures.value)) c.repeat.ensures.refused
+
+pub statement-returns-else-silent-number-clause-refused : goal.statement-returns-else-silent-number-clause-refused
+statement-returns-else-silent-number-clause-refused t c =
+    let bs = c.args.blocks.now in
+    let table = tables bs in
+    let k = c.from-number.result in
+    let lt : k < length bs = omega (arith, c.if-number-blocks.false) in
+    let at = tables_at bs k c.index-blocks-number.result c.index-blocks-number.is lt in
+    let inner = block_of (tables (take k bs)) c.deref-in-Apply.result.now in
+    refused_as c.args.plan.now c.args.self.now.now c.block.result (λ rest. before table c.args.statement.now rest) (λ rest. apply c.in-Apply.line c.in-Apply.block inner rest)
+    (λ rest. is_apply table c.args.statement.now c.in-Apply.line c.in-Apply.block c.in-Apply.is rest ∙ ap (λ n. apply c.in-Apply.line c.in-Apply.block (named_at table n) rest) (sym (c.from-number.ensures ∙ c.get.ensures.value)) ∙ ap (λ b. apply c.in-Apply.line c.in-Apply.block b rest) at ∙ ap (λ x. apply c.in-Apply.line c.in-Apply.block (block_of (tables (take k bs)) x) rest) (sym c.deref-in-Apply.ensures.value))
+    (apply_refused c.args.plan.now c.args.self.now.now c.block.result c.in-Apply.line c.in-Apply.block inner c.block.ensures.refused)
