@@ -2,3 +2,4 @@ pub mod Keeping
 pub mod FrameFacts
 pub mod Delivering
 pub mod Places
+mod Vectors

@@ -8,4 +8,5 @@ pub mod Tabled
 pub mod Verdicts
 mod Vectors
 mod VectorsOfTyping
+mod VectorsOfSwaps
 mod VectorsOfRefusals

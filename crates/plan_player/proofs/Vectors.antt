@@ -1,0 +1,197 @@
+-- What a player stands for and what a sink is given of a run, by a code that waits for a frame and ends: each definition
+-- where it holds, and where it fails.
+use Rattle.std.proofs.Common.{◌≡◌, ℕ, suc, ◌+◌, ◌<◌, ◌≤◌, List, [], ◌∷◌, ◌++◌, length, take, replicate, Option, Some, None, false, true, refl, ap, arith}
+use Rattle.std.proofs.lemmas.List.{length-append}
+use Rattle.mux_config.specs.Configuration.{nothing}
+use Rattle.fib_codec.specs.declared.modes.Mode.TheVariants.{I}
+use Rattle.plan_code.specs.declared.plan.Plan.{Plan}
+use Rattle.plan_code.specs.declared.flags.Counters.{Counters}
+use Rattle.plan_code.specs.declared.flags.Contacts.{Contacts}
+use Rattle.plan_code.specs.declared.hold.Hold.TheVariants.{Waits}
+use Rattle.plan_code.specs.declared.label.Label.{Label}
+use Rattle.plan_code.specs.declared.label.Swap.TheVariants.{Idle}
+use Rattle.plan_code.specs.declared.instr.Line.{Line}
+use Rattle.plan_code.specs.declared.instr.Instr.TheVariants.{Wait, End}
+use Rattle.plan_code.specs.Program.{Program}
+use Rattle.plan_code.specs.Machine.{State}
+use Rattle.plan_runs.specs.declared.event.Event.{Event}
+use Rattle.plan_runs.specs.declared.event.Event.TheVariants.{Contact, Frame}
+use Rattle.plan_runs.specs.declared.event.Start.{Start}
+use Rattle.plan_player.specs.declared.fault.StartFault.TheVariants.{Count, Day}
+use Rattle.plan_player.specs.declared.fault.PlayFault.TheVariants.{Write}
+use Rattle.plan_player.specs.Playing.{Playing, start_fault, BeginsWith, last_steps, played}
+use Rattle.plan_player.specs.Delivery.{frames_of, bytes_of, next_frame, Stopped, StoppedBy}
+use Rattle.plan_player.specs.Phase.{HasChange, KeepsChange}
+
+-- ---- values shared by these vectors: an empty multiplex
+
+abbrev plan : Plan
+plan = record { eid = 0xe1c5; mode = I; period = 4; notice = 24; budget = 20 }
+
+abbrev no_counters : Counters
+no_counters = record { 0 = 0 }
+
+abbrev all_open : Contacts
+all_open = record { 0 = 0 }
+
+abbrev label : Label
+label = record { pc = 0; cur = 0; next = 0; pending = Idle; counters = no_counters; cost = 1 }
+
+abbrev lines : List Line
+lines = record { number = 1; instr = Wait 1 } ∷ record { number = 2; instr = End } ∷ []
+
+abbrev waits : Program
+waits = record { plan = plan; configurations = nothing ∷ []; labels = label ∷ []; lines = lines }
+
+abbrev start : Start
+start = record { eid = 0xe1c5; count = 0; day = 0; contacts = all_open }
+
+abbrev first : State
+first =
+    record {
+      current = nothing;
+      next = nothing;
+      left = None;
+      pc = 0;
+      hold = Waits 0;
+      counters = replicate 8 0;
+      contacts = all_open;
+      count = 0;
+      day = 0;
+      eid = 0xe1c5;
+      turn = 0;
+    }
+
+abbrev fresh : Playing
+fresh = record { code = waits; state = first; steps = 0 }
+
+abbrev frames : ℕ → List Event
+frames n = replicate n Frame
+
+-- ---- the start
+
+in_range : start_fault start ≡ None
+in_range = refl
+
+last_count_and_day : start_fault (record start { count = 4999; day = 3599999 }) ≡ None
+last_count_and_day = refl
+
+-- of two faults the count is told
+count_first : start_fault (record start { count = 5000; day = 3600000 }) ≡ Some Count
+count_first = refl
+
+day_alone : start_fault (record start { day = 3600000 }) ≡ Some Day
+day_alone = refl
+
+begins : BeginsWith waits start fresh
+begins = record {
+  code_is = refl;
+  state_is = record {
+    label = label;
+    first = refl;
+    current = refl;
+    next = refl;
+    left = refl;
+    pc = refl;
+    hold = refl;
+    counters = refl;
+    contacts = refl;
+    count = refl;
+    day = refl;
+    eid = refl;
+    turn = refl;
+  };
+  none_yet = refl;
+}
+
+-- with an instruction that no frame has carried out
+begins_with_a_step : BeginsWith waits start (record fresh { steps = 1 }) → ⊥
+begins_with_a_step h = let e : 1 ≡ 0 = h.none_yet in omega (arith, e)
+
+begins_at_another_count : BeginsWith waits (record start { count = 4 }) fresh → ⊥
+begins_at_another_count h = let e : 0 ≡ 4 = h.state_is.count in omega (arith, e)
+
+-- ---- the instructions of the last frame
+
+no_frame_yet : last_steps waits first 7 (Contact 3 true ∷ []) ≡ 7
+no_frame_yet = refl
+
+waits_in_the_first : last_steps waits first 0 (frames 1) ≡ 1
+waits_in_the_first = refl
+
+ends_in_the_second : last_steps waits first 0 (frames 2) ≡ 1
+ends_in_the_second = refl
+
+none_in_the_third : last_steps waits first 0 (frames 3) ≡ 0
+none_in_the_third = refl
+
+-- ---- a sink that takes 100 bytes of three frames
+
+abbrev taken : List ℕ
+taken = bytes_of fresh (frames 1) ++ take 4 (next_frame (played fresh (frames 1)))
+
+hundred_bytes : length taken ≡ 100
+hundred_bytes = refl
+
+stops_in_the_second : Stopped fresh (played fresh (frames 2)) (frames 3) (Some []) (Some taken) 1 4
+stops_in_the_second = record {
+  done = frames 1;
+  rest = frames 1;
+  cut = refl;
+  whole = refl;
+  part = omega arith;
+  state = refl;
+  out = refl;
+}
+
+told_so : StoppedBy fresh (played fresh (frames 2)) (frames 3) (Some []) (Some taken) (Write 1 4)
+told_so = stops_in_the_second
+
+-- ---- what is no such stop
+
+-- what one frame before others is cut at
+nothing_done : (done rest : List Event) → Frame ∷ [] ≡ done ++ Frame ∷ rest → done ≡ []
+nothing_done [] rest e = refl
+nothing_done (d ∷ done) rest e =
+    let n : 1 ≡ length (d ∷ done ++ Frame ∷ rest) = ap length e in
+    absurd (omega (arith, n, length-append done (Frame ∷ rest)))
+
+contacts_alone : Stopped fresh fresh [] (Some []) (Some []) 0 0 → ⊥
+contacts_alone h =
+    let n : 0 ≡ length (h.done ++ Frame ∷ h.rest) = ap length h.cut in
+    omega (arith, n, length-append h.done (Frame ∷ h.rest))
+
+-- the frame that was cut has been played
+frame_not_played : Stopped fresh fresh (frames 1) (Some []) (Some []) 0 0 → ⊥
+frame_not_played h =
+    let none = nothing_done h.done h.rest h.cut in
+    let count : 0 ≡ (played fresh (h.done ++ Frame ∷ [])).state.count = ap (λ (p : Playing). p.state.count) h.state in
+    let same = ap (λ (done : List Event). (played fresh (done ++ Frame ∷ [])).state.count) none in
+    omega (arith, count, same)
+
+-- a frame of which all bytes are out is none that was cut
+all_bytes : Stopped fresh (played fresh (frames 1)) (frames 1) (Some []) (Some (bytes_of fresh (frames 1))) 0 96 → ⊥
+all_bytes h =
+    let same : length (next_frame (played fresh h.done)) ≡ 96 = ap (λ (done : List Event). length (next_frame (played fresh done))) (nothing_done h.done h.rest h.cut) in
+    omega (arith, same, h.part)
+
+told_of_too_many : StoppedBy fresh (played fresh (frames 1)) (frames 1) (Some []) (Some []) (Write 1 0) → ⊥
+told_of_too_many h =
+    let none : 1 ≡ length (frames_of fresh h.done) = h.whole in
+    let same : length (frames_of fresh h.done) ≡ 0 = ap (λ (done : List Event). length (frames_of fresh done)) (nothing_done h.done h.rest h.cut) in
+    omega (arith, none, same)
+
+-- ---- the change flags of a notice of 24 frames, where nothing changes
+
+first_of_a_notice : HasChange 24 (Some 24) nothing nothing 0
+first_of_a_notice = λ noticed. refl
+
+other_flags : HasChange 24 (Some 24) nothing nothing 1 → ⊥
+other_flags h = let e : 1 ≡ 0 = h refl in omega (arith, e)
+
+-- those of the frames before it are any
+before_a_notice : KeepsChange 24 (Some 24) nothing nothing 1
+before_a_notice = λ less. omega (arith, less)
+
+in_a_notice : KeepsChange 24 (Some 23) nothing nothing 1 → ⊥
+in_a_notice h = let e : 1 ≡ 0 = h (omega arith) in omega (arith, e)
