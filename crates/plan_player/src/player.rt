@@ -1,16 +1,18 @@
 //! The player.
 
-ghost use Rattle.std.specs.Prelude.{◌≡◌, ◌<◌, ◌≤◌, [], ◌∷◌, length, take, true, false, Some, None, IfOk, IfErr, OnOk, OnErr};
+ghost use Rattle.std.specs.Prelude.{◌≡◌, ◌<◌, ◌≤◌, List, [], ◌∷◌, length, take, true, false, Some, None, IfOk, IfErr, OnOk, OnErr};
 ghost use Rattle.std.specs.Result.{result_err};
 ghost use Rattle.std.specs.Io.KnownBytes.{Appends};
 ghost use Rattle.mux_config.specs.Sound.{IsSound};
 ghost use Rattle.plan_code.specs.Program.{line_at};
+ghost use Rattle.plan_runs.specs.declared.event.Event.{Event};
 ghost use Rattle.plan_runs.specs.declared.event.Event.TheVariants.{Contact, Frame};
 ghost use Rattle.plan_runs.specs.Frames.{frame_bytes, frame_steps, after_frame};
 ghost use Rattle.plan_runs.specs.Runs.{IsInRange, happens};
 ghost use Rattle.plan_runs.specs.TypedRuns.{IsPlayed};
 ghost use Rattle.plan_runs.specs.Announced.{FrameRuns, heard_of};
-ghost use Rattle.plan_runs.specs.RightBytes.{FrameIsRight};
+ghost use Rattle.plan_runs.specs.RightBytes.{FrameIsRight, IsHeardEachPeriod};
+ghost use Rattle.plan_runs.specs.Headline.{KeepsCount};
 ghost use Rattle.plan_machine.specs.Positions.{state_of};
 ghost use Rattle.plan_player.specs.Playing.{start_fault, BeginsWith, played};
 ghost use Rattle.plan_player.specs.Delivery.{next_frame};
@@ -70,12 +72,16 @@ fn fault_of(start: Start) -> Option<StartFault>
     None
 }
 
-/// The headline, of the frame that is next: it meets no trap, a swap in it was announced, and its bytes are right.
+/// The headline, of the frame that is next: it meets no trap, a swap in it was announced, its bytes are right, and in each
+/// period from it on the whole configuration is heard; and each swap after it comes at the announced count.
 fn promise<S: Store>(code: &Code, machine: &Machine<S>)
     requires { IsPlayed code.now (state_of S.content machine.now) }
     ensures announced { let s = state_of S.content machine.now in
         FrameRuns code.now s (heard_of code.now.plan s) }
     ensures right { FrameIsRight code.now (state_of S.content machine.now) }
+    ensures whole { IsHeardEachPeriod code.now (state_of S.content machine.now) }
+    ensures counted { (events : List Event)
+        → KeepsCount code.now (state_of S.content machine.now) events }
 {
     laws::headline();
 }
@@ -115,7 +121,8 @@ impl<'a, S: Store> Player<'a, S> {
     /// Makes the next frame: a swap that is due, the instructions, the FIBs, and then the counts. It always answers.
     ///
     /// Its bytes and the state after it are those of the definitions. It meets no trap, carries out no more
-    /// instructions than the budget, and its FIBs are right; a swap in it was announced by the frames before it.
+    /// instructions than the budget, and its FIBs are right; a swap in it was announced by the frames before it. Whatever
+    /// comes, from it on each period has the whole current configuration, and each swap comes at the announced count.
     pub fn frame(&mut self) -> FibFrame
         ensures bytes { result ≡ frame_bytes self.old.code self.old.state }
         ensures state { self.new ≡ record self.old {
@@ -126,6 +133,9 @@ impl<'a, S: Store> Player<'a, S> {
         ensures announced { let plan = self.old.code.plan in
             FrameRuns self.old.code self.old.state (heard_of plan self.old.state) }
         ensures right { FrameIsRight self.old.code self.old.state }
+        ensures whole { IsHeardEachPeriod self.old.code self.old.state }
+        ensures counted { (events : List Event)
+            → KeepsCount self.old.code self.old.state events }
         ensures played { IsPlayed self.new.code self.new.state }
     {
         let code = self.code.code();

@@ -10,3 +10,11 @@ returns-clause-announced g c =
 pub returns-clause-right : goal.returns-clause-right
 returns-clause-right g c =
     (c.headline.ensures c.args.code.now (state_of g.S.Store.content c.args.machine.now) (Frame ∷ []) c.requires).right.0
+
+pub returns-clause-whole : goal.returns-clause-whole
+returns-clause-whole g c =
+    (c.headline.ensures c.args.code.now (state_of g.S.Store.content c.args.machine.now) (Frame ∷ []) c.requires).whole
+
+pub returns-clause-counted : goal.returns-clause-counted
+returns-clause-counted g c = λ events.
+    (c.headline.ensures c.args.code.now (state_of g.S.Store.content c.args.machine.now) events c.requires).counted

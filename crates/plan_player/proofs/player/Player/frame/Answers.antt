@@ -2,7 +2,8 @@ use Rattle.std.proofs.Common.{ap, subst, ◌∙◌}
 use Rattle.plan_code.specs.Program.{Program}
 use Rattle.plan_runs.specs.Frames.{frame_bytes}
 use Rattle.plan_runs.specs.Announced.{FrameRuns, heard_of}
-use Rattle.plan_runs.specs.RightBytes.{FrameIsRight}
+use Rattle.plan_runs.specs.RightBytes.{FrameIsRight, IsHeardEachPeriod}
+use Rattle.plan_runs.specs.Headline.{KeepsCount}
 use Rattle.plan_player.specs.Playing.{Playing}
 use Rattle.plan_machine.specs.Positions.{state_of}
 use Rattle.plan_player.proofs.FrameFacts.{lent_ready, lent_goes}
@@ -45,3 +46,15 @@ returns-clause-right g c =
     let s = state_of g.S.Store.content c.self.inside.machine in
     let here = subst (λ (p : Program). FrameIsRight p s) c.code-code.ensures.value c.promise.ensures.right in
     subst (λ (x : Playing). FrameIsRight x.code x.state) c.self.view_is here
+
+pub returns-clause-whole : goal.returns-clause-whole
+returns-clause-whole g c =
+    let s = state_of g.S.Store.content c.self.inside.machine in
+    let here = subst (λ (p : Program). IsHeardEachPeriod p s) c.code-code.ensures.value c.promise.ensures.whole in
+    subst (λ (x : Playing). IsHeardEachPeriod x.code x.state) c.self.view_is here
+
+pub returns-clause-counted : goal.returns-clause-counted
+returns-clause-counted g c = λ events.
+    let s = state_of g.S.Store.content c.self.inside.machine in
+    let here = subst (λ (p : Program). KeepsCount p s events) c.code-code.ensures.value (c.promise.ensures.counted events) in
+    subst (λ (x : Playing). KeepsCount x.code x.state events) c.self.view_is here
