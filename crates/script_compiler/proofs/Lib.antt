@@ -11,3 +11,8 @@ mod Tabling
 mod Whole
 mod Accepting
 mod Refusing
+mod Sound
+mod Connected
+mod Labelled
+mod First
+mod Typed

@@ -20,7 +20,8 @@ use Rattle.script_scheme.specs.Scheme.{marks_of}
 use Rattle.script_scheme.specs.Judged.{IsJudged}
 use Rattle.script_scheme.specs.Compiled.{AreFine, Tabled, AreLabelsOf, IsCodeOf, IsAccepted, CostsItsNeeds}
 use Rattle.script_compiler.proofs.Accepting.{is_accepted}
-use Rattle.script_compiler.specs.Refusals.{IsRefusal, IsTypedAsCode}
+use Rattle.script_compiler.specs.Refusals.{IsRefusal}
+use Rattle.script_compiler.proofs.Typed.{accepted_typed}
 use Rattle.script_compiler.proofs.Accepting.{is_code_of}
 use Rattle.script_compiler.proofs.Refusing.{not_memory, over_budget}
 use Rattle.script_compiler.proofs.compiler.compile.Goals as goal
@@ -109,7 +110,7 @@ returns-in_err-test_costs-clause-refused c =
     let lines_are : lines ≡ lines_of (places_of s) = c.in_ok-work.ensures.lines ∙ ap lines_of places_are in
     let budget_is : budget ≡ s.header.budget = ap (λ (p : Plan). p.budget) plan_is in
     let each : (pc : ℕ) → get_or needs pc 0 ≡ longest (instrs_of lines) (budget + 1) pc = λ pc. c.in_ok-costs.ensures pc ∙ ap (λ (ls : List Line). longest (instrs_of ls) (budget + 1) pc) c.deref.ensures.value in
-    let h : IsRefusal c.in_err-test_costs.field-0.0 → IsAccepted s → IsTypedAsCode s → ⊥ = λ is accepted typed.
+    let h : IsRefusal c.in_err-test_costs.field-0.0 → IsAccepted s → ⊥ = λ is accepted.
     let within : IsWithin budget (instrs_of lines) = subst (λ b. IsWithin b (instrs_of lines)) (sym budget_is) (subst (λ (ls : List Line). IsWithin s.header.budget (instrs_of ls)) (sym lines_are) accepted.within) in
     let over = c.in_err-test_costs.ensures.refused (not_memory c.in_err-test_costs.field-0.0 is) in
     let more : budget < get_or needs over.0 0 = let x = ap (λ xs. get_or xs over.0 0) c.deref-3.ensures.value in let y = over.1 in omega (arith, x, y) in
@@ -142,4 +143,4 @@ returns-in-Err-clause-refused c =
     let is_code : IsCodeOf s code = is_code_of s c.plan_of-plan.result configs labels last marks plan_is (c.deref-8.ensures.value ∙ lines_are) marks_are tabled labelled in
     let priced : Priced needs c.in_ok-made.made.labels.items = subst (λ xs. Priced xs c.in_ok-made.made.labels.items) c.deref-5.ensures.value made.costs in
     let costs : CostsItsNeeds code = costs_needs code lines c.in_ok-made.made.labels.items needs budget c.deref-8.ensures.value c.deref-7.ensures.value each within priced in
-    λ is accepted typed. c.in-Err.ensures.refused is (typed code is_code costs)
+    λ is accepted. c.in-Err.ensures.refused is (accepted_typed s code accepted is_code costs)

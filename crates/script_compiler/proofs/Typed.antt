@@ -1,0 +1,463 @@
+-- The code of a script that is judged, and whose needs are within the budget, is typed.
+use Rattle.std.proofs.Common.{◌≡◌, ℕ, zero, suc, ◌+◌, ◌-◌, ◌<◌, ◌≤◌, Bool, true, false, if◌then◌else◌, List, [], ◌∷◌, length, Option, Some, None, refl, sym, ap, ◌∙◌, subst, arith, inl, inr}
+use Rattle.std.specs.Prelude.{slice_get, Contains, nat_lt}
+use Rattle.std.specs.Option.{option_map}
+use Rattle.std.proofs.lemmas.Bool.{cases_lt}
+use Rattle.std.proofs.lemmas.Option.{slice_get_within}
+use Rattle.mux_config.specs.Configuration.{Configuration}
+use Rattle.mux_config.specs.Sound.{IsSound}
+use Rattle.plan_code.specs.declared.flags.Counters.{Counters}
+use Rattle.plan_code.specs.declared.instr.Instr.{Instr}
+use Rattle.plan_code.specs.declared.instr.Instr.TheVariants.{Wait, Until, WaitContact, CommitIn, CommitAt, Join, Settle, End, Edit, Test, Jump, Set, Loop}
+use Rattle.plan_code.specs.declared.label.Label.{Label}
+use Rattle.plan_code.specs.declared.label.Swap.{Swap}
+use Rattle.plan_code.specs.declared.label.Swap.TheVariants.{Idle, Within, Perhaps}
+use Rattle.plan_code.specs.declared.plan.Plan.{Plan}
+use Rattle.plan_code.specs.Flags.{is_set}
+use Rattle.plan_code.specs.Program.{Program, instr_at, label_at}
+use Rattle.plan_verifier.specs.Typing.{Known, FitsSwap, IsFine, swapped, waited, perhaps_swapped, paused, settled, spent, rested, leaves, target_of, continues, pages_alone, Declares, ComesTo, Arrives, HasOpening, IsPlaced, Reaches, IsAfter, IsSafe, IsTyped}
+use Rattle.script_front.specs.Block.{Block}
+use Rattle.script_front.specs.Tree.{Tree}
+use Rattle.script_scheme.specs.declared.flow.Flow.{Flow}
+use Rattle.script_scheme.specs.declared.flow.Spot.{Spot}
+use Rattle.script_scheme.specs.Scheme.{Place, known_at, flow_of, moved, past, all_places, mark_of, marks_of}
+use Rattle.script_scheme.specs.Judged.{IsJudged, FitsFlow}
+use Rattle.script_scheme.specs.Need.{suspends, GoesTo, IsNeed, IsWithin}
+use Rattle.script_scheme.specs.Compiled.{beginning, plan_of, opening_of, body_of, places_of, lines_of, instrs_of, first_counters, nested, IsLabelOf, AreLabelsOf, IsCodeOf, CostsItsNeeds, IsAccepted}
+use Rattle.script_compiler.specs.Longest.{longest}
+use Rattle.script_compiler.proofs.Paths.{one_least, need_most, need_onward, is_need}
+use Rattle.script_compiler.proofs.Laid.{length_lines}
+use Rattle.script_compiler.proofs.Sound.{Stand, stand_all, known_with, set_after, counted, Lands, Meets, Holds, AllHold, all_hold, opens, fits_same}
+use Rattle.script_compiler.proofs.Connected.{Connected, all_connected}
+use Rattle.script_compiler.proofs.Labelled.{Found, label_found, label_contained, found_contained, label_place}
+use Rattle.script_compiler.proofs.First.{first_of_all}
+
+some_same : {A : Type 0} (x y : A) → Some x ≡ Some y → x ≡ y
+some_same x y e = cc
+
+-- ---- what an instruction leaves
+
+-- the next instruction runs in a later frame, which has the whole budget
+abbrev rests : Instr → Bool
+rests (Wait frames) = true
+rests (Until day) = true
+rests (WaitContact contact closed) = true
+rests Join = true
+rests _ = false
+
+abbrev left_over : Plan → Instr → ℕ → ℕ
+left_over plan i allowance = if rests i then plan.budget else allowance - 1
+
+waited_known : (plan : Plan) (frames : ℕ) (p : Swap) (f : Flow) (c : Counters) (a : ℕ) → rested plan (waited frames p (known_with f c a)) ≡ known_with (flow_of (waited frames p (known_at f))) c plan.budget
+waited_known plan frames Idle f c a = refl
+waited_known plan frames (Within lo hi) f c a = by (nat_lt frames lo)
+  where
+    by : (b : Bool) → rested plan (if b then record (known_with f c a) { pending = Within (lo - frames) (hi - frames) } else swapped (known_with f c a))
+        ≡ known_with (flow_of (if b then record (known_at f) { pending = Within (lo - frames) (hi - frames) } else swapped (known_at f))) c plan.budget
+    by true = refl
+    by false = refl
+waited_known plan frames (Perhaps hi) f c a = by (nat_lt frames hi)
+  where
+    by : (b : Bool) → rested plan (if b then record (known_with f c a) { pending = Perhaps (hi - frames) } else swapped (known_with f c a))
+        ≡ known_with (flow_of (if b then record (known_at f) { pending = Perhaps (hi - frames) } else swapped (known_at f))) c plan.budget
+    by true = refl
+    by false = refl
+
+perhaps_known : (plan : Plan) (hi : ℕ) (f : Flow) (c : Counters) (a : ℕ) → rested plan (perhaps_swapped hi (known_with f c a)) ≡ known_with (flow_of (perhaps_swapped hi (known_at f))) c plan.budget
+perhaps_known plan hi f c a = by (nat_lt 1 hi)
+  where
+    by : (b : Bool) → rested plan (if b then record (known_with f c a) { pending = Perhaps (hi - 1) } else swapped (known_with f c a))
+        ≡ known_with (flow_of (if b then record (known_at f) { pending = Perhaps (hi - 1) } else swapped (known_at f))) c plan.budget
+    by true = refl
+    by false = refl
+
+paused_known : (plan : Plan) (p : Swap) (f : Flow) (c : Counters) (a : ℕ) → rested plan (paused p (known_with f c a)) ≡ known_with (flow_of (paused p (known_at f))) c plan.budget
+paused_known plan Idle f c a = refl
+paused_known plan (Within lo hi) f c a = perhaps_known plan hi f c a
+paused_known plan (Perhaps hi) f c a = perhaps_known plan hi f c a
+
+settled_known : (p : Swap) (f : Flow) (c : Counters) (a : ℕ) → spent (settled p (known_with f c a)) ≡ known_with (flow_of (settled p (known_at f))) c (a - 1)
+settled_known Idle f c a = refl
+settled_known (Within lo hi) f c a = refl
+settled_known (Perhaps hi) f c a = refl
+
+leaves_known : (plan : Plan) (i : Instr) (f : Flow) (c : Counters) (a : ℕ) → leaves plan i (known_with f c a) ≡ known_with (moved plan i f) (set_after i c) (left_over plan i a)
+leaves_known plan (Wait frames) f c a = waited_known plan frames f.pending f c a
+leaves_known plan (Until day) f c a = paused_known plan f.pending f c a
+leaves_known plan (WaitContact contact closed) f c a = paused_known plan f.pending f c a
+leaves_known plan (CommitIn delay) f c a = refl
+leaves_known plan (CommitAt count) f c a = refl
+leaves_known plan Join f c a = refl
+leaves_known plan Settle f c a = settled_known f.pending f c a
+leaves_known plan End f c a = refl
+leaves_known plan (Edit edit) f c a = refl
+leaves_known plan (Test contact target) f c a = refl
+leaves_known plan (Jump target) f c a = refl
+leaves_known plan (Set counter times) f c a = refl
+leaves_known plan (Loop counter target) f c a = refl
+
+-- ---- where an instruction goes
+
+goes_on : (i : Instr) → continues i ≡ true → rests i ≡ false → suspends i ≡ false
+goes_on (Wait frames) h k = k
+goes_on (Until day) h k = k
+goes_on (WaitContact contact closed) h k = k
+goes_on (CommitIn delay) h k = refl
+goes_on (CommitAt count) h k = refl
+goes_on Join h k = k
+goes_on Settle h k = refl
+goes_on End h k = cc
+goes_on (Edit edit) h k = refl
+goes_on (Test contact target) h k = refl
+goes_on (Jump target) h k = refl
+goes_on (Set counter times) h k = refl
+goes_on (Loop counter target) h k = refl
+
+targets_run : (i : Instr) (to : ℕ) → target_of i ≡ Some to → suspends i ≡ false
+targets_run (Wait frames) to h = cc
+targets_run (Until day) to h = cc
+targets_run (WaitContact contact closed) to h = cc
+targets_run (CommitIn delay) to h = cc
+targets_run (CommitAt count) to h = cc
+targets_run Join to h = cc
+targets_run Settle to h = cc
+targets_run End to h = cc
+targets_run (Edit edit) to h = cc
+targets_run (Test contact target) to h = refl
+targets_run (Jump target) to h = refl
+targets_run (Set counter times) to h = cc
+targets_run (Loop counter target) to h = refl
+
+-- ---- states that fit labels
+
+swap_known : (p q : Swap) (s t : Flow) (c d : Counters) (a b : ℕ) → FitsSwap p q (known_at s) (known_at t) → FitsSwap p q (known_with s c a) (known_with t d b)
+swap_known Idle Idle s t c d a b h = h
+swap_known Idle (Within lo hi) s t c d a b h = h
+swap_known Idle (Perhaps hi) s t c d a b h = h
+swap_known (Within lo hi) Idle s t c d a b h = h
+swap_known (Within lo hi) (Within l2 h2) s t c d a b h = h
+swap_known (Within lo hi) (Perhaps h2) s t c d a b h = h
+swap_known (Perhaps hi) Idle s t c d a b h = h
+swap_known (Perhaps hi) (Within l2 h2) s t c d a b h = h
+swap_known (Perhaps hi) (Perhaps h2) s t c d a b h = h
+
+one_need : (instrs : List Instr) (pc a b : ℕ) → IsNeed instrs pc a → IsNeed instrs pc b → a ≡ b
+one_need instrs pc a b h k = let x = k.longest a h.path in let y = h.longest b k.path in omega (arith, x, y)
+
+-- ---- places of a code
+
+instr_of_place : (ps : List Place) (pc : ℕ) (p : Place) → slice_get ps pc ≡ Some p → slice_get (instrs_of (lines_of ps)) pc ≡ Some p.instr
+instr_of_place [] pc p e = cc
+instr_of_place (q ∷ ps) zero p e = ap (λ (x : Place). Some x.instr) (some_same q p e)
+instr_of_place (q ∷ ps) (suc pc) p e = instr_of_place ps pc p e
+
+place_of : (ps : List Place) (pc : ℕ) (i : Instr) → option_map (λ l. l.instr) (slice_get (lines_of ps) pc) ≡ Some i → (p : Place) × (slice_get ps pc ≡ Some p) × (p.instr ≡ i)
+place_of [] pc i e = cc
+place_of (p ∷ ps) zero i e = (p, refl, some_same p.instr i e)
+place_of (p ∷ ps) (suc pc) i e = place_of ps pc i e
+
+instr_line : (ps : List Place) (pc : ℕ) (p : Place) → slice_get ps pc ≡ Some p → option_map (λ l. l.instr) (slice_get (lines_of ps) pc) ≡ Some p.instr
+instr_line [] pc p e = cc
+instr_line (q ∷ ps) zero p e = ap (λ (x : Place). Some x.instr) (some_same q p e)
+instr_line (q ∷ ps) (suc pc) p e = instr_line ps pc p e
+
+got : {A : Type 0} (xs : List A) (i : ℕ) → i < length xs → (x : A) × (slice_get xs i ≡ Some x)
+got [] i lt = absurd (omega (arith, lt))
+got (x ∷ xs) zero lt = (x, refl)
+got (x ∷ xs) (suc i) lt = got xs i (omega (arith, lt))
+
+module _ (code : Program) (whole : List Place) where
+  abbrev plan : Plan
+  plan = code.plan
+
+  abbrev instrs : List Instr
+  instrs = instrs_of (lines_of whole)
+
+  abbrev need : ℕ → ℕ
+  need pc = longest instrs (plan.budget + 1) pc
+
+  -- what is known at a place, where so many instructions may still run
+  abbrev known_there : ℕ → Place → ℕ → Known
+  known_there pc p came = known_with p.spot.flow (first_counters p.repeats) (if p.spot.labelled then need pc else came)
+
+  abbrev knowns : ℕ → ℕ → List Place → List Known
+  knowns came pc [] = []
+  knowns came pc (p ∷ ps) = known_there pc p came ∷ knowns (left_over plan p.instr (known_there pc p came).allowance) (pc + 1) ps
+
+  length_knowns : (came pc : ℕ) (ps : List Place) → length (knowns came pc ps) ≡ length ps
+  length_knowns came pc [] = refl
+  length_knowns came pc (p ∷ ps) = let ih = length_knowns (left_over plan p.instr (known_there pc p came).allowance) (pc + 1) ps in omega (arith, ih)
+
+  -- what is known at one place of the code, and at the next
+  record At (pc : ℕ) (p : Place) (t : Known) (following : Option Place) (next : Option Known) : Type 0 where
+    known : t ≡ known_with p.spot.flow (first_counters p.repeats) t.allowance
+    affords : need pc ≤ t.allowance
+    marked : p.spot.labelled ≡ true → t.allowance ≡ need pc
+    onward : (q : Place) → following ≡ Some q → next ≡ Some (known_there (pc + 1) q (left_over plan p.instr t.allowance))
+    connected : (q : Place) → following ≡ Some q → q.spot.labelled ≡ false → continues p.instr ≡ true
+
+  module _ (within : IsWithin plan.budget instrs) where
+    -- an instruction leaves what may run at any place that it goes on to
+    enough : (pc to : ℕ) (p : Place) (a : ℕ) → slice_get whole pc ≡ Some p → need pc ≤ a → (rests p.instr ≡ false → GoesTo p.instr pc to) → need to ≤ left_over plan p.instr a
+    enough pc to p a e h g = by (rests p.instr) refl
+      where
+        by : (b : Bool) → rests p.instr ≡ b → need to ≤ (if b then plan.budget else a - 1)
+        by true s = need_most instrs plan.budget to within
+        by false s = let more = need_onward instrs plan.budget pc to p.instr within (instr_of_place whole pc p e) (g s) in omega (arith, more, h)
+
+    head_affords : (pc came : ℕ) (b : Bool) → (b ≡ false → need pc ≤ came) → need pc ≤ (if b then need pc else came)
+    head_affords pc came true h = omega arith
+    head_affords pc came false h = h refl
+
+    next_head : (came pc : ℕ) (ps : List Place) (q : Place) → slice_get ps 0 ≡ Some q → slice_get (knowns came pc ps) 0 ≡ Some (known_there pc q came)
+    next_head came pc [] q h = cc
+    next_head came pc (p ∷ ps) q h = ap (λ x. Some (known_there pc x came)) (some_same p q h)
+
+    follows_head : (came : Bool) (ps : List Place) (q : Place) → Connected came ps → slice_get ps 0 ≡ Some q → q.spot.labelled ≡ false → came ≡ true
+    follows_head came [] q c h = cc
+    follows_head came (p ∷ ps) q c h = let same : p ≡ q = some_same p q h in subst (λ (x : Place). x.spot.labelled ≡ false → came ≡ true) same c.0
+
+    at_head : (q : Place) (ps : List Place) (k came : ℕ) (c : Bool) → Connected c (q ∷ ps) → (c ≡ true → need k ≤ came) →
+        At k q (known_there k q came) (slice_get ps 0) (slice_get (knowns (left_over plan q.instr (known_there k q came).allowance) (k + 1) ps) 0)
+    at_head q ps k came c co h = record {
+      known = refl;
+      affords = head_affords k came q.spot.labelled (λ e. h (co.0 e));
+      marked = λ e. ap (λ b. if b then need k else came) e;
+      onward = λ x e. next_head (left_over plan q.instr (known_there k q came).allowance) (k + 1) ps x e;
+      connected = λ x e. follows_head (continues q.instr) ps x co.1 e;
+    }
+
+    at_each : (ps : List Place) (k came : ℕ) (c : Bool) → Stand whole k ps → Connected c ps → (c ≡ true → need k ≤ came) → (j : ℕ) (p : Place) (t : Known) →
+        slice_get ps j ≡ Some p → slice_get (knowns came k ps) j ≡ Some t → At (k + j) p t (slice_get ps (j + 1)) (slice_get (knowns came k ps) (j + 1))
+    at_each [] k came c st co h j p t e f = cc
+    at_each (q ∷ ps) k came c st co h zero p t e f =
+        let after_it = slice_get (knowns (left_over plan q.instr (known_there k q came).allowance) (k + 1) ps) 0 in
+        let here : k ≡ k + 0 = omega arith in
+        let first = at_head q ps k came c co h in
+        let as_p = subst (λ x. At k x (known_there k q came) (slice_get ps 0) after_it) (some_same q p e) first in
+        let as_t = subst (λ x. At k p x (slice_get ps 0) after_it) (some_same (known_there k q came) t f) as_p in
+        subst (λ n. At n p t (slice_get ps 0) after_it) here as_t
+    at_each (q ∷ ps) k came c st co h (suc j) p t e f =
+        let a = (known_there k q came).allowance in
+        let came' = left_over plan q.instr a in
+        let here : k + 1 + j ≡ k + suc j = omega arith in
+        let further : suc (j + 1) ≡ suc j + 1 = omega arith in
+        let afford = head_affords k came q.spot.labelled (λ e. h (co.0 e)) in
+        let ih = at_each ps (k + 1) came' (continues q.instr) st.1 co.1 (λ g. enough k (k + 1) q a st.0 afford (λ s. (goes_on q.instr g s, inl (g, refl)))) j p t e f in
+        let at_here = subst (λ n. At n p t (slice_get ps (j + 1)) (slice_get (knowns came' (k + 1) ps) (j + 1))) here ih in
+        subst (λ n. At (k + suc j) p t (slice_get (q ∷ ps) n) (slice_get (knowns came k (q ∷ ps)) n)) further at_here
+
+    -- ---- the typing of the whole code
+
+    abbrev typing : List Known
+    typing = knowns 0 0 whole
+
+    module _ (st : Stand whole 0 whole) (co : Connected false whole) (holds : AllHold plan whole 0 whole) where
+      at_pc : (pc : ℕ) (p : Place) (t : Known) → slice_get whole pc ≡ Some p → slice_get typing pc ≡ Some t → At pc p t (slice_get whole (pc + 1)) (slice_get typing (pc + 1))
+      at_pc pc p t e f = let here : 0 + pc ≡ pc = omega arith in
+          subst (λ n. At n p t (slice_get whole (pc + 1)) (slice_get typing (pc + 1))) here (at_each whole 0 0 false st co (λ g. cc) pc p t e f)
+
+      hold_at : (ps : List Place) (k j : ℕ) (p : Place) → AllHold plan whole k ps → slice_get ps j ≡ Some p → Holds plan whole (k + j) p
+      hold_at [] k j p h e = cc
+      hold_at (q ∷ ps) k zero p h e = let here : k ≡ k + 0 = omega arith in
+          subst (λ n. Holds plan whole n p) here (subst (λ x. Holds plan whole k x) (some_same q p e) h.0)
+      hold_at (q ∷ ps) k (suc j) p h e = let here : k + 1 + j ≡ k + suc j = omega arith in
+          subst (λ n. Holds plan whole n p) here (hold_at ps (k + 1) j p h.1 e)
+
+      hold_pc : (pc : ℕ) (p : Place) → slice_get whole pc ≡ Some p → Holds plan whole pc p
+      hold_pc pc p e = let here : 0 + pc ≡ pc = omega arith in subst (λ n. Holds plan whole n p) here (hold_at whole 0 pc p holds e)
+
+      -- what is known of a place
+      known_of : (pc : ℕ) (p : Place) → slice_get whole pc ≡ Some p → (t : Known) × (slice_get typing pc ≡ Some t)
+      known_of pc p e = got typing pc (omega (arith, slice_get_within whole pc p e, length_knowns 0 0 whole))
+
+      -- ---- labels
+
+      module _ (lines_are : code.lines ≡ lines_of whole) (labels_are : AreLabelsOf code.configurations (marks_of 0 whole) code.labels) (costs : CostsItsNeeds code) where
+        label_there : (pc : ℕ) (p : Place) → slice_get whole pc ≡ Some p → p.spot.labelled ≡ true → Found code.configurations pc p code.labels
+        label_there pc p e l = let here : 0 + pc ≡ pc = omega arith in
+            subst (λ n. Found code.configurations n p code.labels) here (label_found code.configurations whole code.labels 0 pc p labels_are e l)
+
+        no_label : (pc : ℕ) (p : Place) → slice_get whole pc ≡ Some p → p.spot.labelled ≡ false → (o : Option Label) → label_at code pc ≡ o → o ≡ None
+        no_label pc p e l None h = refl
+        no_label pc p e l (Some x) h = let m = label_place code.configurations whole code.labels pc x p labels_are h e in let f : true ≡ false = sym m ∙ l in cc
+
+        -- what it costs is what is needed there
+        cost_is : (l : Label) (pc : ℕ) → Contains code.labels l → l.pc ≡ pc → l.cost ≡ need pc
+        cost_is l pc has at =
+            let is : IsNeed instrs l.pc l.cost = subst (λ ls. IsNeed (instrs_of ls) l.pc l.cost) lines_are (costs l has) in
+            let here : IsNeed instrs pc l.cost = subst (λ n. IsNeed instrs n l.cost) at is in
+            one_need instrs pc l.cost (need pc) here (is_need instrs plan.budget pc within)
+
+        declares_place : (pc : ℕ) (p : Place) (l : Label) → Contains code.labels l → IsLabelOf code.configurations (mark_of pc p) l → Declares code l (known_with p.spot.flow (first_counters p.repeats) (need pc))
+        declares_place pc p l has is = record {
+          current = is.current;
+          next = is.following;
+          pending = is.pending;
+          counters = is.counters;
+          cost = cost_is l pc has is.place;
+        }
+
+        comes_to : (pc : ℕ) (p : Place) (f : Flow) (c : Counters) (a : ℕ) (m : Found code.configurations pc p code.labels) → FitsFlow f p.spot.flow → c ≡ first_counters p.repeats → need pc ≤ a → ComesTo code m.label (known_with f c a)
+        comes_to pc p f c a m fits ec n =
+            let has = found_contained code.configurations code.labels pc m.label m.there in
+            let cost = cost_is m.label pc has m.is.place in
+            record {
+              declared = known_with p.spot.flow (first_counters p.repeats) (need pc);
+              declares = declares_place pc p m.label has m.is;
+              fits = record {
+                swap = swap_known f.pending p.spot.flow.pending f p.spot.flow c (first_counters p.repeats) a (need pc) fits;
+                counters = λ r on. subst (λ x. is_set x r ≡ true) (sym ec) on;
+              };
+              affords = omega (arith, cost, n);
+            }
+
+        meets_reaches : (to : ℕ) (p : Place) (a : ℕ) → need to ≤ a → Meets whole to p.repeats p.spot.flow → Reaches code to (known_with p.spot.flow (first_counters p.repeats) a)
+        meets_reaches to p a n m =
+            let found = label_there to m.place m.there m.labelled in
+            record { label = found.label; there = found.there; comes = comes_to to m.place p.spot.flow (first_counters p.repeats) a found m.fits (ap first_counters (sym m.repeats)) n }
+
+        arrives_at : (pc r a : ℕ) (f : Flow) → need pc ≤ a → (l : Lands whole pc r (past f)) → slice_get typing pc ≡ Some (known_there pc l.place a) → (b : Bool) → l.place.spot.labelled ≡ b →
+            Arrives code typing pc (label_at code pc) (known_with f (first_counters r) a)
+        arrives_at pc r a f n l known true b =
+            let fits : FitsFlow f l.place.spot.flow = elim l.fits [
+              | inl same ↦ subst (λ (x : Spot). FitsFlow f x.flow) (sym same) (fits_same f)
+              | inr h ↦ h.1
+            ] in
+            let found = label_there pc l.place l.there b in
+            subst (λ o. Arrives code typing pc o (known_with f (first_counters r) a)) (sym found.there) (comes_to pc l.place f (first_counters r) a found fits (ap first_counters (sym l.repeats)) n)
+        arrives_at pc r a f n l known false b =
+            let spot : l.place.spot ≡ past f = elim l.fits [
+              | inl same ↦ same
+              | inr h ↦ let e : true ≡ false = sym h.0 ∙ b in cc
+            ] in
+            let same : known_there pc l.place a ≡ known_with f (first_counters r) a =
+            ap (λ x. known_with l.place.spot.flow (first_counters l.place.repeats) (if x then need pc else a)) b
+            ∙ ap (λ (x : Spot). known_with x.flow (first_counters l.place.repeats) a) spot ∙ ap (λ n. known_with f (first_counters n) a) l.repeats in
+            let there : slice_get typing pc ≡ Some (known_with f (first_counters r) a) = known ∙ ap (λ x. Some x) same in
+            subst (λ o. Arrives code typing pc o (known_with f (first_counters r) a)) (sym (no_label pc l.place l.there b (label_at code pc) refl)) there
+
+        safe_place : (pc : ℕ) (p : Place) (t : Known) → slice_get whole pc ≡ Some p → slice_get typing pc ≡ Some t → IsSafe code typing pc p.instr t
+        safe_place pc p t e f =
+            let a = at_pc pc p t e f in
+            let h = hold_pc pc p e in
+            let c = first_counters p.repeats in
+            let least = one_least instrs plan.budget pc p.instr (instr_of_place whole pc p e) in
+            let left : leaves plan p.instr t ≡ known_with (moved plan p.instr p.spot.flow) (first_counters (counted p.instr p.repeats)) (left_over plan p.instr t.allowance) =
+            ap (λ x. leaves plan p.instr x) a.known ∙ leaves_known plan p.instr p.spot.flow c t.allowance ∙ ap (λ x. known_with (moved plan p.instr p.spot.flow) x (left_over plan p.instr t.allowance)) h.counters in
+            record {
+              allowance = omega (arith, least, a.affords);
+              fine = subst (λ x. IsFine plan p.instr x) (sym a.known) (h.fine t.allowance);
+              inside = λ g. let l = h.onward g in let n = ap length lines_are in let m = length_lines whole in omega (arith, slice_get_within whole (pc + 1) l.place l.there, n, m);
+              onward = λ g.
+                  let l = h.onward g in
+                  let n = enough pc (pc + 1) p t.allowance e a.affords (λ s. (goes_on p.instr g s, inl (g, refl))) in
+                  subst (λ x. Arrives code typing (pc + 1) (label_at code (pc + 1)) x) (sym left)
+                  (arrives_at (pc + 1) (counted p.instr p.repeats) (left_over plan p.instr t.allowance) (moved plan p.instr p.spot.flow) n l (a.onward l.place l.there) l.place.spot.labelled refl);
+              targets = λ to g.
+                  let more = need_onward instrs plan.budget pc to p.instr within (instr_of_place whole pc p e) (targets_run p.instr to g, inr g) in
+                  let n : need to ≤ t.allowance - 1 = omega (arith, more, a.affords) in
+                  subst (λ x. Reaches code to (spent x)) (sym a.known) (meets_reaches to p (t.allowance - 1) n (h.targets to g));
+            }
+
+        safe : (pc : ℕ) (i : Instr) (t : Known) → instr_at code pc ≡ Some i → slice_get typing pc ≡ Some t → IsSafe code typing pc i t
+        safe pc i t e f =
+            let there : option_map (λ l. l.instr) (slice_get (lines_of whole) pc) ≡ Some i = subst (λ ls. option_map (λ l. l.instr) (slice_get ls pc) ≡ Some i) lines_are e in
+            let p = place_of whole pc i there in subst (λ x. IsSafe code typing pc x t) p.2 (safe_place pc p.0 t p.1 f)
+
+        placed_label : (l : Label) → Contains code.labels l → IsPlaced code typing l
+        placed_label l has =
+            let m = label_contained code.configurations whole code.labels 0 l labels_are has in
+            let here : 0 + m.index ≡ m.index = omega arith in
+            let is : IsLabelOf code.configurations (mark_of m.index m.place) l = subst (λ n. IsLabelOf code.configurations (mark_of n m.place) l) here m.is in
+            let t = known_of m.index m.place m.there in
+            let a = at_pc m.index m.place t.0 m.there t.1 in
+            let same : t.0 ≡ known_with m.place.spot.flow (first_counters m.place.repeats) (need m.index) = a.known ∙ ap (λ n. known_with m.place.spot.flow (first_counters m.place.repeats) n) (a.marked m.labelled) in
+            let cost = cost_is l m.index has is.place in
+            let most = need_most instrs plan.budget m.index within in
+            record {
+              known = known_with m.place.spot.flow (first_counters m.place.repeats) (need m.index);
+              there = ap (λ n. slice_get typing n) is.place ∙ t.1 ∙ ap (λ x. Some x) same;
+              declares = declares_place m.index m.place l has is;
+              within = omega (arith, cost, most);
+            }
+
+        after_one : (pc : ℕ) → pc < length code.lines → label_at code pc ≡ None → 0 < pc → IsAfter code pc
+        after_one zero lt h pos = absurd (omega (arith, pos))
+        after_one (suc pc) lt h pos =
+            let n = length_lines whole in
+            let m = ap length lines_are in
+            let before = got whole pc (omega (arith, lt, n, m)) in
+            let here = got whole (suc pc) (omega (arith, lt, n, m)) in
+            let t = known_of pc before.0 before.1 in
+            let a = at_pc pc before.0 t.0 before.1 t.1 in
+            let next : suc pc ≡ pc + 1 = omega arith in
+            let at_next : slice_get whole (pc + 1) ≡ Some here.0 = subst (λ n. slice_get whole n ≡ Some here.0) next here.1 in
+            let there : instr_at code pc ≡ Some before.0.instr = subst (λ ls. option_map (λ l. l.instr) (slice_get ls pc) ≡ Some before.0.instr) (sym lines_are) (instr_line whole pc before.0 before.1) in
+            record { before = pc; instr = before.0.instr; next = next; there = there; onward = a.connected here.0 at_next (unlabelled (suc pc) here.0 here.1 h here.0.spot.labelled refl) }
+          where
+            unlabelled : (pc : ℕ) (p : Place) → slice_get whole pc ≡ Some p → label_at code pc ≡ None → (b : Bool) → p.spot.labelled ≡ b → p.spot.labelled ≡ false
+            unlabelled pc p e h true l = let found = label_there pc p e l in let f : None ≡ Some found.label = sym h ∙ found.there in cc
+            unlabelled pc p e h false l = l
+
+        typed_by : HasOpening code → IsTyped code
+        typed_by o = (
+          typing,
+          record {
+            each = length_knowns 0 0 whole ∙ sym (length_lines whole) ∙ sym (ap length lines_are);
+            opening = o;
+            labels = placed_label;
+            safe = safe;
+            reached = λ pc lt h. elim (cases_lt 0 pc) [
+              | inl pos ↦ after_one pc lt h pos
+              | inr le ↦ let zero_pc : pc ≡ 0 = omega (arith, le) in let f : None ≡ Some o.label = sym h ∙ subst (λ n. label_at code n ≡ Some o.label) (sym zero_pc) o.first in cc
+            ];
+          },
+        )
+
+        opening_by : (p : Place) (c : Configuration) → slice_get whole 0 ≡ Some p → p.spot.labelled ≡ true → p.spot.flow ≡ (beginning c).flow → p.repeats ≡ 0 → IsSound c → pages_alone plan c ≤ plan.period → HasOpening code
+        opening_by p c e l flow repeats sound period =
+            let found = label_there 0 p e l in
+            let has = found_contained code.configurations code.labels 0 found.label found.there in
+            let known = known_with p.spot.flow (first_counters p.repeats) (need 0) in
+            let current : p.spot.flow.current ≡ c = ap (λ (x : Flow). x.current) flow in
+            record {
+              label = found.label;
+              known = known;
+              first = found.there;
+              declares = declares_place 0 p found.label has found.is;
+              opening = record {
+                initial = record { same = current ∙ sym (ap (λ (x : Flow). x.next) flow); idle = ap (λ (x : Flow). x.pending) flow; unset = ap (λ n. (first_counters n).0) repeats };
+                sound = subst IsSound (sym current) sound;
+                within_period = subst (λ x. pages_alone plan x ≤ plan.period) (sym current) period;
+              };
+            }
+
+-- ---- the theorem
+
+pub typed_from : (code : Program) (last : ℕ) (b : Block) (c : Configuration) → code.lines ≡ lines_of (all_places code.plan last b (beginning c)) → AreLabelsOf code.configurations (marks_of 0 (all_places code.plan last b (beginning c))) code.labels → CostsItsNeeds code
+    → IsSound c → pages_alone code.plan c ≤ code.plan.period → nested b ≤ 8 → IsJudged code.plan b (beginning c) → IsWithin code.plan.budget (instrs_of (lines_of (all_places code.plan last b (beginning c)))) → IsTyped code
+typed_from code last b c lines_are labels_are costs sound period deep judged within =
+    let s = beginning c in
+    let whole = all_places code.plan last b s in
+    let st = stand_all whole [] in
+    let co = all_connected code.plan last b s refl in
+    let holds = all_hold code.plan last b s deep judged in
+    let first = first_of_all code.plan last b s in
+    let there : slice_get whole 0 ≡ Some first.place = ap (λ xs. slice_get xs 0) first.is in
+    let m = opens code.plan last b s deep judged refl in
+    let same : m.place ≡ first.place = some_same m.place first.place (sym m.there ∙ there) in
+    let repeats : first.place.repeats ≡ 0 = sym (ap (λ (x : Place). x.repeats) same) ∙ m.repeats in
+    typed_by code whole within st co holds lines_are labels_are costs
+    (opening_by code whole within st co holds lines_are labels_are costs first.place c there (first.labelled refl) first.flow repeats sound period)
+
+pub accepted_typed : (s : Tree) (code : Program) → IsAccepted s → IsCodeOf s code → CostsItsNeeds code → IsTyped code
+accepted_typed s code a is costs =
+    let b = body_of s in
+    let c = opening_of s in
+    let e : plan_of s ≡ code.plan = sym is.plan in
+    let places_are : places_of s ≡ all_places code.plan s.last_line b (beginning c) = ap (λ (p : Plan). all_places p s.last_line b (beginning c)) e in
+    let deep : nested b ≤ 8 = a.repeats in
+    typed_from code s.last_line b c (is.lines ∙ ap lines_of places_are) (subst (λ ps. AreLabelsOf code.configurations (marks_of 0 ps) code.labels) places_are is.labels) costs a.sound
+    (subst (λ (p : Plan). pages_alone p c ≤ p.period) e a.within_period) deep (subst (λ (p : Plan). IsJudged p b (beginning c)) e a.judged)
+    (subst (λ ps. IsWithin code.plan.budget (instrs_of (lines_of ps))) places_are (subst (λ (p : Plan). IsWithin p.budget (instrs_of (lines_of (places_of s)))) e a.within))
