@@ -16,3 +16,4 @@ mod Connected
 mod Labelled
 mod First
 mod Typed
+mod Rooms

@@ -14,15 +14,8 @@ use Rattle.script_scheme.specs.Compiled.{Added, Tabled, IsLabelOf, AreLabelsOf, 
 use Rattle.script_compiler.specs.Longest.{longest, Priced}
 use Rattle.script_compiler.proofs.Paths.{within_from, is_need}
 use Rattle.script_compiler.specs.Laying.{Grows, Names}
-
-pub stays : (xs ys : List Configuration) (i : ℕ) (c : Configuration) → slice_get xs i ≡ Some c → slice_get (xs ++ ys) i ≡ Some c
-stays [] ys i c e = cc
-stays (x ∷ xs) ys zero c e = e
-stays (x ∷ xs) ys (suc i) c e = stays xs ys i c e
-
-pub stands_last : (xs : List Configuration) (c : Configuration) → slice_get (xs ++ c ∷ []) (length xs) ≡ Some c
-stands_last [] c = refl
-stands_last (x ∷ xs) c = stands_last xs c
+use Rattle.script_compiler.specs.Room.{HasRoomFor, IsDeepAtMost, named_by}
+use Rattle.script_compiler.proofs.Rooms.{stays, stands_last, leaves_mark, room_front}
 
 pub added_new : (c : Configuration) (table new : List Configuration) → ((i : ℕ) → slice_get table i ≢ Some c) → new ≡ table ++ c ∷ [] → Added c table new
 added_new c table new none e = inr ((λ h. none h.0 h.1), e)
@@ -109,6 +102,8 @@ told_all ms k labels table le told =
 pub record Made (needs : List ℕ) (table : List Configuration) (labels : List Label) (ms : List Mark) (k : ℕ) : Type 0 where
   pub told : Told table labels ms k
   pub priced : Priced needs labels
+  pub room : HasRoomFor [] (named_by ms) → HasRoomFor table (named_by (drop k ms))
+  pub deep : IsDeepAtMost 8 ms → IsDeepAtMost 8 (drop k ms)
 
 priced_push : (needs : List ℕ) (labels : List Label) (l : Label) → l.cost ≡ slice_index needs l.pc → Priced needs labels → Priced needs (labels ++ l ∷ [])
 priced_push needs labels l cost priced = λ x has. elim (Contains-push_cases labels l x has) [
@@ -119,10 +114,27 @@ priced_push needs labels l cost priced = λ x has. elim (Contains-push_cases lab
 pub made_next : (needs : List ℕ) (ms : List Mark) (k : ℕ) (m : Mark) (l : Label) (labels new : List Label) (table both : List Configuration) → m ≡ get_or ms k m → k < length ms → new ≡ labels ++ l ∷ []
     → Names table m l both → length both ≤ 256 → l.cost ≡ slice_index needs l.pc → Made needs table labels ms k → Made needs both new ms (k + 1)
 made_next needs ms k m l labels new table both is lt e n room cost made =
-    subst (λ (xs : List Label). Made needs both xs ms (k + 1)) (sym e) (record { told = told_next ms k m l labels table both is lt n room made.told; priced = priced_push needs labels l cost made.priced })
+    let cut : drop k ms ≡ get_or ms k m ∷ drop (k + 1) ms = rw (add-one, drop-cons ms k m lt) refl in
+    let first : drop k ms ≡ m ∷ drop (k + 1) ms = cut ∙ ap (λ (x : Mark). x ∷ drop (k + 1) ms) (sym is) in
+    subst (λ (xs : List Label). Made needs both xs ms (k + 1)) (sym e) (record {
+      told = told_next ms k m l labels table both is lt n room made.told;
+      priced = priced_push needs labels l cost made.priced;
+      room = λ all. leaves_mark m table n.one both n.current n.following (named_by (drop (k + 1) ms)) (subst (λ (xs : List Mark). HasRoomFor table (named_by xs)) first (made.room all));
+      deep = λ all. (subst (λ (xs : List Mark). IsDeepAtMost 8 xs) first (made.deep all)).1;
+    })
 
 pub made_first : (needs : List ℕ) (ms : List Mark) → Made needs [] [] ms 0
-made_first needs ms = record { told = told_first ms; priced = λ x has. absurd (omega (arith, has.1)) }
+made_first needs ms = record { told = told_first ms; priced = λ x has. absurd (omega (arith, has.1)); room = λ h. h; deep = λ h. h }
+
+-- no room for the next label
+pub made_full : (needs : List ℕ) (ms : List Mark) (k : ℕ) (m : Mark) (labels : List Label) (table : List Configuration) → m ≡ get_or ms k m → k < length ms
+    → (m.repeats ≤ 8 → HasRoomFor table (named_by (m ∷ [])) → ⊥) → Made needs table labels ms k → IsDeepAtMost 8 ms → HasRoomFor [] (named_by ms) → ⊥
+made_full needs ms k m labels table is lt full made deep room =
+    let cut : drop k ms ≡ get_or ms k m ∷ drop (k + 1) ms = rw (add-one, drop-cons ms k m lt) refl in
+    let first : drop k ms ≡ m ∷ drop (k + 1) ms = cut ∙ ap (λ (x : Mark). x ∷ drop (k + 1) ms) (sym is) in
+    let few = (subst (λ (xs : List Mark). IsDeepAtMost 8 xs) first (made.deep deep)).0 in
+    let some = subst (λ (xs : List Mark). HasRoomFor table (named_by xs)) first (made.room room) in
+    full few (room_front table m (drop (k + 1) ms) some)
 
 -- labels that cost the numbers of the longest paths cost what the code needs, where these are within the budget
 pub costs_needs : (code : Program) (lines : List Line) (labels : List Label) (needs : List ℕ) (budget : ℕ) → code.lines ≡ lines → code.labels ≡ labels

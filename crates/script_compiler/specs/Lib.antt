@@ -1,3 +1,4 @@
 pub mod Refusals
 pub mod Laying
 pub mod Longest
+pub mod Room

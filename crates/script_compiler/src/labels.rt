@@ -1,10 +1,12 @@
 //! The labels of a code, and the configurations that they name.
 
-ghost use Rattle.std.specs.Prelude.{◌≡◌, ℕ, ◌≤◌, [], ◌∷◌, ◌++◌, length, slice_index, OnOk, IfOk, IfErr, IfSome};
+ghost use Rattle.std.specs.Prelude.{◌≡◌, ℕ, ◌<◌, ◌≤◌, None, [], ◌∷◌, ◌++◌, length, slice_index, OnOk, IfOk, IfErr, IfSome};
 ghost use Rattle.script_scheme.specs.Compiled.{first_counters, Tabled, AreLabelsOf};
 ghost use Rattle.script_compiler.specs.Laying.{Names};
 ghost use Rattle.script_compiler.specs.Longest.{Priced};
 ghost use Rattle.script_compiler.specs.Refusals.{IsRefusal};
+ghost use Rattle.script_compiler.specs.Room.{HasRoomFor, IsDeepAtMost, named_by};
+ghost use Rattle.script_compiler.specs.declared.fault.CompileFault.TheVariants.{Limit, Memory};
 
 use crate::fault::CompileFault;
 use crate::needs::at;
@@ -23,7 +25,8 @@ pub(crate) struct Labels {
 
 /// The first so many counters; None where there are not that many.
 fn first_counters(count: u8) -> Option<Counters>
-    ensures { IfSome result (λ c. c ≡ first_counters count) }
+    ensures value { IfSome result (λ c. c ≡ first_counters count) }
+    ensures none { result ≡ None → 8 < count }
 {
     let mut set = Counters(0);
     for number in 0..count {
@@ -43,12 +46,20 @@ fn label_of(mark: &Mark, needs: &[u16], configs: &mut Vec<Config>) -> Result<Lab
     ensures made { IfOk result (λ l. Names configs.old.items mark.now l configs.new.items) }
     ensures cost { IfOk result (λ l. l.cost ≡ slice_index needs.now l.pc) }
     ensures refused { IfErr result (λ e. IsRefusal e → ⊥) }
+    ensures limited { IfErr result (λ e. e ≡ Limit → mark.now.repeats ≤ 8
+        → HasRoomFor configs.old.items (named_by (mark.now ∷ [])) → ⊥) }
 {
     let Some(counters) = first_counters(mark.repeats) else {
         return Err(CompileFault::Limit);
     };
-    let cur = index_of(configs, &mark.flow.current)?;
-    let next = index_of(configs, &mark.flow.next)?;
+    let cur = match index_of(configs, &mark.flow.current) {
+        Ok(cur) => cur,
+        Err(fault) => return Err(fault),
+    };
+    let next = match index_of(configs, &mark.flow.next) {
+        Ok(next) => next,
+        Err(fault) => return Err(fault),
+    };
     Ok(Label {
         pc: mark.pc,
         cur,
@@ -62,7 +73,7 @@ fn label_of(mark: &Mark, needs: &[u16], configs: &mut Vec<Config>) -> Result<Lab
 /// One label more.
 fn add(labels: &mut Vec<Label>, label: Label) -> Result<(), CompileFault>
     ensures added { OnOk result (labels.new.items ≡ labels.old.items ++ label ∷ []) }
-    ensures refused { IfErr result (λ e. IsRefusal e → ⊥) }
+    ensures memory { IfErr result (λ e. e ≡ Memory) }
 {
     if labels.push(label).is_err() {
         return Err(CompileFault::Memory);
@@ -85,11 +96,16 @@ pub(crate) fn labels_of(
     ensures labels { IfOk result (λ l. AreLabelsOf l.configs.items marks.now l.labels.items) }
     ensures costs { IfOk result (λ l. Priced needs.now l.labels.items) }
     ensures refused { IfErr result (λ e. IsRefusal e → ⊥) }
+    ensures limited { IfErr result (λ e. e ≡ Limit → IsDeepAtMost 8 marks.now
+        → HasRoomFor [] (named_by marks.now) → ⊥) }
 {
     let mut configs = Vec::new(alloc);
     let mut labels = Vec::new(alloc);
     for mark in marks {
-        let label = label_of(mark, needs, &mut configs)?;
+        let label = match label_of(mark, needs, &mut configs) {
+            Ok(label) => label,
+            Err(fault) => return Err(fault),
+        };
         if let Err(fault) = add(&mut labels, label) {
             return Err(fault);
         }

@@ -1,9 +1,11 @@
 //! The table of configurations that labels name, each content once.
 
-ghost use Rattle.std.specs.Prelude.{◌≡◌, ◌≢◌, ◌≤◌, ◌<◌, ℕ, length, slice_get, Some, None, OnOk, IfOk, IfErr, IfSome};
+ghost use Rattle.std.specs.Prelude.{◌≡◌, ◌≢◌, ◌≤◌, ◌<◌, ℕ, [], ◌∷◌, length, slice_get, Some, None, OnOk, IfOk, IfErr, IfSome};
 ghost use Rattle.script_scheme.specs.Compiled.{Added};
 ghost use Rattle.script_compiler.specs.Laying.{Grows};
 ghost use Rattle.script_compiler.specs.Refusals.{IsRefusal};
+ghost use Rattle.script_compiler.specs.Room.{HasRoomFor};
+ghost use Rattle.script_compiler.specs.declared.fault.CompileFault.TheVariants.{Limit};
 
 use crate::fault::CompileFault;
 use mux_config::{Config, Store};
@@ -35,6 +37,8 @@ pub(crate) fn index_of(table: &mut Vec<Config>, config: &Config) -> Result<u16, 
     ensures index { IfOk result (λ i. slice_get table.new.items i ≡ Some config.now) }
     ensures grows { OnOk result (Grows table.old.items table.new.items) }
     ensures refused { IfErr result (λ e. IsRefusal e → ⊥) }
+    ensures limited { IfErr result (λ e. e ≡ Limit
+        → HasRoomFor table.old.items (config.now ∷ []) → ⊥) }
 {
     if let Some(index) = find(table, config) {
         return Ok(index as u16);

@@ -1,9 +1,9 @@
-use Rattle.script_compiler.proofs.Tabling.{made_next, told_all}
+use Rattle.script_compiler.proofs.Tabling.{made_next, made_full, told_all}
 use Rattle.script_compiler.proofs.labels.labels_of.Goals as goal
 
 pub loop-mark-preserved : goal.loop-mark-preserved
 loop-mark-preserved c =
-    made_next c.args.needs.now c.args.marks.now c.loop-mark.mark-index c.mark-item.result c.in_ok-label.label c.loop-mark.labels.items c.add.new.labels.items c.loop-mark.configs.items c.label_of.new.configs.items c.mark-item.is c.loop-mark-test.true c.in_default.ensures.added c.in_ok-label.ensures.made c.in_ok-label.ensures.room c.in_ok-label.ensures.cost c.loop-mark.invariant
+    made_next c.args.needs.now c.args.marks.now c.loop-mark.mark-index c.mark-item.result c.in-Ok.label c.loop-mark.labels.items c.add.new.labels.items c.loop-mark.configs.items c.label_of.new.configs.items c.mark-item.is c.loop-mark-test.true c.in_default.ensures.added c.in-Ok.ensures.made c.in-Ok.ensures.room c.in-Ok.ensures.cost c.loop-mark.invariant
 
 pub returns-clause-table : goal.returns-clause-table
 returns-clause-table c = (told_all c.args.marks.now c.loop-mark.mark-index c.loop-mark.labels.items c.loop-mark.configs.items c.loop-mark-test.false c.loop-mark.invariant.told).0
@@ -13,3 +13,7 @@ returns-clause-labels c = (told_all c.args.marks.now c.loop-mark.mark-index c.lo
 
 pub returns-clause-costs : goal.returns-clause-costs
 returns-clause-costs c = c.loop-mark.invariant.priced
+
+pub returns-in-Err-clause-limited : goal.returns-in-Err-clause-limited
+returns-in-Err-clause-limited c = λ is deep room.
+    made_full c.args.needs.now c.args.marks.now c.loop-mark.mark-index c.mark-item.result c.loop-mark.labels.items c.loop-mark.configs.items c.mark-item.is c.loop-mark-test.true (c.in-Err.ensures.limited is) c.loop-mark.invariant deep room

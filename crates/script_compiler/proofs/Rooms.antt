@@ -1,0 +1,215 @@
+-- Room in the table of configurations.
+use Rattle.std.proofs.Common.{◌≡◌, ◌≢◌, ℕ, zero, suc, ◌+◌, ◌≤◌, inl, inr, List, [], ◌∷◌, ◌++◌, length, Some, refl, sym, ap, ◌∙◌, subst, arith, append_assoc, length-append}
+use Rattle.std.specs.Prelude.{slice_get}
+use Rattle.std.proofs.lemmas.Bool.{cases_lt}
+use Rattle.mux_config.specs.Configuration.{Configuration}
+use Rattle.script_scheme.specs.declared.flow.Mark.{Mark}
+use Rattle.script_scheme.specs.Compiled.{StandsIn, Added, Tabled}
+use Rattle.script_compiler.specs.Room.{AreNew, HasRoomFor, named_by, Leaves}
+
+some_same : (x y : Configuration) → Some x ≡ Some y → x ≡ y
+some_same x y e = cc
+
+none_in_nothing : (c : Configuration) → StandsIn c [] → ⊥
+none_in_nothing c h = let e = h.1 in cc
+
+pub stays : (xs ys : List Configuration) (i : ℕ) (c : Configuration) → slice_get xs i ≡ Some c → slice_get (xs ++ ys) i ≡ Some c
+stays [] ys i c e = cc
+stays (x ∷ xs) ys zero c e = e
+stays (x ∷ xs) ys (suc i) c e = stays xs ys i c e
+
+pub stands_last : (xs : List Configuration) (c : Configuration) → slice_get (xs ++ c ∷ []) (length xs) ≡ Some c
+stands_last [] c = refl
+stands_last (x ∷ xs) c = stands_last xs c
+
+stands_front : (xs ys : List Configuration) (c : Configuration) → StandsIn c xs → StandsIn c (xs ++ ys)
+stands_front xs ys c h = (h.0, stays xs ys h.0 c h.1)
+
+-- ---- fewer configurations, and a table that has grown
+
+new_fewer : (table cs ds xs : List Configuration) → ((x : Configuration) → StandsIn x cs → StandsIn x ds) → AreNew table cs xs → AreNew table ds xs
+new_fewer table cs ds [] h n = tt
+new_fewer table cs ds (x ∷ xs) h n = (h x n.0, n.1, n.2, new_fewer table cs ds xs h n.3)
+
+pub room_fewer : (table cs ds : List Configuration) → ((x : Configuration) → StandsIn x cs → StandsIn x ds) → HasRoomFor table ds → HasRoomFor table cs
+room_fewer table cs ds h room = λ new n. room new (new_fewer table cs ds new h n)
+
+out_of : (table cs xs : List Configuration) (x : Configuration) → AreNew table cs xs → StandsIn x xs → StandsIn x table → ⊥
+out_of table cs [] x n h t = none_in_nothing x h
+out_of table cs (y ∷ ys) x n h t = by (λ k. out_of table cs ys x n.3 k t) h.0 h.1
+  where
+    by : (StandsIn x ys → ⊥) → (i : ℕ) → slice_get (y ∷ ys) i ≡ Some x → ⊥
+    by ih zero e = n.1 (subst (λ z. StandsIn z table) (sym (some_same y x e)) t)
+    by ih (suc i) e = ih (i, e)
+
+new_wider : (table one cs xs : List Configuration) → ((x : Configuration) → StandsIn x table → StandsIn x one) → AreNew one cs xs → AreNew table cs xs
+new_wider table one cs [] h n = tt
+new_wider table one cs (x ∷ xs) h n = (n.0, (λ t. n.1 (h x t)), n.2, new_wider table one cs xs h n.3)
+
+pub room_added : (c : Configuration) (table one cs : List Configuration) → Added c table one → StandsIn c cs → HasRoomFor table cs → HasRoomFor one cs
+room_added c table one cs (inl old) there room = subst (λ t. HasRoomFor t cs) (sym old.1) room
+room_added c table one cs (inr new) there room = λ xs n.
+    let n' : AreNew (table ++ c ∷ []) cs xs = subst (λ t. AreNew t cs xs) new.1 n in
+    let wider = new_wider table (table ++ c ∷ []) cs xs (λ x t. stands_front table (c ∷ []) x t) n' in
+    let fresh : StandsIn c xs → ⊥ = λ h. out_of (table ++ c ∷ []) cs xs c n' h (length table, stands_last table c) in
+    let k = room (c ∷ xs) (there, new.0, fresh, wider) in
+    let m = ap length new.1 in
+    let q = length-append table (c ∷ []) in
+    omega (arith, k, m, q)
+
+-- ---- after labels
+
+pub leaves_same : (table : List Configuration) → Leaves table table []
+leaves_same table = λ more h. h
+
+pub leaves_mark : (m : Mark) (table one both : List Configuration) → Added m.flow.current table one → Added m.flow.next one both → Leaves table both (m ∷ [])
+leaves_mark m table one both a b = λ more room.
+    let cs = m.flow.current ∷ m.flow.next ∷ more in
+    let r1 = room_added m.flow.current table one cs a (0, refl) room in
+    let r2 = room_added m.flow.next one both cs b (1, refl) r1 in
+    room_fewer both more cs (λ x h. (suc (suc h.0), h.1)) r2
+
+pub named_both : (ms ns : List Mark) → named_by (ms ++ ns) ≡ named_by ms ++ named_by ns
+named_both [] ns = refl
+named_both (m ∷ ms) ns = ap (λ xs. m.flow.current ∷ m.flow.next ∷ xs) (named_both ms ns)
+
+pub leaves_both : (t0 t1 t2 : List Configuration) (ms ns : List Mark) → Leaves t0 t1 ms → Leaves t1 t2 ns → Leaves t0 t2 (ms ++ ns)
+leaves_both t0 t1 t2 ms ns h k = λ more room.
+    let e : named_by (ms ++ ns) ++ more ≡ named_by ms ++ (named_by ns ++ more) = ap (λ xs. xs ++ more) (named_both ms ns) ∙ append_assoc (named_by ms) (named_by ns) more in
+    k more (h (named_by ns ++ more) (subst (λ cs. HasRoomFor t0 cs) e room))
+
+pub room_front : (table : List Configuration) (m : Mark) (ms : List Mark) → HasRoomFor table (named_by (m ∷ ms)) → HasRoomFor table (named_by (m ∷ []))
+room_front table m ms room = room_fewer table (named_by (m ∷ [])) (named_by (m ∷ ms)) (λ c h. by c h.0 h.1) room
+  where
+    by : (c : Configuration) (i : ℕ) → slice_get (named_by (m ∷ [])) i ≡ Some c → StandsIn c (named_by (m ∷ ms))
+    by c zero e = (0, e)
+    by c (suc zero) e = (1, e)
+    by c (suc (suc i)) e = absurd (none_in_nothing c (i, e))
+
+-- no room for the first of two, or for the second
+pub room_current : (table : List Configuration) (m : Mark) → (HasRoomFor table (m.flow.current ∷ []) → ⊥) → HasRoomFor table (named_by (m ∷ [])) → ⊥
+room_current table m full room = full (room_fewer table (m.flow.current ∷ []) (named_by (m ∷ [])) (λ c h. by c h.0 h.1) room)
+  where
+    by : (c : Configuration) (i : ℕ) → slice_get (m.flow.current ∷ []) i ≡ Some c → StandsIn c (named_by (m ∷ []))
+    by c zero e = (0, e)
+    by c (suc i) e = absurd (none_in_nothing c (i, e))
+
+pub room_next : (table one : List Configuration) (m : Mark) → Added m.flow.current table one → (HasRoomFor one (m.flow.next ∷ []) → ⊥) → HasRoomFor table (named_by (m ∷ [])) → ⊥
+room_next table one m a full room =
+    let more = room_added m.flow.current table one (named_by (m ∷ [])) a (0, refl) room in
+    full (room_fewer one (m.flow.next ∷ []) (named_by (m ∷ [])) (λ c h. by c h.0 h.1) more)
+  where
+    by : (c : Configuration) (i : ℕ) → slice_get (m.flow.next ∷ []) i ≡ Some c → StandsIn c (named_by (m ∷ []))
+    by c zero e = (1, e)
+    by c (suc i) e = absurd (none_in_nothing c (i, e))
+
+-- ---- no room
+
+pub full_table : (table : List Configuration) (c : Configuration) → ((i : ℕ) → slice_get table i ≢ Some c) → 256 ≤ length table → HasRoomFor table (c ∷ []) → ⊥
+full_table table c none full room =
+    let k = room (c ∷ []) ((0, refl), (λ h. none h.0 h.1), (λ h. none_in_nothing c h), tt) in absurd (omega (arith, k, full))
+
+pub room_none : (table cs : List Configuration) → HasRoomFor table cs → length table ≤ 256
+room_none table cs room = let k = room [] tt in omega (arith, k)
+
+pub room_one : (table cs : List Configuration) (c : Configuration) → StandsIn c cs → (StandsIn c table → ⊥) → HasRoomFor table cs → length table + 1 ≤ 256
+room_one table cs c there none room = let k = room (c ∷ []) (there, none, (λ h. none_in_nothing c h), tt) in omega (arith, k)
+
+pub room_two : (table : List Configuration) (a b : Configuration) → (StandsIn a table → ⊥) → (StandsIn b table → ⊥) → (b ≡ a → ⊥) → HasRoomFor table (a ∷ b ∷ []) → length table + 2 ≤ 256
+room_two table a b na nb differs room =
+    let k = room (a ∷ b ∷ []) ((0, refl), na, (λ h. apart h.0 h.1), ((1, refl), nb, (λ h. none_in_nothing b h), tt)) in omega (arith, k)
+  where
+    apart : (i : ℕ) → slice_get (b ∷ []) i ≡ Some a → ⊥
+    apart zero e = differs (some_same b a e)
+    apart (suc i) e = none_in_nothing a (i, e)
+
+-- ---- a table for all labels
+
+module _ (c : Configuration) (table : List Configuration) where
+  added_some : ((new : List Configuration) → Added c table new → ⊥) → ⊥
+  added_some k = k (table ++ c ∷ []) (inr ((λ h. k table (inl (h, refl))), refl))
+
+tabled_some : (ms : List Mark) (table : List Configuration) → ((new : List Configuration) → Tabled table ms new → ⊥) → ⊥
+tabled_some [] table k = k table refl
+tabled_some (m ∷ ms) table k =
+    added_some m.flow.current table (λ one a. added_some m.flow.next one (λ both b. tabled_some ms both (λ new t. k new (one, both, a, b, t))))
+
+abbrev without : ℕ → List Configuration → List Configuration
+without i [] = []
+without zero (x ∷ xs) = xs
+without (suc i) (x ∷ xs) = x ∷ without i xs
+
+without_length : (i : ℕ) (xs : List Configuration) (c : Configuration) → slice_get xs i ≡ Some c → length xs ≡ 1 + length (without i xs)
+without_length i [] c e = absurd (none_in_nothing c (i, e))
+without_length zero (x ∷ xs) c e = omega arith
+without_length (suc i) (x ∷ xs) c e = omega (arith, without_length i xs c e)
+
+without_keeps : (i : ℕ) (xs : List Configuration) (c d : Configuration) → slice_get xs i ≡ Some c → (d ≡ c → ⊥) → StandsIn d xs → StandsIn d (without i xs)
+without_keeps i [] c d e differs h = absurd (none_in_nothing d h)
+without_keeps zero (x ∷ xs) c d e differs h = by h.0 h.1
+  where
+    by : (j : ℕ) → slice_get (x ∷ xs) j ≡ Some d → StandsIn d xs
+    by zero f = absurd (differs (sym (some_same x d f) ∙ some_same x c e))
+    by (suc j) f = (j, f)
+without_keeps (suc i) (x ∷ xs) c d e differs h = by (λ k. without_keeps i xs c d e differs k) h.0 h.1
+  where
+    by : (StandsIn d xs → StandsIn d (without i xs)) → (j : ℕ) → slice_get (x ∷ xs) j ≡ Some d → StandsIn d (x ∷ without i xs)
+    by ih zero f = (0, f)
+    by ih (suc j) f = let r = ih (j, f) in (suc r.0, r.1)
+
+-- different ones that all stand in a table are no more than it has
+abbrev AllDiffer : List Configuration → List Configuration → Type 0
+AllDiffer table [] = Unit {0}
+AllDiffer table (x ∷ xs) = StandsIn x table × (StandsIn x xs → ⊥) × AllDiffer table xs
+
+differ_most : (xs table : List Configuration) → AllDiffer table xs → length xs ≤ length table
+differ_most [] table h = omega arith
+differ_most (x ∷ xs) table h =
+    let i = h.0.0 in
+    let n = without_length i table x h.0.1 in
+    let ih = differ_most xs (without i table) (kept xs (λ y k. k) h.2) in
+    omega (arith, n, ih)
+  where
+    kept : (ys : List Configuration) → ((y : Configuration) → StandsIn y ys → StandsIn y xs) → AllDiffer table ys → AllDiffer (without h.0.0 table) ys
+    kept [] inside k = tt
+    kept (y ∷ ys) inside k =
+        let apart : y ≡ x → ⊥ = λ e. h.1 (subst (λ z. StandsIn z xs) e (inside y (0, refl))) in
+        (without_keeps h.0.0 table x y h.0.1 apart k.0, k.1, kept ys (λ z s. inside z (suc s.0, s.1)) k.2)
+
+grows_stands : (c : Configuration) (table new : List Configuration) → Added c table new → (d : Configuration) → StandsIn d table → StandsIn d new
+grows_stands c table new (inl old) d h = subst (λ t. StandsIn d t) (sym old.1) h
+grows_stands c table new (inr fresh) d h = subst (λ t. StandsIn d t) (sym fresh.1) (stands_front table (c ∷ []) d h)
+
+added_stands : (c : Configuration) (table new : List Configuration) → Added c table new → StandsIn c new
+added_stands c table new (inl old) = subst (λ t. StandsIn c t) (sym old.1) old.0
+added_stands c table new (inr fresh) = subst (λ t. StandsIn c t) (sym fresh.1) (length table, stands_last table c)
+
+tabled_keeps : (ms : List Mark) (table new : List Configuration) → Tabled table ms new → (d : Configuration) → StandsIn d table → StandsIn d new
+tabled_keeps [] table new t d h = subst (λ x. StandsIn d x) (sym t) h
+tabled_keeps (m ∷ ms) table new t d h = tabled_keeps ms t.1 new t.4 d (grows_stands m.flow.next t.0 t.1 t.3 d (grows_stands m.flow.current table t.0 t.2 d h))
+
+tabled_names : (ms : List Mark) (table new : List Configuration) → Tabled table ms new → (d : Configuration) (i : ℕ) → slice_get (named_by ms) i ≡ Some d → StandsIn d new
+tabled_names [] table new t d i e = absurd (none_in_nothing d (i, e))
+tabled_names (m ∷ ms) table new t d zero e =
+    let here = grows_stands m.flow.next t.0 t.1 t.3 m.flow.current (added_stands m.flow.current table t.0 t.2) in
+    subst (λ x. StandsIn x new) (some_same m.flow.current d e) (tabled_keeps ms t.1 new t.4 m.flow.current here)
+tabled_names (m ∷ ms) table new t d (suc zero) e =
+    subst (λ x. StandsIn x new) (some_same m.flow.next d e) (tabled_keeps ms t.1 new t.4 m.flow.next (added_stands m.flow.next t.0 t.1 t.3))
+tabled_names (m ∷ ms) table new t d (suc (suc i)) e = tabled_names ms t.1 new t.4 d i e
+
+new_differ : (table cs new xs : List Configuration) → ((d : Configuration) → StandsIn d cs → StandsIn d new) → AreNew table cs xs → AllDiffer new xs
+new_differ table cs new [] h n = tt
+new_differ table cs new (x ∷ xs) h n = (h x n.0, n.2, new_differ table cs new xs h n.3)
+
+-- where every table for some labels is small enough, there is room for them from the beginning
+pub room_from : (ms : List Mark) → ((table : List Configuration) → Tabled [] ms table → length table ≤ 256) → HasRoomFor [] (named_by ms)
+room_from ms most = λ xs n.
+    let few : (length xs ≤ 256 → ⊥) → ⊥ = λ many. tabled_some ms [] (λ new t.
+    let k = differ_most xs new (new_differ [] (named_by ms) new xs (λ d s. tabled_names ms [] new t d s.0 s.1) n) in
+    let q = most new t in
+    many (omega (arith, k, q))) in
+    let h = stable (length xs) 256 few in
+    omega (arith, h)
+  where
+    stable : (a b : ℕ) → ((a ≤ b → ⊥) → ⊥) → a ≤ b
+    stable a b h = elim (cases_lt b a) [ inl gt ↦ absurd (h (λ le. absurd (omega (arith, gt, le)))) | inr le ↦ le ]
