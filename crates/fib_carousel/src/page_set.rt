@@ -12,7 +12,7 @@ ghost use Rattle.fib_carousel.specs.Items.{item_entry, IsFormedItem, config_entr
 
 use crate::entry_list::EntryList;
 use crate::pack_state::EntryShape;
-use crate::to_entries::{packet_entry, put_service, sub_entry};
+use crate::to_entries::{put_packet, put_service, put_sub};
 use fib_codec::{Fib, Head};
 use mux_config::{Packet, Service, Sid, Store, Sub};
 
@@ -35,9 +35,9 @@ impl Item<'_> {
         ensures { fib.new ≡ fib.old ++ entry_bytes (item_entry self.now) }
     {
         match self {
-            Item::Sub(sub) => fib.put_entry(&sub_entry(*sub)),
+            Item::Sub(sub) => put_sub(fib, *sub),
             Item::Service(service) => put_service(fib, service),
-            Item::Packet(packet) => fib.put_entry(&packet_entry(*packet)),
+            Item::Packet(packet) => put_packet(fib, *packet),
         }
     }
 

@@ -4,11 +4,12 @@
 ghost use Rattle.std.specs.Prelude.{◌≡◌, ◌+◌, ◌*◌, ◌<◌, ◌≤◌, ◌^◌, ◌++◌, length};
 ghost use Rattle.fib_codec.specs.Spelling.{components_bytes, entry_bytes, entry_size};
 ghost use Rattle.mux_config.specs.Configuration.{IsPlaced, IsService, IsAddressed};
+ghost use Rattle.mux_config.specs.declared.entry.Entry.TheVariants.{Sub as SubOf, Packet as PacketOf};
 ghost use Rattle.mux_config.specs.Facts.{sub_entry, service_entry, packet_entry, component_entry, component_entries};
 
 use fib_codec::Fib;
 use mux_config::{
-    Bits, Component, ComponentEntry, Entry, Packet, PacketEntry, Service, Sub, SubEntry,
+    Bits, Component, ComponentEntry, Packet, PacketEntry, Service, Sub, SubEntry,
 };
 use mux_eep::{EepSet, size_of};
 
@@ -21,9 +22,9 @@ fn field<const WIDTH: u32>(value: u16) -> Bits<WIDTH>
 }
 
 /// The entry of a sub-channel, in the long form.
-pub(crate) fn sub_entry(sub: Sub) -> Entry
+fn sub_entry(sub: Sub) -> SubEntry
     requires { IsPlaced sub }
-    ensures { result ≡ sub_entry sub }
+    ensures { SubOf result ≡ sub_entry sub }
 {
     let option = match sub.protection.set() {
         EepSet::A => 0,
@@ -33,13 +34,13 @@ pub(crate) fn sub_entry(sub: Sub) -> Entry
         Ok(size) => size,
         Err(_) => 0,
     };
-    Entry::Sub(SubEntry {
+    SubEntry {
         id: sub.id,
         start: field(sub.start),
         option: field(option),
         level: field(u16::from(sub.protection.level() - 1)),
         size: field(size),
-    })
+    }
 }
 
 /// What FIG 0/2 says of a component, with its P/S flag.
@@ -86,11 +87,11 @@ pub(crate) fn put_service(fib: &mut Fib, service: &Service)
 }
 
 /// The entry of a packet component.
-pub(crate) fn packet_entry(packet: Packet) -> Entry
+fn packet_entry(packet: Packet) -> PacketEntry
     requires { IsAddressed packet }
-    ensures { result ≡ packet_entry packet }
+    ensures { PacketOf result ≡ packet_entry packet }
 {
-    Entry::Packet(PacketEntry {
+    PacketEntry {
         scid: packet.scid,
         rfa: Bits::default(),
         dg: packet.dg,
@@ -99,5 +100,23 @@ pub(crate) fn packet_entry(packet: Packet) -> Entry
         sub: packet.sub,
         address: field(packet.address),
         ca_org: None,
-    })
+    }
+}
+
+/// Appends the entry of a sub-channel to a FIB that has room for it.
+pub(crate) fn put_sub(fib: &mut Fib, sub: Sub)
+    requires sub { IsPlaced sub }
+    requires room { length fib.old + entry_size (sub_entry sub) ≤ 30 }
+    ensures { fib.new ≡ fib.old ++ entry_bytes (sub_entry sub) }
+{
+    fib.put_sub(sub_entry(sub));
+}
+
+/// Appends the entry of a packet component to a FIB that has room for it.
+pub(crate) fn put_packet(fib: &mut Fib, packet: Packet)
+    requires packet { IsAddressed packet }
+    requires room { length fib.old + entry_size (packet_entry packet) ≤ 30 }
+    ensures { fib.new ≡ fib.old ++ entry_bytes (packet_entry packet) }
+{
+    fib.put_packet(packet_entry(packet));
 }

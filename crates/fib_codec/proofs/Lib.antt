@@ -8,5 +8,6 @@ pub mod Finished
 pub mod Told
 pub mod Sent
 pub mod Frames
+pub mod Begun
 pub mod Spelled
 pub mod Vectors

@@ -1,5 +1,5 @@
 -- Words of sixteen bits as two bytes, and as bits.
-use Rattle.std.proofs.Common.{◌≡◌, ℕ, zero, suc, ◌+◌, ◌-◌, ◌*◌, ◌/◌, ◌%◌, ◌^◌, ◌<◌, map, refl, replicate, List, [], ◌∷◌, ◌++◌, length, get_or, drop, take, sym, ◌∙◌, ap, ap₂, arith, subst, take_at, drop_at, length-append, pow-suc, length-take, append-nil, drop-cons, ◌↔◌, length-drop}
+use Rattle.std.proofs.Common.{◌≡◌, ℕ, zero, suc, ◌+◌, ◌-◌, ◌*◌, ◌/◌, ◌%◌, ◌^◌, ◌<◌, ◌≤◌, map, refl, replicate, List, [], ◌∷◌, ◌++◌, length, get_or, drop, take, sym, ◌∙◌, ap, ap₂, arith, subst, take_at, drop_at, length-append, pow-suc, length-take, append-nil, drop-cons, ◌↔◌, length-drop}
 use Rattle.std.proofs.lemmas.List.{drop_all, length-map}
 use Rattle.std.proofs.lemmas.Nat.Bits.{bit_at_cat_high, bit_at_lowest}
 use Rattle.std.specs.Int.{bit_at}
@@ -165,3 +165,18 @@ sealed_bytes bytes moved buf word h same fits bits written =
     ap₂ (λ xs ys. put_mid 30 2 (xs ++ 0 ∷ 0 ∷ []) ys) same two
     ∙ word_behind bytes (big_bytes 2 word) h
     ∙ ap (λ w. bytes ++ big_bytes 2 w) (word_checked bytes word fits bits)
+
+-- the check word written over the last two of thirty-two bytes
+pub sealed_row : (row buf : List ℕ) (word : ℕ) → length row ≡ 32 → word < 65536
+    → bits_of 16 word ≡ check_bits (take 30 row)
+    → buf ≡ word / 256 % 256 ∷ word % 256 ∷ drop 2 (take 2 (drop 30 row))
+    → put_mid 30 2 row buf ≡ checked (take 30 row)
+sealed_row row buf word whole fits bits written =
+    let tail = take 2 (drop 30 row) in
+    let none : drop 2 tail ≡ [] = drop_all 2 tail (omega (arith, length-take 2 (drop 30 row))) in
+    let two : buf ≡ big_bytes 2 word = written ∙ ap (λ t. word / 256 % 256 ∷ word % 256 ∷ t) none in
+    let short : length (drop 30 row) ≤ 2 = omega (arith, length-drop 30 row, whole) in
+    let behind : drop 2 (drop 30 row) ≡ [] = drop_all 2 (drop 30 row) short in
+    ap₂ (λ xs ys. take 30 row ++ (xs ++ ys)) two behind
+    ∙ ap (λ t. take 30 row ++ t) (append-nil (big_bytes 2 word))
+    ∙ ap (λ w. take 30 row ++ big_bytes 2 w) (word_checked (take 30 row) word fits bits)

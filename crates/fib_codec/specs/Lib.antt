@@ -1,6 +1,7 @@
 pub mod Crc
 pub mod Ranges
 pub mod Register
+pub mod Begun
 pub mod Spelling
 pub mod Grammar
 pub mod Heard

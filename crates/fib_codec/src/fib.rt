@@ -1,19 +1,16 @@
 //! A FIB that is being written.
 
 ghost use Rattle.std.specs.Prelude.{◌≡◌, ◌+◌, ◌*◌, ◌≤◌, ◌<◌, ◌↔◌, ◌++◌, ◌∷◌, [], length, IsTrue, IsFalse, MatchOption, List, map};
-ghost use Rattle.arrayvec.specs.ArrayVec.{array_vec_len};
 ghost use Rattle.mux_config.specs.Configuration.{Each};
 ghost use Rattle.fib_codec.specs.Ranges.{IsWithin};
 ghost use Rattle.byteorder.specs.Endian.{big_bytes};
-ghost use Rattle.fib_codec.specs.Spelling.{head_byte as byte_of_head, bit_of, sid_size, sid_bytes, component_word, entry_bytes, entry_size, entries_bytes, fig_bytes, IsUnder, IsFormed, FitsFig, Written, IsWritten, figs_bytes, filled, checked};
+ghost use Rattle.fib_codec.specs.Spelling.{head_byte as byte_of_head, bit_of, sid_size, sid_bytes, component_word, sub_bytes, packet_bytes, entry_bytes, entry_size, entries_bytes, fig_bytes, IsUnder, IsFormed, FitsFig, Written, IsWritten, figs_bytes, filled, checked};
 ghost use Rattle.fib_codec.specs.Grammar.{HoldsFigsOf, IsValidOf};
 
-use crate::crc::crc16;
+use crate::data::Data;
 use crate::head::Head;
-use crate::write::{Data, entry_len, put_component, put_entry, put_service_head};
-use arrayvec::ArrayVec;
-use byteorder::{BigEndian, ByteOrder};
-use mux_config::{Bits, ComponentEntry, Entry, Sid};
+use crate::write::{entry_len, put_component, put_entry, put_packet, put_service_head, put_sub};
+use mux_config::{Bits, ComponentEntry, Entry, PacketEntry, Sid, SubEntry};
 use std::marker::Model;
 
 /// A Fast Information Block that is being written (EN 300 401 clause 5.2.1). Contracts see it as its data
@@ -28,9 +25,9 @@ impl Model for Fib {
 
     ghost Value = { List ℕ };
 
-    ghost view = { λ f. f.bytes.items };
+    ghost view = { λ f. f.bytes };
 
-    ghost invariant = { λ f. length f.bytes.items ≤ 30 };
+    ghost invariant = { λ f. length f.bytes ≤ 30 };
 }
 
 /// Whether an entry can stand under this head.
@@ -100,38 +97,13 @@ fn head_byte(head: Head) -> u8
 }
 
 fn put_entries(out: &mut Data, entries: &[Entry])
-    requires { array_vec_len out.old + length (entries_bytes entries.now) ≤ 30 }
-    ensures written { out.new.items ≡ out.old.items ++ entries_bytes entries.now }
+    requires { length out.old + length (entries_bytes entries.now) ≤ 30 }
+    ensures written { out.new ≡ out.old ++ entries_bytes entries.now }
     ensures within { Each IsWithin entries.now }
 {
     for entry in entries {
         put_entry(out, entry);
     }
-}
-
-/// Fills data bytes up to thirty.
-fn fill(out: &mut Data)
-    ensures { out.new.items ≡ filled out.old.items }
-{
-    let used = out.len();
-    if used == 30 {
-        return;
-    }
-    out.push(0xff);
-    for zeros in 0..29 - used {
-        out.push(0);
-    }
-}
-
-/// Thirty data bytes with their check word.
-fn sealed(bytes: &[u8]) -> [u8; 32]
-    requires { length bytes.now ≡ 30 }
-    ensures { result ≡ checked bytes.now }
-{
-    let mut fib = [0u8; 32];
-    fib[..30].copy_from_slice(bytes);
-    BigEndian::write_u16(&mut fib[30..], crc16(bytes));
-    fib
 }
 
 impl Fib {
@@ -140,7 +112,7 @@ impl Fib {
         ensures { result ≡ [] }
     {
         Fib {
-            bytes: ArrayVec::new(),
+            bytes: Data::new(),
         }
     }
 
@@ -214,6 +186,22 @@ impl Fib {
         put_component(&mut self.bytes, component);
     }
 
+    /// Appends the entry of a sub-channel in the long form to the FIG that was begun, which has room for it.
+    pub fn put_sub(&mut self, sub: SubEntry)
+        requires { length self.old + 4 ≤ 30 }
+        ensures { self.new ≡ self.old ++ sub_bytes sub }
+    {
+        put_sub(&mut self.bytes, sub);
+    }
+
+    /// Appends the entry of a packet component to the FIG that was begun, which has room for it.
+    pub fn put_packet(&mut self, packet: PacketEntry)
+        requires { length self.old + length (packet_bytes packet) ≤ 30 }
+        ensures { self.new ≡ self.old ++ packet_bytes packet }
+    {
+        put_packet(&mut self.bytes, packet);
+    }
+
     /// The data bytes so far: those of the FIGs that were appended.
     pub fn data(&self) -> &[u8]
         ensures value { result.now ≡ self.now }
@@ -225,12 +213,11 @@ impl Fib {
     /// The 32 bytes of the FIB: its FIGs, the end marker and zeros where there is room for them, and the
     /// check word. In the grammar they are exactly the FIGs that were appended, in order; those with OE 1
     /// are there as FIGs that aren't looked into, and without such a one the FIB is valid.
-    pub fn finish(mut self) -> [u8; 32]
+    pub fn finish(self) -> [u8; 32]
         ensures spelled { result ≡ checked (filled self) }
         ensures figs { HoldsFigsOf self result }
         ensures valid { IsValidOf self result }
     {
-        fill(&mut self.bytes);
-        sealed(self.bytes.as_slice())
+        self.bytes.finish()
     }
 }

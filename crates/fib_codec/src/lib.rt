@@ -8,6 +8,7 @@
 
 pub mod crc;
 mod crc_tables;
+mod data;
 pub mod fib;
 pub mod fib_frame;
 pub mod head;

@@ -1,20 +1,16 @@
 //! How entries are written as bytes (EN 300 401 clauses 6.2.1, 6.3.1, 6.3.2 and 6.4).
 
 ghost use Rattle.std.specs.Prelude.{◌≡◌, ◌+◌, ◌*◌, ◌≤◌, ◌<◌, ◌++◌, ◌∷◌, [], length};
-ghost use Rattle.arrayvec.specs.ArrayVec.{array_vec_len};
 ghost use Rattle.byteorder.specs.Endian.{big_bytes};
 ghost use Rattle.fib_codec.specs.Ranges.{IsWithin, IsComponentEntry, IsEnsembleInformation, IsSubEntry, IsShortEntry, IsServiceEntry, IsPacketEntry};
 ghost use Rattle.mux_config.specs.Configuration.{Each, IsSid};
 ghost use Rattle.fib_codec.specs.Spelling.{entry_size, entry_bytes, sid_size, sid_bytes, bit_of, component_word, components_bytes, ensemble_bytes, sub_bytes, short_bytes, service_bytes, packet_bytes};
 
-use arrayvec::ArrayVec;
+use crate::data::Data;
 use byteorder::{BigEndian, ByteOrder};
 use mux_config::{
     Bits, ComponentEntry, Ensemble, Entry, PacketEntry, ServiceEntry, ShortEntry, Sid, SubEntry,
 };
-
-/// The data bytes of a FIB, as far as they are written.
-pub(crate) type Data = ArrayVec<u8, 30>;
 
 /// How many bytes an entry takes, from 3 to 35.
 #[tactic(auto, using(crate::proofs::Lengths::entry_length))]
@@ -42,8 +38,8 @@ pub fn entry_len(entry: &Entry) -> usize
 
 /// Appends a number of 16 bits, its high byte first.
 fn put_word(out: &mut Data, word: u16)
-    requires { array_vec_len out.old + 2 ≤ 30 }
-    ensures { out.new.items ≡ out.old.items ++ big_bytes 2 word }
+    requires { length out.old + 2 ≤ 30 }
+    ensures { out.new ≡ out.old ++ big_bytes 2 word }
 {
     let mut bytes = [0u8; 2];
     BigEndian::write_u16(&mut bytes, word);
@@ -53,8 +49,8 @@ fn put_word(out: &mut Data, word: u16)
 
 /// Appends a number of 32 bits, its highest byte first.
 fn put_long(out: &mut Data, long: u32)
-    requires { array_vec_len out.old + 4 ≤ 30 }
-    ensures { out.new.items ≡ out.old.items ++ big_bytes 4 long }
+    requires { length out.old + 4 ≤ 30 }
+    ensures { out.new ≡ out.old ++ big_bytes 4 long }
 {
     let mut bytes = [0u8; 4];
     BigEndian::write_u32(&mut bytes, long);
@@ -65,8 +61,8 @@ fn put_long(out: &mut Data, long: u32)
 }
 
 fn put_ensemble(out: &mut Data, ensemble: Ensemble)
-    requires { array_vec_len out.old + length (ensemble_bytes ensemble) ≤ 30 }
-    ensures written { out.new.items ≡ out.old.items ++ ensemble_bytes ensemble }
+    requires { length out.old + length (ensemble_bytes ensemble) ≤ 30 }
+    ensures written { out.new ≡ out.old ++ ensemble_bytes ensemble }
     ensures within { IsEnsembleInformation ensemble }
 {
     put_word(out, ensemble.eid());
@@ -79,9 +75,10 @@ fn put_ensemble(out: &mut Data, ensemble: Ensemble)
     }
 }
 
-fn put_sub(out: &mut Data, sub: SubEntry)
-    requires { array_vec_len out.old + 4 ≤ 30 }
-    ensures written { out.new.items ≡ out.old.items ++ sub_bytes sub }
+/// Appends the entry of a sub-channel in the long form.
+pub(crate) fn put_sub(out: &mut Data, sub: SubEntry)
+    requires { length out.old + 4 ≤ 30 }
+    ensures written { out.new ≡ out.old ++ sub_bytes sub }
     ensures within { IsSubEntry sub }
 {
     put_word(out, u16::from(sub.id.get()) * 1024 + sub.start.get());
@@ -92,8 +89,8 @@ fn put_sub(out: &mut Data, sub: SubEntry)
 }
 
 fn put_short(out: &mut Data, short: ShortEntry)
-    requires { array_vec_len out.old + 3 ≤ 30 }
-    ensures written { out.new.items ≡ out.old.items ++ short_bytes short }
+    requires { length out.old + 3 ≤ 30 }
+    ensures written { out.new ≡ out.old ++ short_bytes short }
     ensures within { IsShortEntry short }
 {
     put_word(out, u16::from(short.id.get()) * 1024 + short.start.get());
@@ -138,16 +135,16 @@ fn component_bits(component: ComponentEntry) -> u16
 
 /// Appends the two bytes of a component.
 pub(crate) fn put_component(out: &mut Data, component: ComponentEntry)
-    requires { array_vec_len out.old + 2 ≤ 30 }
-    ensures written { out.new.items ≡ out.old.items ++ big_bytes 2 (component_word component) }
+    requires { length out.old + 2 ≤ 30 }
+    ensures written { out.new ≡ out.old ++ big_bytes 2 (component_word component) }
     ensures within { IsComponentEntry component }
 {
     put_word(out, component_bits(component));
 }
 
 fn put_components(out: &mut Data, components: &[ComponentEntry])
-    requires { array_vec_len out.old + 2 * length components.now ≤ 30 }
-    ensures written { out.new.items ≡ out.old.items ++ components_bytes components.now }
+    requires { length out.old + 2 * length components.now ≤ 30 }
+    ensures written { out.new ≡ out.old ++ components_bytes components.now }
     ensures within { Each IsComponentEntry components.now }
 {
     for component in components {
@@ -156,8 +153,8 @@ fn put_components(out: &mut Data, components: &[ComponentEntry])
 }
 
 fn put_sid(out: &mut Data, sid: Sid)
-    requires { array_vec_len out.old + sid_size sid ≤ 30 }
-    ensures written { out.new.items ≡ out.old.items ++ sid_bytes sid }
+    requires { length out.old + sid_size sid ≤ 30 }
+    ensures written { out.new ≡ out.old ++ sid_bytes sid }
     ensures within { IsSid sid }
 {
     match sid {
@@ -169,9 +166,9 @@ fn put_sid(out: &mut Data, sid: Sid)
 /// Appends what the entry of a service begins with, before its components.
 pub(crate) fn put_service_head(out: &mut Data, sid: Sid, rfa: bool, ca_id: Bits<3>, count: usize)
     requires few { count ≤ 15 }
-    requires room { array_vec_len out.old + sid_size sid + 1 ≤ 30 }
+    requires room { length out.old + sid_size sid + 1 ≤ 30 }
     ensures written { let counted = bit_of rfa * 128 + ca_id * 16 + count in
-        out.new.items ≡ out.old.items ++ sid_bytes sid ++ counted ∷ [] }
+        out.new ≡ out.old ++ sid_bytes sid ++ counted ∷ [] }
     ensures within { IsSid sid }
     ensures ca_id { ca_id < 8 }
 {
@@ -181,8 +178,8 @@ pub(crate) fn put_service_head(out: &mut Data, sid: Sid, rfa: bool, ca_id: Bits<
 
 fn put_service(out: &mut Data, service: &ServiceEntry)
     requires { let count = length service.now.components in
-        array_vec_len out.old + sid_size service.now.sid + 1 + 2 * count ≤ 30 }
-    ensures written { out.new.items ≡ out.old.items ++ service_bytes service.now }
+        length out.old + sid_size service.now.sid + 1 + 2 * count ≤ 30 }
+    ensures written { out.new ≡ out.old ++ service_bytes service.now }
     ensures within { IsServiceEntry service.now }
 {
     let count = service.components.len();
@@ -190,9 +187,10 @@ fn put_service(out: &mut Data, service: &ServiceEntry)
     put_components(out, service.components.as_slice());
 }
 
-fn put_packet(out: &mut Data, packet: PacketEntry)
-    requires { array_vec_len out.old + length (packet_bytes packet) ≤ 30 }
-    ensures written { out.new.items ≡ out.old.items ++ packet_bytes packet }
+/// Appends the entry of a packet component.
+pub(crate) fn put_packet(out: &mut Data, packet: PacketEntry)
+    requires { length out.old + length (packet_bytes packet) ≤ 30 }
+    ensures written { out.new ≡ out.old ++ packet_bytes packet }
     ensures within { IsPacketEntry packet }
 {
     let flagged = packet.ca_org.is_some();
@@ -214,8 +212,8 @@ fn put_packet(out: &mut Data, packet: PacketEntry)
 /// Appends an entry, for which there is room.
 #[tactic(auto, using(crate::proofs::Lengths::entry_length))]
 pub(crate) fn put_entry(out: &mut Data, entry: &Entry)
-    requires { array_vec_len out.old + entry_size entry.now ≤ 30 }
-    ensures written { out.new.items ≡ out.old.items ++ entry_bytes entry.now }
+    requires { length out.old + entry_size entry.now ≤ 30 }
+    ensures written { out.new ≡ out.old ++ entry_bytes entry.now }
     ensures within { IsWithin entry.now }
 {
     match entry {

@@ -6,6 +6,6 @@ use Rattle.fib_codec.proofs.fib.put_entries.Given as goal
 
 abbrev pub invariant-loop-entry : goal.invariant-loop-entry
 invariant-loop-entry l = record {
-  written : l.out.items ≡ l.fn.out.items ++ entries_bytes (take l.entry-index l.entries);
+  written : l.out ≡ l.fn.out ++ entries_bytes (take l.entry-index l.entries);
   within : Each IsWithin (take l.entry-index l.entries);
 }

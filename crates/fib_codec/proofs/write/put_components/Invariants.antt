@@ -6,6 +6,6 @@ use Rattle.fib_codec.proofs.write.put_components.Given as goal
 
 abbrev pub invariant-loop-component : goal.invariant-loop-component
 invariant-loop-component l = record {
-  written : l.out.items ≡ l.fn.out.items ++ components_bytes (take l.component-index l.components);
+  written : l.out ≡ l.fn.out ++ components_bytes (take l.component-index l.components);
   within : Each IsComponentEntry (take l.component-index l.components);
 }

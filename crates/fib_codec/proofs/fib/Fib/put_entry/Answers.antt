@@ -6,7 +6,7 @@ use Rattle.fib_codec.proofs.fib.Fib.put_entry.Goals as goal
 pub invariant_of-self : goal.invariant_of-self
 invariant_of-self c =
     let size : length (entry_bytes c.args.entry.now) ≡ entry_size c.args.entry.now = entry_length c.args.entry.now in
-    let grown : length c.put_entry.new.out.items ≡ length c.self.inside.bytes.items + length (entry_bytes c.args.entry.now) =
-    ap length c.put_entry.ensures.written ∙ length-append c.self.inside.bytes.items (entry_bytes c.args.entry.now) in
-    let before : length c.self.inside.bytes.items ≡ length c.args.self.now = ap length c.self.view_is in
+    let grown : length c.put_entry.new.out ≡ length c.self.inside.bytes + length (entry_bytes c.args.entry.now) =
+    ap length c.put_entry.ensures.written ∙ length-append c.self.inside.bytes (entry_bytes c.args.entry.now) in
+    let before : length c.self.inside.bytes ≡ length c.args.self.now = ap length c.self.view_is in
     omega (arith, size, grown, before, c.requires)
