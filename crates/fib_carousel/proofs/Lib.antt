@@ -7,6 +7,7 @@ pub mod Sharing
 pub mod Sendable
 pub mod Components
 pub mod Sent
+pub mod Filling
 pub mod Rows
 pub mod Turning
 pub mod Headed

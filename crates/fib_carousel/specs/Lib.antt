@@ -6,6 +6,7 @@ pub mod Bytes
 pub mod Carried
 pub mod Kept
 pub mod Walk
+pub mod Filling
 pub mod Items
 pub use Rattle.fib_codec.specs.Modes
 pub use Rattle.fib_codec.specs.Crc

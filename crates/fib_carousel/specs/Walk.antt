@@ -1,12 +1,11 @@
 -- How far the list of entries was walked, and where a cursor stands. No public contract needs the record Position
 -- to be believed: a cursor stands at page 0 when it is new, and each page moves it to the page after it.
-use Rattle.std.specs.Prelude.{◌≡◌, ℕ, ◌-◌, ◌*◌, ◌<◌, ◌≤◌, ◌⊎◌, List, flat_map, take, drop, length, slice_get, Some}
+use Rattle.std.specs.Prelude.{◌≡◌, ℕ, ◌*◌, ◌<◌, ◌≤◌, ◌⊎◌, List, drop, length, slice_get, Some}
 use Rattle.mux_config.specs.Facts.{Marked}
-use Rattle.fib_codec.specs.Spelling.{head_of, entry_bytes}
+use Rattle.fib_codec.specs.Spelling.{head_of}
 use Rattle.fib_codec.specs.declared.modes.Mode.{Mode}
 use Rattle.fib_carousel.specs.declared.pack_state.EntryShape.{EntryShape}
 use Rattle.fib_carousel.specs.declared.pack_state.Position.{Position}
-use Rattle.fib_carousel.specs.declared.pack_state.EntryRange.{EntryRange}
 use Rattle.fib_carousel.specs.declared.page_cursor.Cursor.{Cursor}
 use Rattle.fib_carousel.specs.Packing.{size_of, entries_in_fib, last_number}
 use Rattle.fib_carousel.specs.Greedy.{numbers_from, packing}
@@ -18,14 +17,6 @@ pub record IsShapeAt (ms : List Marked) (index : ℕ) (shape : EntryShape) : Typ
   pub here : slice_get ms index ≡ Some entry
   pub head : shape.head ≡ head_of entry
   pub size : shape.size ≡ size_of entry
-
--- the entries of a range of the list
-abbrev pub entries_of_range : EntryRange → List Marked → List Marked
-entries_of_range r ms = take (r.to - r.from) (drop r.from ms)
-
--- their bytes one after another, as they stand in a FIG
-abbrev pub bytes_of_range : EntryRange → List Marked → List ℕ
-bytes_of_range r ms = flat_map (λ (m : Marked). entry_bytes m.entry) (entries_of_range r ms)
 
 -- from the position on, the rule gives FIB n and the later ones what the packing gives them
 pub record StandsBefore (mode : Mode) (ms : List Marked) (n : ℕ) (p : Position) : Type 0 where

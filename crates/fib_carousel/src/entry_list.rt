@@ -2,10 +2,9 @@
 
 ghost use Rattle.std.specs.Prelude.{◌≡◌, ℕ, ◌+◌, ◌-◌, ◌<◌, ◌≤◌, ◌^◌, List, length, slice_get, Some};
 ghost use Rattle.mux_config.specs.Facts.{Marked};
-ghost use Rattle.fib_carousel.specs.Pages.{rounds, fib_entries};
-ghost use Rattle.fib_carousel.specs.Walk.{StandsBefore, HasPassed, entries_of_range};
+ghost use Rattle.fib_carousel.specs.Pages.{rounds};
 
-use crate::pack_state::{EntryRange, EntryShape, PackState, Position};
+use crate::pack_state::{EntryShape, PackState};
 use fib_codec::{Fib, Mode};
 
 /// A list of entries in the order in which they are packed.
@@ -49,43 +48,4 @@ pub(crate) fn pages<L: EntryList>(list: &L, mode: Mode) -> usize
         state = state.then(mode, list.shape(index));
     }
     state.fib / mode.fibs() + 1
-}
-
-/// The entries of FIB `fib` of the row of pages, from the position on, which then stands behind them. The list
-/// has `len` entries.
-pub(crate) fn fib_range<L: EntryList>(
-    list: &L,
-    len: u16,
-    mode: Mode,
-    position: &mut Position,
-    fib: usize,
-) -> EntryRange
-    requires count { len ≡ length (L.entries list.now) }
-    requires stands { StandsBefore mode (L.entries list.now) fib position.old }
-    ensures entries { let ms = L.entries list.now in
-        entries_of_range result ms ≡ fib_entries mode fib ms }
-    ensures order { result.from ≤ result.to }
-    ensures end { result.to ≤ length (L.entries list.now) }
-    ensures next { StandsBefore mode (L.entries list.now) (fib + 1) position.new }
-    ensures passed { HasPassed mode (L.entries list.now) fib position.new }
-{
-    let mut from = position.index;
-    'entries: while position.index < len {
-        let state = position.state.then(mode, list.shape(position.index));
-        if state.fib > fib {
-            return EntryRange {
-                from,
-                to: position.index,
-            };
-        }
-        position.index += 1;
-        position.state = state;
-        if state.fib < fib {
-            from = position.index;
-        }
-    }
-    EntryRange {
-        from,
-        to: position.index,
-    }
 }

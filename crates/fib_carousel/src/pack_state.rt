@@ -38,15 +38,6 @@ pub(crate) struct Position {
     pub state: PackState,
 }
 
-/// Some successive entries of the list.
-#[derive(Clone, Copy, Debug, PartialEq, Eq)]
-pub(crate) struct EntryRange {
-    /// The index of the first one.
-    pub from: u16,
-    /// The index after that of the last one.
-    pub to: u16,
-}
-
 /// The bytes that the FIGs of entries may take in a FIB of the row. The first FIB of a page leaves 7 bytes
 /// to FIG 0/0, also where none is sent.
 pub(crate) fn room(mode: Mode, fib: usize) -> u8

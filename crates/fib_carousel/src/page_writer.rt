@@ -1,91 +1,107 @@
 //! The entries of a FIB put into FIGs, and the FIBs of a page written one after another.
 
-ghost use Rattle.std.specs.Prelude.{◌≡◌, ◌+◌, ◌-◌, ◌*◌, ◌%◌, ◌<◌, ◌≤◌, ◌++◌, List, length, IsSome, IfSome, Option, None};
+ghost use Rattle.std.specs.Prelude.{◌≡◌, [], take, ◌+◌, ◌-◌, ◌*◌, ◌%◌, ◌<◌, ◌≤◌, ◌++◌, List, length, IsSome, IfSome, Option, None};
 ghost use Rattle.fib_codec.specs.Modes.{fib_count};
-ghost use Rattle.fib_codec.specs.Spelling.{entries_bytes, figs_bytes, fib_bytes};
+ghost use Rattle.fib_codec.specs.Spelling.{figs_bytes, fib_bytes};
 ghost use Rattle.fib_codec.specs.Ranges.{IsEnsembleInformation};
 ghost use Rattle.fib_carousel.specs.Packing.{figs_size};
 ghost use Rattle.fib_carousel.specs.Pages.{fib_entries, first_fib, rounds};
-ghost use Rattle.fib_carousel.specs.Bytes.{figs_of, run_of, ensemble_figs, page_bytes};
-ghost use Rattle.fib_carousel.specs.Walk.{IsShapeAt, StandsBefore, HasPassed, entries_of_range, bytes_of_range};
+ghost use Rattle.fib_carousel.specs.Bytes.{figs_of, ensemble_figs, page_bytes};
+ghost use Rattle.fib_carousel.specs.Filling.{Begins, Grows, Fits};
+ghost use Rattle.fib_carousel.specs.Walk.{StandsBefore, HasPassed};
 ghost use Rattle.fib_carousel.specs.Carried.{AreSendable, IsPageable};
 
-use crate::entry_list::{EntryList, fib_range};
-use crate::pack_state::{EntryRange, EntryShape, Position, same_head};
+use crate::entry_list::EntryList;
+use crate::pack_state::{EntryShape, Position, same_head};
 use fib_codec::{Fib, FibFrame, Head, Mode, entry_len};
 use mux_config::{Ensemble, Entry};
 
-/// The entries of one head at the front of a range, which share a FIG.
+/// The last FIG of a FIB, to which entries of its head are appended.
 #[derive(Clone, Copy, Debug, PartialEq, Eq)]
-struct FigRun {
-    /// The index after that of the last one.
-    to: u16,
-    /// How many bytes they take.
-    len: usize,
+struct OpenFig {
+    /// Its head.
+    head: Head,
+    /// The place of its first byte, which says how long it is.
+    place: usize,
 }
 
-/// The entries that share a FIG with the first one of a range, which has this head and size.
-fn fig_run<L: EntryList>(list: &L, range: EntryRange, first: EntryShape) -> FigRun
-    requires order { range.from < range.to }
-    requires end { range.to ≤ length (L.entries list.now) }
-    requires first { IsShapeAt (L.entries list.now) range.from first }
-    requires small { first.size ≤ 28 }
-    ensures to { let run = run_of first.head (entries_of_range range (L.entries list.now)) in
-        result.to ≡ range.from + length run }
-    ensures len { let run = run_of first.head (entries_of_range range (L.entries list.now)) in
-        result.len ≡ length (entries_bytes run) }
+/// Begins a FIG for an entry of this head and size.
+fn begin_for(fib: &mut Fib, shape: EntryShape) -> OpenFig
+    requires ext { shape.head.ext < 32 }
+    requires room { length fib.old + 2 + shape.size ≤ 30 }
+    ensures { Begins shape fib.old result fib.new }
 {
-    let mut len = usize::from(first.size);
-    for index in range.from + 1..range.to {
-        let shape = list.shape(index);
-        if !same_head(first.head, shape.head) {
-            return FigRun { to: index, len };
+    let place = fib.data().len();
+    fib.begin_fig(shape.head, usize::from(shape.size));
+    OpenFig {
+        head: shape.head,
+        place,
+    }
+}
+
+/// The FIG that an entry of this head and size is appended to next: the last one, made longer, where it has that head,
+/// and else one that is begun.
+fn fig_for(fib: &mut Fib, last: Option<OpenFig>, shape: EntryShape) -> OpenFig
+    requires ext { shape.head.ext < 32 }
+    requires room { Fits last shape fib.old }
+    ensures { Grows last shape fib.old result fib.new }
+{
+    match last {
+        Some(fig) => {
+            if same_head(fig.head, shape.head) {
+                fib.lengthen_fig(fig.place, shape.size);
+                fig
+            } else {
+                begin_for(fib, shape)
+            }
         }
-        len += usize::from(shape.size);
-    }
-    FigRun { to: range.to, len }
-}
-
-/// Appends the entries of a range one by one, for which the FIG that was begun has room.
-fn put_entries<L: EntryList>(list: &L, range: EntryRange, fib: &mut Fib)
-    requires order { range.from ≤ range.to }
-    requires end { range.to ≤ length (L.entries list.now) }
-    requires room { length fib.old + length (bytes_of_range range (L.entries list.now)) ≤ 30 }
-    ensures { fib.new ≡ fib.old ++ bytes_of_range range (L.entries list.now) }
-{
-    for index in range.from..range.to {
-        list.put(index, fib);
+        None => begin_for(fib, shape),
     }
 }
 
-/// Appends the FIGs of the entries of a range, which fit in what is left of the FIB.
-fn put_figs<L: EntryList>(list: &L, range: EntryRange, fib: &mut Fib)
-    requires order { range.from ≤ range.to }
-    requires end { range.to ≤ length (L.entries list.now) }
-    requires room { let here = entries_of_range range (L.entries list.now) in
+/// Appends the FIGs of the entries of FIB `number` of the row of pages, which fit in what is left of the FIB. The
+/// position stands before it, and then behind it. The list has `len` entries.
+fn put_figs<L: EntryList>(
+    list: &L,
+    len: u16,
+    mode: Mode,
+    position: &mut Position,
+    number: usize,
+    fib: &mut Fib,
+)
+    requires count { len ≡ length (L.entries list.now) }
+    requires stands { StandsBefore mode (L.entries list.now) number position.old }
+    requires room { let here = fib_entries mode number (L.entries list.now) in
         length fib.old + figs_size None here ≤ 30 }
-    ensures { let here = entries_of_range range (L.entries list.now) in
+    ensures bytes { let here = fib_entries mode number (L.entries list.now) in
         fib.new ≡ fib.old ++ figs_bytes (figs_of here) }
+    ensures next { StandsBefore mode (L.entries list.now) (number + 1) position.new }
+    ensures passed { HasPassed mode (L.entries list.now) number position.new }
 {
-    let mut from = range.from;
-    let to = range.to;
-    'figs: while from < to {
-        let first = list.shape(from);
-        let run = fig_run(list, EntryRange { from, to }, first);
-        fib.begin_fig(first.head, run.len);
-        put_entries(list, EntryRange { from, to: run.to }, fib);
-        from = run.to;
+    let mut last = None;
+    'entries: while position.index < len {
+        let shape = list.shape(position.index);
+        let state = position.state.then(mode, shape);
+        if state.fib > number {
+            return;
+        }
+        if state.fib == number {
+            last = Some(fig_for(fib, last, shape));
+            list.put(position.index, fib);
+        }
+        position.index += 1;
+        position.state = state;
     }
 }
 
-/// A FIB that begins with FIG 0/0, where it is given.
-pub(crate) fn start_fib(ensemble: Option<Ensemble>) -> Fib
-    ensures bytes { result ≡ figs_bytes (ensemble_figs ensemble) }
+/// Appends FIG 0/0 to a FIB without FIGs, where it is given.
+fn put_ensemble(fib: &mut Fib, ensemble: Option<Ensemble>)
+    requires { fib.old ≡ [] }
+    ensures bytes { fib.new ≡ figs_bytes (ensemble_figs ensemble) }
     ensures within { IfSome ensemble IsEnsembleInformation }
-    ensures bound { length result ≤ 7 }
-    ensures none { ensemble ≡ None → length result ≡ 0 }
+    ensures bound { length fib.new ≤ 7 }
+    ensures none { ensemble ≡ None → length fib.new ≡ 0 }
 {
-    let mut fib = Fib::new();
     if let Some(ensemble) = ensemble {
         let head = Head {
             next: false,
@@ -97,33 +113,45 @@ pub(crate) fn start_fib(ensemble: Option<Ensemble>) -> Fib
         fib.begin_fig(head, entry_len(&entry));
         fib.put_entry(&entry);
     }
-    fib
 }
 
-/// The FIB of this number of the row of pages, with FIG 0/0 first where it is given. The position stands
-/// before it, and then behind it. The list has `len` entries.
-fn fib<L: EntryList>(
+/// Where a FIB stands.
+#[derive(Clone, Copy, Debug, PartialEq, Eq)]
+struct FibPlace {
+    /// Its number in the row of pages, from 0.
+    number: usize,
+    /// Its index in the frame of its page, from 0.
+    index: usize,
+}
+
+/// Writes the FIB at a place over that of a frame, with FIG 0/0 first where it is given. The position stands before it,
+/// and then behind it. The list has `len` entries.
+fn write_fib<L: EntryList>(
     list: &L,
     len: u16,
     mode: Mode,
     position: &mut Position,
-    number: usize,
+    place: FibPlace,
     ensemble: Option<Ensemble>,
-) -> [u8; 32]
+    frame: &mut FibFrame,
+)
     requires count { len ≡ length (L.entries list.now) }
     requires sendable { AreSendable (L.entries list.now) }
-    requires stands { StandsBefore mode (L.entries list.now) number position.old }
-    requires first { IsSome ensemble → number % fib_count mode ≡ 0 }
-    ensures bytes { let here = fib_entries mode number (L.entries list.now) in
-        result ≡ fib_bytes (ensemble_figs ensemble ++ figs_of here) }
+    requires stands { StandsBefore mode (L.entries list.now) place.number position.old }
+    requires first { IsSome ensemble → place.number % fib_count mode ≡ 0 }
+    requires there { 32 * place.index + 32 ≤ length frame.old }
+    ensures bytes { let here = fib_entries mode place.number (L.entries list.now) in
+        take (32 * place.index + 32) frame.new ≡ take (32 * place.index) frame.old
+        ++ fib_bytes (ensemble_figs ensemble ++ figs_of here) }
+    ensures size { length frame.new ≡ length frame.old }
     ensures within { IfSome ensemble IsEnsembleInformation }
-    ensures next { StandsBefore mode (L.entries list.now) (number + 1) position.new }
-    ensures passed { HasPassed mode (L.entries list.now) number position.new }
+    ensures next { StandsBefore mode (L.entries list.now) (place.number + 1) position.new }
+    ensures passed { HasPassed mode (L.entries list.now) place.number position.new }
 {
-    let range = fib_range(list, len, mode, position, number);
-    let mut fib = start_fib(ensemble);
-    put_figs(list, range, &mut fib);
-    fib.finish()
+    let mut fib = Fib::new();
+    put_ensemble(&mut fib, ensemble);
+    put_figs(list, len, mode, position, place.number, &mut fib);
+    frame.finish_fib(place.index, &fib);
 }
 
 /// Writes the FIBs of a page over those of a frame, with FIG 0/0 first where it is given. The position stands before
@@ -148,8 +176,16 @@ pub(crate) fn write_page<L: EntryList>(
 {
     let len = list.len();
     let first = mode.fibs() * page;
-    frame.write_fib(0, &fib(list, len, mode, position, first, ensemble));
+    let place = FibPlace {
+        number: first,
+        index: 0,
+    };
+    write_fib(list, len, mode, position, place, ensemble, frame);
     for slot in 1..mode.fibs() {
-        frame.write_fib(slot, &fib(list, len, mode, position, first + slot, None));
+        let place = FibPlace {
+            number: first + slot,
+            index: slot,
+        };
+        write_fib(list, len, mode, position, place, None, frame);
     }
 }

@@ -8,9 +8,7 @@ ghost use Rattle.mux_config.specs.declared.entry.Entry.TheVariants.{Sub as SubOf
 ghost use Rattle.mux_config.specs.Facts.{sub_entry, service_entry, packet_entry, component_entry, component_entries};
 
 use fib_codec::Fib;
-use mux_config::{
-    Bits, Component, ComponentEntry, Packet, PacketEntry, Service, Sub, SubEntry,
-};
+use mux_config::{Bits, Component, ComponentEntry, Packet, PacketEntry, Service, Sub, SubEntry};
 use mux_eep::{EepSet, size_of};
 
 /// The field of this value, which is within its bits.

@@ -63,3 +63,15 @@ pub written_fib : (size index : ℕ) (bytes fib new : List ℕ) → IsOver size 
 written_fib size index bytes fib new is same =
     ap (take size) same ∙ is.frame
     ∙ sym (append_assoc (take (32 * index) (take size bytes)) fib (drop (32 * index + 32) (take size bytes)))
+
+-- the bytes up to a FIB that was written, and that FIB
+pub front_of : (index : ℕ) (old fib new : List ℕ) → length fib ≡ 32 → 32 * index + 32 ≤ length old → new ≡ with_fib index fib old
+    → take (32 * index + 32) new ≡ take (32 * index) old ++ fib
+front_of index old fib new whole fits is =
+    let front = take (32 * index) old in
+    let rest = drop (32 * index + 32) old in
+    let count : 32 * index + 32 ≡ length (front ++ fib) =
+    omega (arith, whole, fits, length-append front fib, length-take-le (32 * index) old (omega (arith, fits))) in
+    ap (take (32 * index + 32)) is
+    ∙ ap (λ n. take n ((front ++ fib) ++ rest)) count
+    ∙ take-append_seam (front ++ fib) rest

@@ -1,6 +1,6 @@
 -- Words of sixteen bits as two bytes, and as bits.
 use Rattle.std.proofs.Common.{◌≡◌, ℕ, zero, suc, ◌+◌, ◌-◌, ◌*◌, ◌/◌, ◌%◌, ◌^◌, ◌<◌, ◌≤◌, map, refl, replicate, List, [], ◌∷◌, ◌++◌, length, get_or, drop, take, sym, ◌∙◌, ap, ap₂, arith, subst, take_at, drop_at, length-append, pow-suc, length-take, append-nil, drop-cons, ◌↔◌, length-drop}
-use Rattle.std.proofs.lemmas.List.{drop_all, length-map}
+use Rattle.std.proofs.lemmas.List.{drop_all, drop-drop, length-map}
 use Rattle.std.proofs.lemmas.Nat.Bits.{bit_at_cat_high, bit_at_lowest}
 use Rattle.std.specs.Int.{bit_at}
 use Rattle.std.proofs.lemmas.Nat.{mod-pow-add}
@@ -180,3 +180,25 @@ sealed_row row buf word whole fits bits written =
     ap₂ (λ xs ys. take 30 row ++ (xs ++ ys)) two behind
     ∙ ap (λ t. take 30 row ++ t) (append-nil (big_bytes 2 word))
     ∙ ap (λ w. take 30 row ++ big_bytes 2 w) (word_checked (take 30 row) word fits bits)
+
+-- the same in a piece of a longer row
+pub sealed_into : (offset word : ℕ) (bytes row copied buf : List ℕ) → length row ≡ 32 → copied ≡ row → word < 65536
+    → bits_of 16 word ≡ check_bits (take 30 row)
+    → buf ≡ word / 256 % 256 ∷ word % 256 ∷ drop 2 (take (length copied - 30) (drop 30 copied))
+    → put_mid offset (offset + 32 - offset) bytes (put_mid 30 (length copied - 30) copied buf)
+    ≡ take offset bytes ++ (checked (take 30 row) ++ drop (offset + 32) bytes)
+sealed_into offset word bytes row copied buf whole same fits bits written =
+    let long : length copied ≡ 32 = ap length same ∙ whole in
+    let two : length copied - 30 ≡ 2 = omega (arith, long) in
+    let count : offset + 32 - offset ≡ 32 = omega arith in
+    let own : bits_of 16 word ≡ check_bits (take 30 copied) = bits ∙ ap (λ xs. check_bits (take 30 xs)) (sym same) in
+    let put : buf ≡ word / 256 % 256 ∷ word % 256 ∷ drop 2 (take 2 (drop 30 copied)) =
+    written ∙ ap (λ n. word / 256 % 256 ∷ word % 256 ∷ drop 2 (take n (drop 30 copied))) two in
+    let inner : put_mid 30 (length copied - 30) copied buf ≡ checked (take 30 row) =
+    ap (λ n. put_mid 30 n copied buf) two ∙ sealed_row copied buf word long fits own put ∙ ap (λ xs. checked (take 30 xs)) same in
+    let behind : drop (offset + 32 - offset) (drop offset bytes) ≡ drop (offset + 32) bytes =
+    ap (λ n. drop n (drop offset bytes)) count ∙ drop-drop 32 offset bytes in
+    ap₂ (λ xs ys. take offset bytes ++ (xs ++ ys)) inner behind
+
+pub checked_len : (bytes : List ℕ) → length bytes ≡ 30 → length (checked bytes) ≡ 32
+checked_len bytes h = length-append bytes (big_bytes 2 (check_word bytes)) ∙ omega (arith, h)

@@ -63,9 +63,10 @@ fn six_step(register: u16, a: u8, b: u8, c: u8, d: u8, e: u8, f: u8) -> u16
 {
     let top = (register >> 8) as u8;
     let low = (register % 256) as u8;
-    let front = turned_after_four(low ^ b) ^ turned_after_five(top ^ a);
-    turned_at_once(f)
-        ^ (turned_after_one(e) ^ (turned_after_two(d) ^ (turned_after_three(c) ^ front)))
+    // what does not wait for the register comes first
+    let behind = turned_at_once(f)
+        ^ (turned_after_one(e) ^ (turned_after_two(d) ^ turned_after_three(c)));
+    behind ^ (turned_after_four(low ^ b) ^ turned_after_five(top ^ a))
 }
 
 /// The check word of these bytes as it is sent: the remainder of the long division by

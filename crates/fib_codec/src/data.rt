@@ -1,6 +1,6 @@
 //! The data bytes of a FIB that is being written.
 
-ghost use Rattle.std.specs.Prelude.{◌≡◌, ◌<◌, ◌≤◌, ◌++◌, ◌∷◌, [], length, take};
+ghost use Rattle.std.specs.Prelude.{◌≡◌, ◌+◌, ◌<◌, ◌≤◌, ◌++◌, ◌∷◌, [], length, take, slice_index_or, slice_set};
 ghost use Rattle.fib_codec.specs.Spelling.{filled, checked};
 
 use crate::crc::crc16;
@@ -8,7 +8,7 @@ use byteorder::{BigEndian, ByteOrder};
 use std::marker::Model;
 
 /// The data bytes of a FIB as far as they are written, at most 30. Contracts see the list of them. They stand in the
-/// 32 bytes of the FIB, which are 0 behind them.
+/// 32 bytes of the FIB, with the end marker and zeros behind them.
 #[derive(Drop)]
 pub(crate) struct Data {
     bytes: [u8; 32],
@@ -41,10 +41,9 @@ impl Data {
     pub(crate) fn new() -> Data
         ensures { result ≡ [] }
     {
-        Data {
-            bytes: [0; 32],
-            len: 0,
-        }
+        let mut bytes = [0; 32];
+        bytes[0] = 0xff;
+        Data { bytes, len: 0 }
     }
 
     /// How many there are.
@@ -68,8 +67,40 @@ impl Data {
         requires { length self.old < 30 }
         ensures { self.new ≡ self.old ++ byte ∷ [] }
     {
-        self.bytes[self.len] = byte;
-        self.len += 1;
+        let at = self.len;
+        self.bytes[at] = byte;
+        self.bytes[at + 1] = 0xff;
+        self.len = at + 1;
+    }
+
+    /// Appends two bytes, for which there is room.
+    pub(crate) fn push_two(&mut self, first: u8, second: u8)
+        requires { length self.old < 29 }
+        ensures { self.new ≡ self.old ++ first ∷ second ∷ [] }
+    {
+        let at = self.len;
+        self.bytes[at] = first;
+        self.bytes[at + 1] = second;
+        self.bytes[at + 2] = 0xff;
+        self.len = at + 2;
+    }
+
+    /// Adds to the byte at a place.
+    pub(crate) fn add_at(&mut self, place: usize, more: u8)
+        requires place { place < length self.old }
+        requires fits { slice_index_or self.old place 0 + more ≤ 255 }
+        ensures { self.new ≡ slice_set self.old place (slice_index_or self.old place 0 + more) }
+    {
+        self.bytes[place] += more;
+    }
+
+    /// The 32 bytes of the FIB, of which the last two aren't its check word yet.
+    pub(crate) fn row(&self) -> &[u8; 32]
+        ensures filled { take 30 result.now ≡ filled self.now }
+        ensures whole { length result.now ≡ 32 }
+        ensures bound { length self.now ≤ 30 }
+    {
+        &self.bytes
     }
 
     /// The FIB with these data bytes, filled up to thirty.
@@ -77,10 +108,6 @@ impl Data {
         ensures value { result ≡ checked (filled self) }
         ensures bound { length self ≤ 30 }
     {
-        let mut bytes = self.bytes;
-        if self.len < 30 {
-            bytes[self.len] = 0xff;
-        }
-        sealed(bytes)
+        sealed(self.bytes)
     }
 }

@@ -1,6 +1,6 @@
 //! A FIB that is being written.
 
-ghost use Rattle.std.specs.Prelude.{◌≡◌, ◌+◌, ◌*◌, ◌≤◌, ◌<◌, ◌↔◌, ◌++◌, ◌∷◌, [], length, IsTrue, IsFalse, MatchOption, List, map};
+ghost use Rattle.std.specs.Prelude.{◌≡◌, ◌+◌, ◌*◌, ◌≤◌, ◌<◌, ◌↔◌, ◌++◌, ◌∷◌, [], length, IsTrue, IsFalse, MatchOption, List, map, take, slice_index_or, slice_set};
 ghost use Rattle.mux_config.specs.Configuration.{Each};
 ghost use Rattle.fib_codec.specs.Ranges.{IsWithin};
 ghost use Rattle.byteorder.specs.Endian.{big_bytes};
@@ -111,9 +111,7 @@ impl Fib {
     pub fn new() -> Fib
         ensures { result ≡ [] }
     {
-        Fib {
-            bytes: Data::new(),
-        }
+        Fib { bytes: Data::new() }
     }
 
     /// Appends a FIG of type 0 with this head and these entries, and says whether it did. It answers
@@ -152,8 +150,17 @@ impl Fib {
         requires room { length self.old + 2 + len ≤ 30 }
         ensures { self.new ≡ self.old ++ (1 + len) ∷ byte_of_head head ∷ [] }
     {
-        self.bytes.push(1 + len as u8);
-        self.bytes.push(head_byte(head));
+        self.bytes.push_two(1 + len as u8, head_byte(head));
+    }
+
+    /// Makes the FIG that begins at a place of the data bytes so many bytes longer: those of an entry that the caller
+    /// appends next. It is for the last FIG that was begun, where there is room for the entry.
+    pub fn lengthen_fig(&mut self, place: usize, more: u8)
+        requires place { place < length self.old }
+        requires fits { slice_index_or self.old place 0 + more ≤ 255 }
+        ensures { self.new ≡ slice_set self.old place (slice_index_or self.old place 0 + more) }
+    {
+        self.bytes.add_at(place, more);
     }
 
     /// Appends an entry to the FIG that was begun, which has room for it. [`Fib::try_fig`] is the call for a caller
@@ -208,6 +215,14 @@ impl Fib {
         ensures size { length result.now ≤ 30 }
     {
         self.bytes.as_slice()
+    }
+
+    /// The 32 bytes of the FIB as far as it is written, without its check word.
+    pub(crate) fn row(&self) -> &[u8; 32]
+        ensures filled { take 30 result.now ≡ filled self.now }
+        ensures whole { length result.now ≡ 32 }
+    {
+        self.bytes.row()
     }
 
     /// The 32 bytes of the FIB: its FIGs, the end marker and zeros where there is room for them, and the

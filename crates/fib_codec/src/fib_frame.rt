@@ -3,8 +3,12 @@
 ghost use Rattle.std.specs.Prelude.{◌≡◌, ◌+◌, ◌*◌, ◌≤◌, ◌<◌, ◌++◌, ◌↔◌, length, take, drop, replicate, IsSome, IfSome};
 ghost use Rattle.fib_codec.specs.Modes.{fib_count, with_fib};
 ghost use Rattle.fib_codec.specs.Heard.{fib_at};
+ghost use Rattle.fib_codec.specs.Spelling.{checked, filled};
 
+use crate::crc::crc16;
+use crate::fib::Fib;
 use crate::modes::Mode;
+use byteorder::{BigEndian, ByteOrder};
 use std::marker::Model;
 
 /// The most FIBs that a frame has, those of mode III.
@@ -48,6 +52,20 @@ fn write_at(bytes: &mut [u8], offset: usize, fib: &[u8; 32])
     bytes[offset..offset + 32].copy_from_slice(fib);
 }
 
+/// Writes the FIB of these bytes, of which the last two become the check word of the others, over the 32 bytes from an
+/// offset on.
+fn write_sealed(bytes: &mut [u8], offset: usize, row: &[u8; 32])
+    requires within { offset + 32 ≤ length bytes.old }
+    requires whole { length row.now ≡ 32 }
+    ensures { bytes.new ≡
+        take offset bytes.old ++ (checked (take 30 row.now) ++ drop (offset + 32) bytes.old) }
+{
+    let word = crc16(&row[..30]);
+    let fib = &mut bytes[offset..offset + 32];
+    fib.copy_from_slice(row);
+    BigEndian::write_u16(&mut fib[30..], word);
+}
+
 impl FibFrame {
     /// A frame of this mode whose bytes are all 0, for FIBs to be written into.
     pub fn new(mode: Mode) -> FibFrame
@@ -67,6 +85,18 @@ impl FibFrame {
         ensures size { length self.new ≡ length self.old }
     {
         write_at(&mut self.bytes, 32 * index, fib);
+    }
+
+    /// Closes a FIB that was written, and writes it over the one at this index, from 0: the bytes that
+    /// [`Fib::finish`] gives.
+    pub fn finish_fib(&mut self, index: usize, fib: &Fib)
+        requires { 32 * index + 32 ≤ length self.old }
+        ensures written { self.new ≡ with_fib index (checked (filled fib.now)) self.old }
+        ensures front { take (32 * index + 32) self.new
+            ≡ take (32 * index) self.old ++ checked (filled fib.now) }
+        ensures size { length self.new ≡ length self.old }
+    {
+        write_sealed(&mut self.bytes, 32 * index, fib.row());
     }
 
     /// The bytes of all its FIBs, in order.

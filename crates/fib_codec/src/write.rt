@@ -43,8 +43,7 @@ fn put_word(out: &mut Data, word: u16)
 {
     let mut bytes = [0u8; 2];
     BigEndian::write_u16(&mut bytes, word);
-    out.push(bytes[0]);
-    out.push(bytes[1]);
+    out.push_two(bytes[0], bytes[1]);
 }
 
 /// Appends a number of 32 bits, its highest byte first.
@@ -54,10 +53,8 @@ fn put_long(out: &mut Data, long: u32)
 {
     let mut bytes = [0u8; 4];
     BigEndian::write_u32(&mut bytes, long);
-    out.push(bytes[0]);
-    out.push(bytes[1]);
-    out.push(bytes[2]);
-    out.push(bytes[3]);
+    out.push_two(bytes[0], bytes[1]);
+    out.push_two(bytes[2], bytes[3]);
 }
 
 fn put_ensemble(out: &mut Data, ensemble: Ensemble)

@@ -1,6 +1,6 @@
-use Rattle.std.proofs.Common.{◌≡◌, ◌+◌, ◌-◌, ◌*◌, arith, ap, subst, ◌∙◌, take}
+use Rattle.std.proofs.Common.{◌≡◌, ◌+◌, ◌-◌, ◌*◌, ℕ, List, arith, ap, subst, ◌∙◌, take}
 use Rattle.fib_codec.specs.Modes.{fib_count}
-use Rattle.fib_codec.specs.Spelling.{fib_bytes}
+use Rattle.fib_codec.specs.Spelling.{Written, fib_bytes}
 use Rattle.fib_carousel.specs.Bytes.{figs_of}
 use Rattle.fib_carousel.specs.Pages.{fib_entries, first_fib}
 use Rattle.fib_carousel.specs.Walk.{StandsBefore, HasPassed}
@@ -13,8 +13,8 @@ pub overflow_mul-first : goal.overflow_mul-first
 overflow_mul-first g c =
     omega (arith, rounds_bound c.args.mode (g.L.EntryList.entries c.args.list.now), few_fibs c.args.mode _ c.args.page c.fibs.ensures.value, c.len-len.ensures.count, c.requires.page)
 
-pub overflow_add-first : goal.overflow_add-first
-overflow_add-first g c =
+pub overflow_add-place : goal.overflow_add-place
+overflow_add-place g c =
     omega (arith, rounds_bound c.args.mode (g.L.EntryList.entries c.args.list.now), few_fibs c.args.mode _ c.args.page c.fibs.ensures.value, c.len-len.ensures.count, c.requires.page)
 
 pub loop-slot-preserved : goal.loop-slot-preserved
@@ -24,15 +24,17 @@ loop-slot-preserved g c =
     let next : c.fibs.result * c.args.page + c.loop-slot.slot + 1 ≡ first_fib c.args.mode c.args.page + (c.loop-slot.slot + 1) = omega (arith, here) in
     let last : c.fibs.result * c.args.page + c.loop-slot.slot ≡ first_fib c.args.mode c.args.page + (c.loop-slot.slot + 1) - 1 = omega (arith, here) in
     let count : 32 * (c.loop-slot.slot + 1) ≡ 32 * c.loop-slot.slot + 32 = omega arith in
+    let figs : ℕ → List Written = λ n. figs_of (fib_entries c.args.mode n (g.L.EntryList.entries c.args.list.now)) in
     record {
       some = omega arith;
       size = c.write_fib-in-loop-slot.ensures.size ∙ c.loop-slot.invariant.size;
-      before = subst (λ n. StandsBefore c.args.mode (g.L.EntryList.entries c.args.list.now) n c.fib-in-loop-slot.new.position) next c.fib-in-loop-slot.ensures.next;
-      passed = subst (λ n. HasPassed c.args.mode (g.L.EntryList.entries c.args.list.now) n c.fib-in-loop-slot.new.position) last c.fib-in-loop-slot.ensures.passed;
+      before = subst (λ n. StandsBefore c.args.mode (g.L.EntryList.entries c.args.list.now) n c.write_fib-in-loop-slot.new.position) next c.write_fib-in-loop-slot.ensures.next;
+      passed = subst (λ n. HasPassed c.args.mode (g.L.EntryList.entries c.args.list.now) n c.write_fib-in-loop-slot.new.position) last c.write_fib-in-loop-slot.ensures.passed;
       bytes =
-          fib_written (fib_count c.args.mode) (first_fib c.args.mode c.args.page) c.loop-slot.slot (λ n. figs_of (fib_entries c.args.mode n (g.L.EntryList.entries c.args.list.now))) _ _ _ _
+          fib_written (fib_count c.args.mode) (first_fib c.args.mode c.args.page) c.loop-slot.slot figs _ _
+          (fib_bytes (figs (c.fibs.result * c.args.page + c.loop-slot.slot))) _
           (omega (arith, c.loop-slot-test.true, c.fibs-slot-end.ensures.value))
-          (c.fib-in-loop-slot.ensures.bytes ∙ ap (λ n. fib_bytes (figs_of (fib_entries c.args.mode n (g.L.EntryList.entries c.args.list.now)))) here)
-          (ap (λ n. take n c.write_fib-in-loop-slot.new.self) count ∙ c.write_fib-in-loop-slot.ensures.front)
+          (ap (λ n. fib_bytes (figs n)) here)
+          (ap (λ n. take n c.write_fib-in-loop-slot.new.frame) count ∙ c.write_fib-in-loop-slot.ensures.bytes)
           c.loop-slot.invariant.bytes;
     }

@@ -1,0 +1,35 @@
+-- How the FIGs of a FIB grow by an entry. No public contract needs this to be believed.
+use Rattle.std.specs.Prelude.{◌≡◌, ℕ, ◌+◌, ◌<◌, ◌≤◌, Bool, true, false, Option, Some, None, List, [], ◌∷◌, ◌++◌, length, slice_index_or, slice_set}
+use Rattle.fib_codec.specs.Spelling.{head_byte}
+use Rattle.fib_carousel.specs.declared.pack_state.EntryShape.{EntryShape}
+use Rattle.fib_carousel.specs.declared.page_writer.OpenFig.{OpenFig}
+use Rattle.fib_carousel.specs.Packing.{same_head}
+
+-- a FIG is begun for an entry of this shape
+pub record Begins (s : EntryShape) (old : List ℕ) (fig : OpenFig) (new : List ℕ) : Type 0 where
+  pub head : fig.head ≡ s.head
+  pub place : fig.place ≡ length old
+  pub bytes : new ≡ old ++ (1 + s.size) ∷ head_byte s.head ∷ []
+
+-- a FIG that was begun is made longer by the entry
+pub record Lengthens (f : OpenFig) (s : EntryShape) (old : List ℕ) (fig : OpenFig) (new : List ℕ) : Type 0 where
+  pub same : fig ≡ f
+  pub bytes : new ≡ slice_set old f.place (slice_index_or old f.place 0 + s.size)
+
+-- the one where the entry's head is that of the FIG before, and the other where it is not
+abbrev pub GrowsBy : Bool → OpenFig → EntryShape → List ℕ → OpenFig → List ℕ → Type 0
+GrowsBy true f s old fig new = Lengthens f s old fig new
+GrowsBy false f s old fig new = Begins s old fig new
+
+abbrev pub Grows : Option OpenFig → EntryShape → List ℕ → OpenFig → List ℕ → Type 0
+Grows None s old fig new = Begins s old fig new
+Grows (Some f) s old fig new = GrowsBy (same_head f.head s.head) f s old fig new
+
+-- there is room for the entry
+abbrev pub FitsBy : Bool → OpenFig → EntryShape → List ℕ → Type 0
+FitsBy true f s old = (f.place < length old) × (slice_index_or old f.place 0 + s.size ≤ 255)
+FitsBy false f s old = length old + 2 + s.size ≤ 30
+
+abbrev pub Fits : Option OpenFig → EntryShape → List ℕ → Type 0
+Fits None s old = length old + 2 + s.size ≤ 30
+Fits (Some f) s old = FitsBy (same_head f.head s.head) f s old
