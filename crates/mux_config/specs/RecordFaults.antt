@@ -1,7 +1,7 @@
 -- What the fault of bytes that are no record says, in the words of the bytes.
 use Rattle.std.specs.Prelude.{◌≡◌, ◌≢◌, ℕ, ◌<◌, ◌⊎◌, List, ◌++◌, length, take, Err}
 use Rattle.mux_config.specs.declared.record.RecordFault.{RecordFault}
-use Rattle.mux_config.specs.declared.record.RecordFault.TheVariants.{Short}
+use Rattle.mux_config.specs.declared.record.RecordFault.TheVariants.{Short, Field}
 use Rattle.mux_config.specs.Configuration.{Configuration, IsConfiguration}
 use Rattle.mux_config.specs.Spelling.{config_bytes}
 use Rattle.mux_config.specs.Reading.{config_at}
@@ -29,3 +29,9 @@ abbrev pub FaultsAreFirst : Type 0
 FaultsAreFirst =
     (bytes : List ℕ) (n : ℕ) (fault : RecordFault) → HasFault bytes fault
     → HasFault (take n bytes) Short ⊎ HasFault (take n bytes) fault
+
+-- the place of a field that is at fault is the number of one of the bytes, from 0, and the bytes before it are short:
+-- none of their fields is at fault
+abbrev pub ShortBeforePlaces : Type 0
+ShortBeforePlaces =
+    (bytes : List ℕ) (place : ℕ) → HasFault bytes (Field place) → (place < length bytes) × HasFault (take place bytes) Short

@@ -4,7 +4,7 @@ ghost use Rattle.mux_config.specs.Change.{ChangeTells};
 ghost use Rattle.mux_config.specs.Edits.{EditsKeep, RefusalsChangeNothing};
 ghost use Rattle.mux_config.specs.Facts.{FactsTell, FactSetsTell};
 ghost use Rattle.mux_config.specs.SoundFaults.{FaultsTell};
-ghost use Rattle.mux_config.specs.RecordFaults.{CutsAreShort, FaultsStay, FaultsAreFirst};
+ghost use Rattle.mux_config.specs.RecordFaults.{CutsAreShort, FaultsStay, FaultsAreFirst, ShortBeforePlaces};
 ghost use Rattle.mux_config.specs.Sets.{HasOneList, WithAdds, WithoutTakes, ChangedReplaces};
 
 use crate::table::Keyed;
@@ -53,12 +53,14 @@ pub fn faults()
 {}
 
 /// The law of records: a record that is cut off is short; any other fault lies in the bytes that were read, so that
-/// it stays whatever follows them and nothing that begins with them is a record; and it is the first one. The
-/// function does nothing; its contract is the law.
+/// it stays whatever follows them and nothing that begins with them is a record; and it is the first one. The place
+/// of a field at fault is that of one of the bytes, and those before it are short. The function does nothing; its
+/// contract is the law.
 pub fn record_faults()
     ensures cuts { CutsAreShort }
     ensures stays { FaultsStay }
     ensures first { FaultsAreFirst }
+    ensures places { ShortBeforePlaces }
 {}
 
 /// The laws of sets: a list in ascending order of its keys is a finite set, and the words in which edits are

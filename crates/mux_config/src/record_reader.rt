@@ -181,7 +181,7 @@ pub fn read_config(bytes: &[u8]) -> Result<(Config, usize), RecordFault>
         config_at bytes.now ≡ Ok (found.0, drop found.1 bytes.now)) }
     ensures first_fault { IfErr result (λ fault. config_at bytes.now ≡ Err fault) }
     ensures within { (place : ℕ) → result ≡ Err (RecordFault.Field place)
-        → place ≤ length bytes.now }
+        → place < length bytes.now }
 {
     record(bytes)
 }

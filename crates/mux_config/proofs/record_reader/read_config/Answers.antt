@@ -1,6 +1,5 @@
 use Rattle.std.proofs.Common.{arith}
-use Rattle.mux_config.specs.declared.record.RecordFault.TheVariants.{Field}
-use Rattle.mux_config.proofs.Places.{fault_in}
+use Rattle.mux_config.proofs.Places.{field_in}
 use Rattle.mux_config.proofs.RecordLaws.{spelled_so, read_so}
 use Rattle.mux_config.proofs.record_reader.read_config.Goals as goal
 
@@ -11,4 +10,4 @@ pub returns-clause-only : goal.returns-clause-only
 returns-clause-only c = read_so c.args.bytes.now c.record.result c.record.ensures.read c.record.ensures.whole c.record.ensures.first_fault
 
 pub returns-clause-within : goal.returns-clause-within
-returns-clause-within c = λ place fault. fault_in c.args.bytes.now (Field place) ((rw fault at c.record.ensures.first_fault))
+returns-clause-within c = λ place fault. field_in c.args.bytes.now place ((rw fault at c.record.ensures.first_fault))
