@@ -1,8 +1,8 @@
 -- Reading a code file is steady: any fault but that it is truncated is the same whatever follows the bytes.
-use Rattle.std.proofs.Common.{◌≡◌, ◌≢◌, ℕ, zero, suc, ◌+◌, ◌<◌, Bool, true, false, cond, eqb, ltb, not, List, [], ◌∷◌, ◌++◌, length, take, drop, Result, Ok, Err, refl, sym, ap, ◌∙◌, subst, arith}
+use Rattle.std.proofs.Common.{◌≡◌, ◌≢◌, ℕ, zero, suc, ◌+◌, ◌<◌, Bool, true, false, cond, eqb, ltb, not, List, [], ◌∷◌, ◌++◌, length, take, drop, Result, Ok, Err, refl, sym, ap, ◌∙◌, subst, ◌⊎◌, inl, inr, arith}
 use Rattle.std.specs.Int.{w16, w32}
 use Rattle.std.proofs.lemmas.Bool.{ne_eqb}
-use Rattle.std.proofs.lemmas.List.{length-append, take-append-drop, length-take-le}
+use Rattle.std.proofs.lemmas.List.{length-append, take-append-drop, append-nil, length-take-le}
 use Rattle.mux_config.specs.declared.record.RecordFault.TheVariants.{Short, Field as FieldOfRecord, Order}
 use Rattle.mux_config.specs.Reading.{Reads}
 use Rattle.mux_config.proofs.Steady.{Goes, place_same, goes_byte, goes_number, goes_byte_within, goes_config, goes_members}
@@ -12,7 +12,7 @@ use Rattle.plan_code.specs.Program.{Program, IsProgram, label_key}
 use Rattle.plan_code.specs.Spelling.{magic, code_bytes}
 use Rattle.plan_code.specs.Parts.{label_at}
 use Rattle.plan_code.specs.Reading.{Parses, ◌>>=◌, refuse, read_from, in_file, magic_at, mode_in, mode_at, plan_at, count_at, config_in, line_in, items_at, Header, header_at, program_at, code_of}
-use Rattle.plan_code.specs.FileFaults.{CutsAreTruncated, FileFaultsStay}
+use Rattle.plan_code.specs.FileFaults.{CutsAreTruncated, FileFaultsStay, FileFaultsAreFirst}
 use Rattle.plan_code.proofs.SteadyParts.{goes_label, goes_line}
 use Rattle.plan_code.proofs.FileLaws.{code_again}
 
@@ -202,3 +202,24 @@ cuts_are_truncated p n is less =
     (λ none. let left : length (drop n whole) ≡ 0 = ap length none in
     let both : length (take n whole ++ drop n whole) ≡ length whole = ap length (take-append-drop n whole) in
     omega (arith, less, left, both, length-append (take n whole) (drop n whole), length-take-le n whole (omega (arith, less))))
+
+-- of a reading and one of more bytes: the first is short, or has the fault of the second, but that bytes are left over
+first_by : (more : List ℕ) (r s : Result Program CodeFault) (fault : CodeFault) → Ends more r s → (more ≡ [] → r ≡ s) → s ≡ Err fault → fault ≢ Trailing → (r ≡ Err Truncated) ⊎ (r ≡ Err fault)
+first_by [] (Ok p) s fault h same e other = inr (same refl ∙ e)
+first_by (m ∷ more) (Ok p) s fault h same e other =
+    let trailing : s ≡ Err Trailing = h (λ none. absurd cc) in
+    absurd (let it : fault ≡ Trailing = cc in other it)
+first_by more (Err Truncated) s fault h same e other = inl refl
+first_by more (Err Magic) s fault h same e other = inr (sym h ∙ e)
+first_by more (Err Version) s fault h same e other = inr (sym h ∙ e)
+first_by more (Err (Field at)) s fault h same e other = inr (sym h ∙ e)
+first_by more (Err Limit) s fault h same e other = inr (sym h ∙ e)
+first_by more (Err Trailing) s fault h same e other = inr (sym h ∙ e)
+first_by more (Err Memory) s fault h same e other = inr (sym h ∙ e)
+
+pub file_faults_are_first : FileFaultsAreFirst
+file_faults_are_first bytes n fault h other =
+    first_by (drop n bytes) (code_of (take n bytes)) (code_of (take n bytes ++ drop n bytes)) fault
+    (ends_code (take n bytes) (drop n bytes))
+    (λ none. ap code_of (sym (append-nil (take n bytes)) ∙ ap (λ (xs : List ℕ). take n bytes ++ xs) (sym none)))
+    (ap code_of (take-append-drop n bytes) ∙ h) other

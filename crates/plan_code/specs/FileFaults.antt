@@ -1,7 +1,7 @@
 -- What the fault of bytes that are no code file says, in the words of the bytes.
-use Rattle.std.specs.Prelude.{◌≢◌, ℕ, ◌<◌, List, ◌++◌, length, take}
+use Rattle.std.specs.Prelude.{◌≢◌, ◌⊎◌, ℕ, ◌<◌, List, ◌++◌, length, take}
 use Rattle.plan_code.specs.declared.fault.CodeFault.{CodeFault}
-use Rattle.plan_code.specs.declared.fault.CodeFault.TheVariants.{Truncated}
+use Rattle.plan_code.specs.declared.fault.CodeFault.TheVariants.{Truncated, Trailing}
 use Rattle.plan_code.specs.Program.{Program, IsProgram}
 use Rattle.plan_code.specs.Spelling.{code_bytes}
 use Rattle.plan_code.specs.Faults.{HasFault, IsNoFile}
@@ -16,3 +16,10 @@ abbrev pub FileFaultsStay : Type 0
 FileFaultsStay =
     (bytes more : List ℕ) (fault : CodeFault) → HasFault bytes fault → fault ≢ Truncated
     → HasFault (bytes ++ more) fault × IsNoFile (bytes ++ more)
+
+-- and it is the first one: what comes before it is truncated, or has it too; only that bytes are left over is seen at
+-- the end
+abbrev pub FileFaultsAreFirst : Type 0
+FileFaultsAreFirst =
+    (bytes : List ℕ) (n : ℕ) (fault : CodeFault) → HasFault bytes fault → fault ≢ Trailing
+    → HasFault (take n bytes) Truncated ⊎ HasFault (take n bytes) fault
