@@ -4,6 +4,8 @@ use Rattle.std.proofs.Common.{◌≡◌, ℕ, suc, ◌+◌, ◌<◌, ◌≤◌, 
 use Rattle.std.proofs.lemmas.List.{length-append}
 use Rattle.mux_config.specs.Configuration.{nothing}
 use Rattle.fib_codec.specs.declared.modes.Mode.TheVariants.{I}
+use Rattle.fib_carousel.specs.Bytes.{page_bytes}
+use Rattle.fib_carousel.specs.declared.kept_page.KeptPage.{KeptPage}
 use Rattle.plan_code.specs.declared.plan.Plan.{Plan}
 use Rattle.plan_code.specs.declared.flags.Counters.{Counters}
 use Rattle.plan_code.specs.declared.flags.Contacts.{Contacts}
@@ -21,7 +23,8 @@ use Rattle.plan_player.specs.declared.fault.StartFault.TheVariants.{Count, Day}
 use Rattle.plan_player.specs.declared.fault.PlayFault.TheVariants.{Write}
 use Rattle.plan_player.specs.Playing.{Playing, start_fault, BeginsWith, last_steps, played}
 use Rattle.plan_player.specs.Delivery.{frames_of, bytes_of, next_frame, Stopped, StoppedBy}
-use Rattle.plan_player.specs.Phase.{HasChange, KeepsChange}
+use Rattle.plan_player.specs.declared.phase_pages.Sent.TheVariants.{Kept, Headed}
+use Rattle.plan_player.specs.Phase.{HasPage, ShowsAs, HasChange, KeepsChange}
 
 -- ---- values shared by these vectors: an empty multiplex
 
@@ -195,3 +198,26 @@ before_a_notice = λ less. omega (arith, less)
 
 in_a_notice : KeepsChange 24 (Some 23) nothing nothing 1 → ⊥
 in_a_notice h = let e : 1 ≡ 0 = h (omega arith) in omega (arith, e)
+
+-- ---- pages that are kept
+
+abbrev kept : KeptPage
+kept = record { plain = page_bytes I None 0 [] }
+
+holds_page_0 : HasPage I [] 0 (Some kept ∷ [])
+holds_page_0 = record { page = kept; held = refl; kept = record { plain = refl; sendable = tt } }
+
+no_page_1 : HasPage I [] 1 (Some kept ∷ []) → ⊥
+no_page_1 h = let e : None ≡ Some (Some h.page) = h.held in absurd cc
+
+shows_page_0 : ShowsAs (Kept 0) (Some kept ∷ []) [] (page_bytes I None 0 [])
+shows_page_0 = (kept, refl, refl)
+
+shows_no_page_1 : ShowsAs (Kept 1) (Some kept ∷ []) [] (page_bytes I None 0 []) → ⊥
+shows_no_page_1 h = let e : None ≡ Some (Some h.0) = h.1 in absurd cc
+
+shows_what_was_made : ShowsAs Headed [] taken taken
+shows_what_was_made = refl
+
+shows_something_else : ShowsAs Headed [] [] taken → ⊥
+shows_something_else h = let n : 0 ≡ 100 = ap length h in omega (arith, n)
