@@ -1,5 +1,5 @@
 -- What a frame of a machine rests on: where it holds, and where it fails.
-use Rattle.std.proofs.Common.{◌≡◌, ℕ, zero, suc, ◌<◌, ◌≤◌, true, false, List, [], ◌∷◌, replicate, Some, None, refl, sym, subst, arith}
+use Rattle.std.proofs.Common.{◌≡◌, ℕ, zero, suc, ◌<◌, true, false, List, [], ◌∷◌, replicate, Some, None, refl, sym, subst, arith}
 use Rattle.mux_config.specs.Configuration.{IsConfiguration, nothing}
 use Rattle.fib_codec.specs.declared.modes.Mode.TheVariants.{I}
 use Rattle.plan_code.specs.declared.plan.Plan.{Plan}

@@ -1,9 +1,8 @@
 -- What becomes of a swap in each transmission mode, and what may be done where it may have been made already.
-use Rattle.std.proofs.Common.{◌≡◌, ℕ, ◌<◌, ◌≤◌, ◌⊎◌, true, List, Some, None, [], ◌∷◌, inl, inr, refl, ap, arith}
+use Rattle.std.proofs.Common.{◌≡◌, ◌<◌, ◌≤◌, true, [], ◌∷◌, inl, inr, refl, ap, arith}
 use Rattle.mux_config.specs.Configuration.{Configuration}
 use Rattle.mux_config.specs.declared.edit.Edit.TheVariants.{DropSub}
 use Rattle.mux_config.specs.declared.fault.EditFault.TheVariants.{IdAbsent}
-use Rattle.mux_config.specs.declared.parts.Sub.{Sub}
 use Rattle.fib_codec.specs.declared.modes.Mode.{Mode}
 use Rattle.fib_codec.specs.declared.modes.Mode.TheVariants.{I, II, III, IV}
 use Rattle.plan_code.specs.declared.plan.Plan.{Plan}
