@@ -1,2 +1,3 @@
 mod Appending
 mod Hearing
+mod OneAnswer

@@ -25,3 +25,7 @@ HearsAll (fib ∷ fibs) damaged now given =
 abbrev pub HearsStream : List ℕ → Result Heard StreamFault → Type 0
 HearsStream stream (Err NotWhole) = 0 < length stream % 32
 HearsStream stream given = (length stream % 32 ≡ 0) × HearsAll (fibs_of stream) 0 untuned given
+
+-- a stream has one answer at most
+abbrev pub OneAnswer : Type 0
+OneAnswer = (stream : List ℕ) (one other : Result Heard StreamFault) → HearsStream stream one → HearsStream stream other → one ≡ other

@@ -3,5 +3,6 @@
 #![tactic(auto)]
 
 pub mod frame;
+pub mod laws;
 pub mod listen;
 pub mod listing;
