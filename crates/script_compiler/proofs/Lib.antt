@@ -17,3 +17,4 @@ mod Labelled
 mod First
 mod Typed
 mod Rooms
+mod Deep

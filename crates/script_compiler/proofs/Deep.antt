@@ -1,0 +1,89 @@
+-- What holds of the labels of a script that is accepted.
+use Rattle.std.proofs.Common.{ℕ, ◌+◌, ◌≤◌, Bool, true, false, if◌then◌else◌, List, [], ◌∷◌, ◌++◌, length, Option, Some, None, arith}
+use Rattle.plan_code.specs.declared.instr.Instr.TheVariants.{End, Jump, Loop}
+use Rattle.plan_code.specs.declared.plan.Plan.{Plan}
+use Rattle.script_front.specs.Block.{Block, nothing, basic, stop, when, either, repeat, forever, apply}
+use Rattle.script_front.specs.Tree.{Tree}
+use Rattle.script_scheme.specs.declared.flow.Spot.{Spot}
+use Rattle.script_scheme.specs.Scheme.{Place, past, at_label, moved, meet, join, onward, head, after, placed, alone, places, mark_of, marks_of, instr_of, falls_out}
+use Rattle.script_scheme.specs.Compiled.{nested, body_of, beginning, opening_of, plan_of, places_of, IsAccepted}
+use Rattle.script_compiler.specs.Room.{HasRoomFor, IsDeepAtMost, named_by}
+use Rattle.script_compiler.proofs.Rooms.{room_from}
+
+-- at most eight repeats stand around each of these
+abbrev AreDeep : List Place → Type 0
+AreDeep [] = Unit {0}
+AreDeep (p ∷ ps) = (p.repeats ≤ 8) × AreDeep ps
+
+deep_both : (ps qs : List Place) → AreDeep ps → AreDeep qs → AreDeep (ps ++ qs)
+deep_both [] qs h k = k
+deep_both (p ∷ ps) qs h k = (h.0, deep_both ps qs h.1 k)
+
+deep_onward : (w : Option Spot) (lay : Spot → List Place) → ((u : Spot) → AreDeep (lay u)) → AreDeep (onward w [] lay)
+deep_onward None lay h = tt
+deep_onward (Some u) lay h = h u
+
+places_deep : (plan : Plan) (b : Block) (r pc : ℕ) (s : Spot) → r + nested b ≤ 8 → AreDeep (places plan r pc b s)
+places_deep plan nothing r pc s h = tt
+places_deep plan (basic line act rest) r pc s h = (omega (arith, h), places_deep plan rest r (pc + 1) (past (moved plan (instr_of act) s.flow)) (omega (arith, h)))
+places_deep plan (stop line rest) r pc s h = (omega (arith, h), tt)
+places_deep plan (when line c first rest) r pc s h =
+    let firsts = places plan r (pc + 1) first (past s.flow) in (
+      omega (arith, h),
+      deep_both firsts _ (places_deep plan first r (pc + 1) (past s.flow) (omega (arith, h)))
+          (deep_onward (meet (after plan first (past s.flow)) (Some s)) (λ u. places plan r (pc + 1 + length firsts) rest u) (λ u. places_deep plan rest r (pc + 1 + length firsts) u (omega (arith, h)))),
+    )
+places_deep plan (either line c first second rest) r pc s h =
+    let firsts = places plan r (pc + 1) first (past s.flow) in
+    let a = after plan first (past s.flow) in
+    let start = pc + 1 + length firsts + (if falls_out first then 1 else 0) in
+    let seconds = places plan r start second (at_label s.flow) in
+    let b = after plan second (at_label s.flow) in
+    let end = start + length seconds in
+    let jumps = onward a [] (alone line (Jump end) r) in
+    let rests = onward (join a b) [] (λ u. places plan r end rest u) in
+    let low : r ≤ 8 = omega (arith, h) in (
+      low,
+      deep_both firsts (jumps ++ (seconds ++ rests)) (places_deep plan first r (pc + 1) (past s.flow) (omega (arith, h)))
+          (deep_both jumps (seconds ++ rests) (deep_onward a (alone line (Jump end) r) (λ u. (low, tt)))
+          (deep_both seconds rests (places_deep plan second r start (at_label s.flow) (omega (arith, h))) (deep_onward (join a b) (λ u. places plan r end rest u) (λ u. places_deep plan rest r end u (omega (arith, h)))))),
+    )
+places_deep plan (repeat line n body rest) r pc s h =
+    let start = head body (past s.flow) in
+    let bodies = places plan (r + 1) (pc + 1) body start in
+    let end = pc + 1 + length bodies in (
+      omega (arith, h),
+      deep_both bodies _ (places_deep plan body (r + 1) (pc + 1) start (omega (arith, h)))
+          (deep_onward (after plan body start) (λ u. placed line (Loop r (pc + 1)) (r + 1) u ∷ places plan r (end + 1) rest (past u.flow))
+          (λ u. (omega (arith, h), places_deep plan rest r (end + 1) (past u.flow) (omega (arith, h))))),
+    )
+places_deep plan (forever line body rest) r pc s h =
+    let start = head body s in
+    let bodies = places plan r pc body start in
+    let low : r ≤ 8 = omega (arith, h) in
+    deep_both bodies _ (places_deep plan body r pc start (omega (arith, h))) (deep_onward (after plan body start) (alone line (Jump pc) r) (λ u. (low, tt)))
+places_deep plan (apply line k named rest) r pc s h =
+    let names = places plan r pc named s in
+    deep_both names _ (places_deep plan named r pc s (omega (arith, h)))
+    (deep_onward (after plan named s) (λ u. places plan r (pc + length names) rest u) (λ u. places_deep plan rest r (pc + length names) u (omega (arith, h))))
+
+deep_marks : (pc : ℕ) (ps : List Place) → AreDeep ps → IsDeepAtMost 8 (marks_of pc ps)
+deep_marks pc [] h = tt
+deep_marks pc (p ∷ ps) h = by p.spot.labelled (deep_marks (pc + 1) ps h.1)
+  where
+    by : (b : Bool) → IsDeepAtMost 8 (marks_of (pc + 1) ps) → IsDeepAtMost 8 (if b then mark_of pc p ∷ marks_of (pc + 1) ps else marks_of (pc + 1) ps)
+    by true k = (h.0, k)
+    by false k = k
+
+-- so few repeats stand around its labels that there are counters for them
+pub accepted_deep : (s : Tree) → IsAccepted s → IsDeepAtMost 8 (marks_of 0 (places_of s))
+accepted_deep s a =
+    let plan = plan_of s in
+    let b = body_of s in
+    let t = beginning (opening_of s) in
+    let deep : nested b ≤ 8 = a.repeats in
+    deep_marks 0 (places_of s) (deep_both (places plan 0 0 b t) _ (places_deep plan b 0 0 t (omega (arith, deep))) (deep_onward (after plan b t) (alone s.last_line End 0) (λ u. (omega arith, tt))))
+
+-- and a table has room for what they name
+pub accepted_room : (s : Tree) → IsAccepted s → HasRoomFor [] (named_by (marks_of 0 (places_of s)))
+accepted_room s a = room_from (marks_of 0 (places_of s)) (λ table t. a.configurations table t)
