@@ -1,8 +1,8 @@
 -- The place of a field that is at fault is one of the bytes that a reading was given, and the bytes before it are short.
-use Rattle.std.proofs.Common.{◌≡◌, ℕ, zero, suc, ◌+◌, ◌<◌, Bool, true, false, cond, ltb, List, [], ◌∷◌, ◌++◌, length, take, drop, Result, Ok, Err, refl, subst, ◌⊎◌, inl, inr, arith}
+use Rattle.std.proofs.Common.{◌≡◌, ℕ, zero, suc, ◌+◌, ◌<◌, ◌≤◌, Bool, true, false, cond, ltb, List, [], ◌∷◌, ◌++◌, length, take, drop, Result, Ok, Err, subst, ◌⊎◌, inl, inr, arith}
 use Rattle.std.specs.Int.{Width, w16, w32, byte_len, from_be_bytes}
 use Rattle.std.specs.List.{list_any}
-use Rattle.std.proofs.lemmas.List.{length-take-le}
+use Rattle.std.proofs.lemmas.List.{length-take-le, length-drop}
 use Rattle.mux_eep.specs.Sizes.{size_or_fault}
 use Rattle.mux_eep.specs.declared.fault.EepFault.{EepFault}
 use Rattle.mux_config.specs.declared.parts.Component.{Component}
@@ -14,169 +14,169 @@ use Rattle.mux_config.specs.Reading.{Reads, ◌>>=◌, refuse, place, byte_at, n
 use Rattle.mux_config.specs.RecordFaults.{HasFault, ShortBeforePlaces}
 use Rattle.mux_config.proofs.Steady.{faults_are_first}
 
--- a place in a fault is below `total`, where there are bytes at all
+-- the place in a fault is below `total`
 abbrev pub IsPlacedIn : ℕ → RecordFault → Type 0
 IsPlacedIn total Short = Unit {0}
-IsPlacedIn total (Field at) = 0 < total → at < total
+IsPlacedIn total (Field at) = at < total
 IsPlacedIn total Order = Unit {0}
 
-abbrev pub FaultsIn : {T : Type 0} → ℕ → Result T RecordFault → Type 0
-FaultsIn total (Ok x) = Unit {0}
-FaultsIn total (Err e) = IsPlacedIn total e
+-- a reading of some of `total` bytes leaves no more than those, and places its fault in them
+abbrev pub Placed : {T : Type 0} → ℕ → Reads T → Type 0
+Placed total (Ok x) = length x.1 ≤ total
+Placed total (Err e) = IsPlacedIn total e
 
-then_in : {A B : Type 0} (total : ℕ) (r : Result A RecordFault) (f : A → Result B RecordFault) → FaultsIn total r → ((x : A) → FaultsIn total (f x)) → FaultsIn total (r >>= f)
-then_in total (Ok x) f here there = there x
-then_in total (Err e) f here there = here
+pub placed_bind : {A B : Type 0} (total : ℕ) (r : Reads A) (f : A × List ℕ → Reads B) → Placed total r → ((x : A) (rest : List ℕ) → length rest ≤ total → Placed total (f (x, rest))) → Placed total (r >>= f)
+placed_bind total (Ok x) f here there = there x.0 x.1 here
+placed_bind total (Err e) f here there = here
 
-refuse_in : (total : ℕ) (test : Bool) (fault : RecordFault) → IsPlacedIn total fault → FaultsIn total (refuse test fault)
-refuse_in total true fault within = within
-refuse_in total false fault within = tt
-
-cond_in : {T : Type 0} (total : ℕ) (test : Bool) (e : RecordFault) (r : Result T RecordFault) → IsPlacedIn total e → FaultsIn total r → FaultsIn total (cond test (Err e) r)
-cond_in total true e r within rest = within
-cond_in total false e r within rest = rest
-
-place_in : (total b : ℕ) (rest : List ℕ) → IsPlacedIn total (Field (place total (b ∷ rest)))
-place_in total b rest = λ some. omega (arith, some)
+placed_refuse : {T : Type 0} (total : ℕ) (test : Bool) (fault : RecordFault) (k : Reads T) → IsPlacedIn total fault → Placed total k → Placed total (refuse test fault >>= λ _. k)
+placed_refuse total true fault k within rest = within
+placed_refuse total false fault k within rest = rest
 
 -- ---- numbers
 
-byte_in : (total : ℕ) (bytes : List ℕ) → FaultsIn total (byte_at bytes)
-byte_in total [] = tt
-byte_in total (b ∷ rest) = tt
+pub placed_byte : (total : ℕ) (bytes : List ℕ) → length bytes ≤ total → Placed total (byte_at bytes)
+placed_byte total [] left = tt
+placed_byte total (b ∷ rest) left = omega (arith, left)
 
-number_in : (total : ℕ) (w : Width) (bytes : List ℕ) → FaultsIn total (number_at w bytes)
-number_in total w bytes = cond_in total (ltb (length bytes) (byte_len w)) Short (Ok (from_be_bytes w (take (byte_len w) bytes), drop (byte_len w) bytes)) tt tt
+number_by : (total : ℕ) (w : Width) (bytes : List ℕ) (t : Bool) → length bytes ≤ total → Placed total (cond t (Err Short) (Ok (from_be_bytes w (take (byte_len w) bytes), drop (byte_len w) bytes)))
+number_by total w bytes true left = tt
+number_by total w bytes false left = omega (arith, left, length-drop (byte_len w) bytes)
+
+pub placed_number : (total : ℕ) (w : Width) (bytes : List ℕ) → length bytes ≤ total → Placed total (number_at w bytes)
+placed_number total w bytes left = number_by total w bytes (ltb (length bytes) (byte_len w)) left
 
 -- a word that is read, and what is read after it, where the place of the word may be at fault
-then_word : {B : Type 0} (total : ℕ) (bytes : List ℕ) (f : ℕ × List ℕ → Result B RecordFault)
-    → (IsPlacedIn total (Field (place total bytes)) → (n : ℕ × List ℕ) → FaultsIn total (f n)) → FaultsIn total (number_at w16 bytes >>= f)
-then_word total [] f next = tt
-then_word total (b ∷ rest) f next = then_in total (number_at w16 (b ∷ rest)) f (number_in total w16 (b ∷ rest)) (next (place_in total b rest))
+pub placed_word : {B : Type 0} (total : ℕ) (bytes : List ℕ) (f : ℕ × List ℕ → Reads B) → length bytes ≤ total
+    → (place total bytes < total → (n : ℕ) (rest : List ℕ) → length rest ≤ total → Placed total (f (n, rest))) → Placed total (number_at w16 bytes >>= f)
+placed_word total [] f left next = tt
+placed_word total (b ∷ rest) f left next = placed_bind total (number_at w16 (b ∷ rest)) f (placed_number total w16 (b ∷ rest) left) (next (omega (arith, left)))
 
-judged_in : (total at low high : ℕ) (n : ℕ × List ℕ) → IsPlacedIn total (Field at) → FaultsIn total (judged at low high n)
-judged_in total at low high n within =
-    cond_in total (ltb n.0 low) (Field at) (cond (ltb high n.0) (Err (Field at)) (Ok n)) within (cond_in total (ltb high n.0) (Field at) (Ok n) within tt)
+judged_by : (total at : ℕ) (n : ℕ × List ℕ) (t u : Bool) → at < total → length n.1 ≤ total → Placed total (cond t (Err (Field at)) (cond u (Err (Field at)) (Ok n)))
+judged_by total at n true u within left = within
+judged_by total at n false true within left = within
+judged_by total at n false false within left = left
 
-byte_within_in : (total low high : ℕ) (bytes : List ℕ) → FaultsIn total (byte_within total low high bytes)
-byte_within_in total low high [] = tt
-byte_within_in total low high (b ∷ rest) = judged_in total (place total (b ∷ rest)) low high (b, rest) (place_in total b rest)
+pub placed_judged : (total at low high n : ℕ) (rest : List ℕ) → at < total → length rest ≤ total → Placed total (judged at low high (n, rest))
+placed_judged total at low high n rest within left = judged_by total at (n, rest) (ltb n low) (ltb high n) within left
 
-word_within_in : (total low high : ℕ) (bytes : List ℕ) → FaultsIn total (word_within total low high bytes)
-word_within_in total low high bytes =
-    then_word total bytes (judged (place total bytes) low high) (λ placed n. judged_in total (place total bytes) low high n placed)
+pub placed_byte_within : (total low high : ℕ) (bytes : List ℕ) → length bytes ≤ total → Placed total (byte_within total low high bytes)
+placed_byte_within total low high [] left = tt
+placed_byte_within total low high (b ∷ rest) left = placed_judged total (place total (b ∷ rest)) low high b rest (omega (arith, left)) (omega (arith, left))
 
-flag_in : (total : ℕ) (bytes : List ℕ) → FaultsIn total (flag_at total bytes)
-flag_in total bytes = then_in total (byte_within total 0 1 bytes) _ (byte_within_in total 0 1 bytes) (λ n. tt)
+pub placed_word_within : (total low high : ℕ) (bytes : List ℕ) → length bytes ≤ total → Placed total (word_within total low high bytes)
+placed_word_within total low high bytes left =
+    placed_word total bytes (judged (place total bytes) low high) left (λ within n rest after. placed_judged total (place total bytes) low high n rest within after)
 
-protection_in : (total : ℕ) (bytes : List ℕ) → FaultsIn total (protection_at total bytes)
+pub placed_flag : (total : ℕ) (bytes : List ℕ) → length bytes ≤ total → Placed total (flag_at total bytes)
+placed_flag total bytes left = placed_bind total _ _ (placed_byte_within total 0 1 bytes left) (λ n rest after. after)
+
+pub placed_protection : (total : ℕ) (bytes : List ℕ) → length bytes ≤ total → Placed total (protection_at total bytes)
 unfolding protection_at
-protection_in total bytes =
-    then_in total (byte_within total 0 1 bytes) _ (byte_within_in total 0 1 bytes) (λ set.
-    then_in total (byte_within total 1 4 set.1) _ (byte_within_in total 1 4 set.1) (λ level. tt))
+placed_protection total bytes left =
+    placed_bind total _ _ (placed_byte_within total 0 1 bytes left) (λ set rest some.
+    placed_bind total _ _ (placed_byte_within total 1 4 rest some) (λ level last after. after))
 
 -- ---- sub-channels
 
-size_in : (total at : ℕ) (size : Result ℕ EepFault) → IsPlacedIn total (Field at) → FaultsIn total (size_or_field at size)
-size_in total at (Ok size) within = tt
-size_in total at (Err e) within = within
+placed_size : {T : Type 0} (total at : ℕ) (size : Result ℕ EepFault) (k : ℕ → Reads T) → at < total → ((n : ℕ) → Placed total (k n)) → Placed total (size_or_field at size >>= k)
+placed_size total at (Ok size) k within next = next size
+placed_size total at (Err e) k within next = within
 
-sub_in : (total low : ℕ) (bytes : List ℕ) → FaultsIn total (sub_at total low bytes)
+placed_sub : (total low : ℕ) (bytes : List ℕ) → length bytes ≤ total → Placed total (sub_at total low bytes)
 unfolding sub_at
-sub_in total low bytes =
-    then_in total (byte_within total 0 63 bytes) _ (byte_within_in total 0 63 bytes) (λ id.
-    then_in total (refuse (ltb id.0 low) Order) _ (refuse_in total (ltb id.0 low) Order tt) (λ ascends.
-    then_word total id.1 _ (λ start_placed start.
-    then_in total (protection_at total start.1) _ (protection_in total start.1) (λ protection.
-    then_word total protection.1 _ (λ rate_placed kbits.
-    then_in total (size_or_field (place total protection.1) (size_or_fault protection.0 kbits.0)) _ (size_in total (place total protection.1) (size_or_fault protection.0 kbits.0) rate_placed) (λ size.
-    then_in total (refuse (ltb 864 (start.0 + size)) (Field (place total id.1))) _ (refuse_in total (ltb 864 (start.0 + size)) (Field (place total id.1)) start_placed) (λ ends. tt)))))))
+placed_sub total low bytes left =
+    placed_bind total _ _ (placed_byte_within total 0 63 bytes left) (λ id after_id left_id.
+    placed_refuse total (ltb id low) Order _ tt (
+    placed_word total after_id _ left_id (λ start_within start after_start left_start.
+    placed_bind total _ _ (placed_protection total after_start left_start) (λ protection after_protection left_protection.
+    placed_word total after_protection _ left_protection (λ rate_within kbits rest after.
+    placed_size total _ (size_or_fault protection kbits) _ rate_within (λ size.
+    placed_refuse total (ltb 864 (start + size)) (Field (place total after_id)) _ start_within after))))))
 
 -- ---- services
 
-sid_kind_in : (total k : ℕ) (bytes : List ℕ) → FaultsIn total (sid_of_kind k bytes)
-sid_kind_in total zero bytes = then_in total (number_at w16 bytes) _ (number_in total w16 bytes) (λ n. tt)
-sid_kind_in total (suc k) bytes = then_in total (number_at w32 bytes) _ (number_in total w32 bytes) (λ n. tt)
+placed_sid_kind : (total kind : ℕ) (bytes : List ℕ) → length bytes ≤ total → Placed total (sid_of_kind kind bytes)
+placed_sid_kind total zero bytes left = placed_bind total _ _ (placed_number total w16 bytes left) (λ n rest after. after)
+placed_sid_kind total (suc k) bytes left = placed_bind total _ _ (placed_number total w32 bytes left) (λ n rest after. after)
 
-sid_in : (total : ℕ) (bytes : List ℕ) → FaultsIn total (sid_at total bytes)
+pub placed_sid : (total : ℕ) (bytes : List ℕ) → length bytes ≤ total → Placed total (sid_at total bytes)
 unfolding sid_at
-sid_in total bytes = then_in total (byte_within total 0 1 bytes) _ (byte_within_in total 0 1 bytes) (λ kind. sid_kind_in total kind.0 kind.1)
+placed_sid total bytes left = placed_bind total _ _ (placed_byte_within total 0 1 bytes left) (λ kind rest after. placed_sid_kind total kind rest after)
 
-component_of_in : (total at tmid : ℕ) (bytes : List ℕ) → IsPlacedIn total (Field at) → FaultsIn total (component_of total at tmid bytes)
+placed_component_of : (total at tmid : ℕ) (bytes : List ℕ) → at < total → length bytes ≤ total → Placed total (component_of total at tmid bytes)
 unfolding component_of
-component_of_in total at zero bytes within =
-    then_in total (byte_within total 0 63 bytes) _ (byte_within_in total 0 63 bytes) (λ ty.
-    then_in total (byte_within total 0 63 ty.1) _ (byte_within_in total 0 63 ty.1) (λ sub. tt))
-component_of_in total at (suc zero) bytes within =
-    then_in total (byte_within total 0 63 bytes) _ (byte_within_in total 0 63 bytes) (λ ty.
-    then_in total (byte_within total 0 63 ty.1) _ (byte_within_in total 0 63 ty.1) (λ sub. tt))
-component_of_in total at (suc (suc zero)) bytes within = within
-component_of_in total at (suc (suc (suc zero))) bytes within =
-    then_in total (word_within total 0 4095 bytes) _ (word_within_in total 0 4095 bytes) (λ scid. tt)
-component_of_in total at (suc (suc (suc (suc k)))) bytes within = within
+placed_component_of total at zero bytes within left =
+    placed_bind total _ _ (placed_byte_within total 0 63 bytes left) (λ ty rest some.
+    placed_bind total _ _ (placed_byte_within total 0 63 rest some) (λ sub last after. after))
+placed_component_of total at (suc zero) bytes within left =
+    placed_bind total _ _ (placed_byte_within total 0 63 bytes left) (λ ty rest some.
+    placed_bind total _ _ (placed_byte_within total 0 63 rest some) (λ sub last after. after))
+placed_component_of total at (suc (suc zero)) bytes within left = within
+placed_component_of total at (suc (suc (suc zero))) bytes within left =
+    placed_bind total _ _ (placed_word_within total 0 4095 bytes left) (λ scid rest after. after)
+placed_component_of total at (suc (suc (suc (suc k)))) bytes within left = within
 
-component_in : (total : ℕ) (bytes : List ℕ) → FaultsIn total (component_at total bytes)
+pub placed_component : (total : ℕ) (bytes : List ℕ) → length bytes ≤ total → Placed total (component_at total bytes)
 unfolding component_at
-component_in total [] = tt
-component_in total (b ∷ rest) = component_of_in total (place total (b ∷ rest)) b rest (place_in total b rest)
+placed_component total [] left = tt
+placed_component total (b ∷ rest) left = placed_component_of total (place total (b ∷ rest)) b rest (omega (arith, left)) (omega (arith, left))
 
-components_in : (total : ℕ) (before : List Component) (count : ℕ) (bytes : List ℕ) → FaultsIn total (components_at total before count bytes)
+placed_components : (total : ℕ) (before : List Component) (count : ℕ) (bytes : List ℕ) → length bytes ≤ total → Placed total (components_at total before count bytes)
 unfolding components_at component_at
-components_in total before zero bytes = tt
-components_in total before (suc count) [] = tt
-components_in total before (suc count) (b ∷ rest) =
-    then_in total (component_at total (b ∷ rest)) _ (component_in total (b ∷ rest)) (λ c.
-    then_in total (refuse (list_any (names (carrier_of c.0)) before) (Field (place total (b ∷ rest)))) _ (refuse_in total (list_any (names (carrier_of c.0)) before) (Field (place total (b ∷ rest))) (place_in total b rest)) (λ fresh.
-    components_in total (before ++ c.0 ∷ []) count c.1))
+placed_components total before zero bytes left = left
+placed_components total before (suc count) [] left = tt
+placed_components total before (suc count) (b ∷ rest) left =
+    placed_bind total (component_at total (b ∷ rest)) _ (placed_component total (b ∷ rest) left) (λ c last after.
+    placed_refuse total (list_any (names (carrier_of c)) before) (Field (place total (b ∷ rest))) _ (omega (arith, left)) (
+    placed_components total (before ++ c ∷ []) count last after))
 
-service_in : (total low : ℕ) (bytes : List ℕ) → FaultsIn total (service_at total low bytes)
+placed_service : (total low : ℕ) (bytes : List ℕ) → length bytes ≤ total → Placed total (service_at total low bytes)
 unfolding service_at
-service_in total low bytes =
-    then_in total (sid_at total bytes) _ (sid_in total bytes) (λ sid.
-    then_in total (refuse (ltb (sid_key sid.0) low) Order) _ (refuse_in total (ltb (sid_key sid.0) low) Order tt) (λ ascends.
-    then_in total (byte_within total 0 (component_limit sid.0) sid.1) _ (byte_within_in total 0 (component_limit sid.0) sid.1) (λ count.
-    then_in total (components_at total [] count.0 count.1) _ (components_in total [] count.0 count.1) (λ components. tt))))
+placed_service total low bytes left =
+    placed_bind total _ _ (placed_sid total bytes left) (λ sid after_sid left_sid.
+    placed_refuse total (ltb (sid_key sid) low) Order _ tt (
+    placed_bind total _ _ (placed_byte_within total 0 (component_limit sid) after_sid left_sid) (λ count rest some.
+    placed_bind total _ _ (placed_components total [] count rest some) (λ components last after. after))))
 
 -- ---- packet components
 
-packet_in : (total low : ℕ) (bytes : List ℕ) → FaultsIn total (packet_at total low bytes)
+placed_packet : (total low : ℕ) (bytes : List ℕ) → length bytes ≤ total → Placed total (packet_at total low bytes)
 unfolding packet_at
-packet_in total low bytes =
-    then_in total (word_within total 0 4095 bytes) _ (word_within_in total 0 4095 bytes) (λ scid.
-    then_in total (refuse (ltb scid.0 low) Order) _ (refuse_in total (ltb scid.0 low) Order tt) (λ ascends.
-    then_in total (flag_at total scid.1) _ (flag_in total scid.1) (λ dg.
-    then_in total (byte_within total 0 63 dg.1) _ (byte_within_in total 0 63 dg.1) (λ ty.
-    then_in total (byte_within total 0 63 ty.1) _ (byte_within_in total 0 63 ty.1) (λ sub.
-    then_in total (word_within total 1 1023 sub.1) _ (word_within_in total 1 1023 sub.1) (λ address. tt))))))
+placed_packet total low bytes left =
+    placed_bind total _ _ (placed_word_within total 0 4095 bytes left) (λ scid after_scid left_scid.
+    placed_refuse total (ltb scid low) Order _ tt (
+    placed_bind total _ _ (placed_flag total after_scid left_scid) (λ dg after_dg left_dg.
+    placed_bind total _ _ (placed_byte_within total 0 63 after_dg left_dg) (λ ty after_ty left_ty.
+    placed_bind total _ _ (placed_byte_within total 0 63 after_ty left_ty) (λ sub after_sub left_sub.
+    placed_bind total _ _ (placed_word_within total 1 1023 after_sub left_sub) (λ address rest after. after))))))
 
 -- ---- the record
 
-members_in : {T : Type 0} (total : ℕ) (key : T → ℕ) (member_at : ℕ → List ℕ → Reads T) → ((low : ℕ) (bytes : List ℕ) → FaultsIn total (member_at low bytes))
-    → (low : ℕ) (before : List T) (count : ℕ) (bytes : List ℕ) → FaultsIn total (members_at key member_at low before count bytes)
+pub placed_members : {T : Type 0} (total : ℕ) (key : T → ℕ) (member_at : ℕ → List ℕ → Reads T) → ((low : ℕ) (bytes : List ℕ) → length bytes ≤ total → Placed total (member_at low bytes))
+    → (low : ℕ) (before : List T) (count : ℕ) (bytes : List ℕ) → length bytes ≤ total → Placed total (members_at key member_at low before count bytes)
 unfolding members_at
-members_in total key member_at each low before zero bytes = tt
-members_in total key member_at each low before (suc count) bytes =
-    then_in total (member_at low bytes) _ (each low bytes) (λ x. members_in total key member_at each (key x.0 + 1) (before ++ x.0 ∷ []) count x.1)
+placed_members total key member_at each low before zero bytes left = left
+placed_members total key member_at each low before (suc count) bytes left =
+    placed_bind total (member_at low bytes) _ (each low bytes left) (λ x rest after. placed_members total key member_at each (key x + 1) (before ++ x ∷ []) count rest after)
 
-record_in : (total : ℕ) (bytes : List ℕ) → FaultsIn total (record_at total bytes)
+placed_record : (total : ℕ) (bytes : List ℕ) → length bytes ≤ total → Placed total (record_at total bytes)
 unfolding record_at
-record_in total bytes =
-    then_in total (byte_within total 0 64 bytes) _ (byte_within_in total 0 64 bytes) (λ subs.
-    then_in total (byte_within total 0 64 subs.1) _ (byte_within_in total 0 64 subs.1) (λ services.
-    then_in total (byte_within total 0 64 services.1) _ (byte_within_in total 0 64 services.1) (λ packets.
-    then_in total (members_at sub_key (sub_at total) 0 [] subs.0 packets.1) _ (members_in total sub_key (sub_at total) (sub_in total) 0 [] subs.0 packets.1) (λ s.
-    then_in total (members_at service_key (service_at total) 0 [] services.0 s.1) _ (members_in total service_key (service_at total) (service_in total) 0 [] services.0 s.1) (λ v.
-    then_in total (members_at packet_key (packet_at total) 0 [] packets.0 v.1) _ (members_in total packet_key (packet_at total) (packet_in total) 0 [] packets.0 v.1) (λ p. tt))))))
+placed_record total bytes left =
+    placed_bind total _ _ (placed_byte_within total 0 64 bytes left) (λ sub_count after_subs left_subs.
+    placed_bind total _ _ (placed_byte_within total 0 64 after_subs left_subs) (λ service_count after_services left_services.
+    placed_bind total _ _ (placed_byte_within total 0 64 after_services left_services) (λ packet_count after_counts left_counts.
+    placed_bind total _ _ (placed_members total sub_key (sub_at total) (placed_sub total) 0 [] sub_count after_counts left_counts) (λ subs after_sub_set left_sub_set.
+    placed_bind total _ _ (placed_members total service_key (service_at total) (placed_service total) 0 [] service_count after_sub_set left_sub_set) (λ services after_service_set left_service_set.
+    placed_bind total _ _ (placed_members total packet_key (packet_at total) (placed_packet total) 0 [] packet_count after_service_set left_service_set) (λ packets rest after. after))))))
 
--- a fault that reading these bytes gives
-fault_in : (bytes : List ℕ) (e : RecordFault) → config_at bytes ≡ Err e → IsPlacedIn (length bytes) e
-fault_in bytes e given = subst (λ (r : Reads Configuration). FaultsIn (length bytes) r) given (record_in (length bytes) bytes)
+-- what reading these bytes gives
+pub placed_config : (bytes : List ℕ) → Placed (length bytes) (config_at bytes)
+placed_config bytes = placed_record (length bytes) bytes (omega arith)
 
--- the place of such a fault is the number of one of the bytes
+-- the place of a fault is the number of one of the bytes
 pub field_in : (bytes : List ℕ) (p : ℕ) → config_at bytes ≡ Err (Field p) → p < length bytes
-unfolding record_at
-field_in [] p given = let short : config_at [] ≡ Err Short = refl in absurd (cc)
-field_in (b ∷ rest) p given = fault_in (b ∷ rest) (Field p) given (omega arith)
+field_in bytes p given = subst (λ (r : Reads Configuration). Placed (length bytes) r) given (placed_config bytes)
 
 -- a fault cannot be met before its place
 short_by : (bytes : List ℕ) (p : ℕ) → p < length bytes → HasFault (take p bytes) Short ⊎ HasFault (take p bytes) (Field p) → HasFault (take p bytes) Short
