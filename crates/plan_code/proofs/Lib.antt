@@ -8,6 +8,8 @@ pub mod LineLaws
 pub mod LoopLaws
 pub mod Loops
 pub mod Operands
+pub mod PlacedFiles
+pub mod PlacedParts
 pub mod SteadyParts
 pub mod SteadyFiles
 mod Vectors

@@ -1,7 +1,7 @@
 -- What the fault of bytes that are no code file says, in the words of the bytes.
 use Rattle.std.specs.Prelude.{◌≢◌, ◌⊎◌, ℕ, ◌<◌, List, ◌++◌, length, take}
 use Rattle.plan_code.specs.declared.fault.CodeFault.{CodeFault}
-use Rattle.plan_code.specs.declared.fault.CodeFault.TheVariants.{Truncated, Trailing}
+use Rattle.plan_code.specs.declared.fault.CodeFault.TheVariants.{Truncated, Field, Trailing}
 use Rattle.plan_code.specs.Program.{Program, IsProgram}
 use Rattle.plan_code.specs.Spelling.{code_bytes}
 use Rattle.plan_code.specs.Faults.{HasFault, IsNoFile}
@@ -23,3 +23,9 @@ abbrev pub FileFaultsAreFirst : Type 0
 FileFaultsAreFirst =
     (bytes : List ℕ) (n : ℕ) (fault : CodeFault) → HasFault bytes fault → fault ≢ Trailing
     → HasFault (take n bytes) Truncated ⊎ HasFault (take n bytes) fault
+
+-- the place of a field that is at fault is the number of one of the bytes, from 0, and the bytes before it are
+-- truncated: none of their fields is at fault
+abbrev pub TruncatedBeforePlaces : Type 0
+TruncatedBeforePlaces =
+    (bytes : List ℕ) (place : ℕ) → HasFault bytes (Field place) → (place < length bytes) × HasFault (take place bytes) Truncated

@@ -2,7 +2,7 @@
 
 ghost use Rattle.plan_code.specs.Flags.{CountersChangeAlone, ContactsChangeAlone};
 ghost use Rattle.plan_code.specs.Faults.{HasOneFault, HasFaultWithoutCode, BytesLackNoMemory};
-ghost use Rattle.plan_code.specs.FileFaults.{CutsAreTruncated, FileFaultsStay, FileFaultsAreFirst};
+ghost use Rattle.plan_code.specs.FileFaults.{CutsAreTruncated, FileFaultsStay, FileFaultsAreFirst, TruncatedBeforePlaces};
 ghost use Rattle.plan_code.specs.Machine.{SwapsInTime, SwapsAtCount, AlwaysSettles, LoopsRun};
 
 /// The law of commits: the frames from a commit to its swap are the least number from the delay on, or from
@@ -35,11 +35,13 @@ pub fn faults()
 
 /// The law of code files: a file that is cut off is truncated; any other fault lies in the bytes that were read, so
 /// that it stays whatever follows them and nothing that begins with them is a code file; and but for `Trailing` it is the
-/// first one. The function does nothing; its contract is the law.
+/// first one. The place of a field at fault is that of one of the bytes, and those before it are truncated. The
+/// function does nothing; its contract is the law.
 pub fn file_faults()
     ensures cuts { CutsAreTruncated }
     ensures stays { FileFaultsStay }
     ensures first { FileFaultsAreFirst }
+    ensures places { TruncatedBeforePlaces }
 {}
 
 /// The law of sets: what is set, cleared, closed or opened is so afterwards, and the others stay. The
