@@ -6,7 +6,7 @@ use Rattle.script_front.specs.declared.token.Kind.{Kind}
 use Rattle.script_front.specs.declared.token.Kind.TheVariants.{Blank, LineEnd, Hash, Brace, Letter, Bad}
 use Rattle.script_front.specs.declared.token.Place.{Place}
 use Rattle.script_front.specs.Bytes.{kind_of, place_after, past, first_place}
-use Rattle.script_front.specs.Texts.{Piece, blank, comment, brace, atom, text_of, tokens_of, AreTokens, AllFit, script_limits}
+use Rattle.script_front.specs.Texts.{Piece, blank, comment, brace, atom, text_of, tokens_of, AreTokens, TokensFit, script_limits}
 use Rattle.script_front.specs.Reading.{words_of, lines_of}
 use Rattle.script_front.specs.Tree.{Tree}
 use Rattle.script_front.specs.Spelled.{tree_words, HasLines}
@@ -68,7 +68,7 @@ is_script text tokens t h spelled lined =
       spelled = sym same ∙ spelled;
       lined = subst (λ (ts : List Token). HasLines (lines_of ts) t) (sym cut.are) lined;
       short = h.0;
-      within = subst (λ (ts : List Token). AllFit script_limits ts) (sym cut.are) cut.within;
+      within = subst (λ (ts : List Token). TokensFit script_limits ts) (sym cut.are) cut.within;
     }
 
 -- the tokens of a text that is a script's are those of its words

@@ -11,8 +11,8 @@ use Rattle.script_front.specs.declared.token.Place.{Place}
 use Rattle.script_front.specs.declared.fault.ScriptFault.{ScriptFault}
 use Rattle.script_front.specs.declared.fault.ScriptFault.TheVariants.{Byte, Limit}
 use Rattle.script_front.specs.Bytes.{kind_of, place_after, past, first_place, token_at}
-use Rattle.script_front.specs.Lexing.{inside_after, is_bad, atom_ended, made, fits, added, before, lexed}
-use Rattle.script_front.specs.Texts.{Piece, blank, comment, brace, atom, text_of, AreLetters, HaveNoLineEnd, MayStandBefore, AreText, tokens_of, AllFit, IsCutInto, TextsAreCut}
+use Rattle.script_front.specs.Lexing.{inside_after, is_bad, atom_ended, made, fits, added, tokens_before, lexed}
+use Rattle.script_front.specs.Texts.{Piece, blank, comment, brace, atom, text_of, AreLetters, HaveNoLineEnd, MayStandBefore, AreText, tokens_of, TokensFit, IsCutInto, TextsAreCut}
 use Rattle.std.proofs.lemmas.Bool.{eqb-true}
 use Rattle.script_front.proofs.Lexing.{Cuts}
 
@@ -55,7 +55,7 @@ unfolding lexed
 line_ends limits p [] e = refl
 line_ends limits p (b ∷ bs) e = rw (e) refl
 
-atom_ends_by : (limits : Limits) (q p : Place) (b : ℕ) (k : Kind) (rest : List ℕ) → kind_of b ≡ k → k ≢ Letter → lexed limits (Atom q) p (b ∷ rest) ≡ before limits (token_at q p.at ∷ []) (lexed limits Nothing p (b ∷ rest))
+atom_ends_by : (limits : Limits) (q p : Place) (b : ℕ) (k : Kind) (rest : List ℕ) → kind_of b ≡ k → k ≢ Letter → lexed limits (Atom q) p (b ∷ rest) ≡ tokens_before limits (token_at q p.at ∷ []) (lexed limits Nothing p (b ∷ rest))
 unfolding lexed
 atom_ends_by limits q p b Blank rest e ne = rw (e) refl
 atom_ends_by limits q p b LineEnd rest e ne = rw (e) refl
@@ -64,7 +64,7 @@ atom_ends_by limits q p b Brace rest e ne = rw (e) refl
 atom_ends_by limits q p b Letter rest e ne = absurd (ne refl)
 atom_ends_by limits q p b Bad rest e ne = rw (e) refl
 
-atom_ends : (limits : Limits) (q p : Place) (bs : List ℕ) → Ends bs → lexed limits (Atom q) p bs ≡ before limits (token_at q p.at ∷ []) (lexed limits Nothing p bs)
+atom_ends : (limits : Limits) (q p : Place) (bs : List ℕ) → Ends bs → lexed limits (Atom q) p bs ≡ tokens_before limits (token_at q p.at ∷ []) (lexed limits Nothing p bs)
 unfolding lexed
 atom_ends limits q p [] e = refl
 atom_ends limits q p (b ∷ bs) e = atom_ends_by limits q p b (kind_of b) bs refl e
@@ -105,7 +105,7 @@ unfolding lexed
 blank_on limits p b rest h = elim h [ inl e ↦ rw (e) refl | inr e ↦ rw (e) refl ]
 
 brace_on : (limits : Limits) (p : Place) (b : ℕ) (rest : List ℕ) → kind_of b ≡ Brace
-    → lexed limits Nothing p (b ∷ rest) ≡ before limits (token_at p (p.at + 1) ∷ []) (lexed limits Nothing (past p (b ∷ [])) rest)
+    → lexed limits Nothing p (b ∷ rest) ≡ tokens_before limits (token_at p (p.at + 1) ∷ []) (lexed limits Nothing (past p (b ∷ [])) rest)
 unfolding lexed
 brace_on limits p b rest e = rw (e) refl
 
@@ -113,7 +113,7 @@ comment_on : (limits : Limits) (p : Place) (rest : List ℕ) → lexed limits No
 unfolding lexed
 comment_on limits p rest = refl
 
-cut_pieces : (limits : Limits) (p : Place) (ps : List Piece) → AreText ps → AllFit limits (tokens_of p ps) → lexed limits Nothing p (text_of ps) ≡ Ok (tokens_of p ps)
+cut_pieces : (limits : Limits) (p : Place) (ps : List Piece) → AreText ps → TokensFit limits (tokens_of p ps) → lexed limits Nothing p (text_of ps) ≡ Ok (tokens_of p ps)
 unfolding lexed
 cut_pieces limits p [] h f = refl
 cut_pieces limits p (blank b ∷ ps) h f = blank_on limits p b (text_of ps) h.0 ∙ cut_pieces limits (past p (b ∷ [])) ps h.2 f
@@ -133,7 +133,7 @@ record Parts (limits : Limits) (ts us : List Token) (r : Cuts) : Type 0 where
   pub later : List Token
   pub rest : r ≡ Ok later
   pub whole : us ≡ ts ++ later
-  pub inside : AllFit limits ts
+  pub inside : TokensFit limits ts
 
 test_of : (t : Token) (b : Bool) (r : Cuts) (us : List Token) → cond b r (Err (Limit t.position)) ≡ Ok us → (b ≡ true) × (r ≡ Ok us)
 test_of t true r us e = (refl, e)
@@ -143,11 +143,11 @@ after_added : (t : Token) (r : Cuts) (us : List Token) → added t r ≡ Ok us �
 after_added t (Ok vs) us e = (vs, refl, cc)
 after_added t (Err d) us e = absurd cc
 
-parts : (limits : Limits) (ts us : List Token) (r : Cuts) → before limits ts r ≡ Ok us → Parts limits ts us r
+parts : (limits : Limits) (ts us : List Token) (r : Cuts) → tokens_before limits ts r ≡ Ok us → Parts limits ts us r
 parts limits [] us r e = record { later = us; rest = e; whole = refl; inside = tt }
 parts limits (t ∷ ts) us r e =
-    let p = test_of t (fits limits t) (added t (before limits ts r)) us e in
-    let q = after_added t (before limits ts r) us p.1 in
+    let p = test_of t (fits limits t) (added t (tokens_before limits ts r)) us e in
+    let q = after_added t (tokens_before limits ts r) us p.1 in
     let h = parts limits ts q.0 r q.1 in
     record { later = h.later; rest = h.rest; whole = q.2 ∙ ap (λ (xs : List Token). t ∷ xs) h.whole; inside = (p.0, h.inside) }
 
@@ -303,22 +303,22 @@ good_byte : (b : Bool) (p : Place) (r : Cuts) (us : List Token) → cond b (Err 
 good_byte true p r us e = absurd cc
 good_byte false p r us e = (refl, e)
 
-both_fit : (limits : Limits) (ts us : List Token) → AllFit limits ts → AllFit limits us → AllFit limits (ts ++ us)
+both_fit : (limits : Limits) (ts us : List Token) → TokensFit limits ts → TokensFit limits us → TokensFit limits (ts ++ us)
 both_fit limits [] us h k = k
 both_fit limits (t ∷ ts) us h k = (h.0, both_fit limits ts us h.1 k)
 
-found_end : (limits : Limits) (m : Inside) (p : Place) (ts : List Token) → before limits (atom_ended m p.at Blank) (Ok []) ≡ Ok ts → Found m p [] ts × AllFit limits ts
-found_end limits Nothing p ts e = let is : [] ≡ ts = cc in subst (λ (us : List Token). Found Nothing p [] us × AllFit limits us) is (record { begun = []; pieces = []; formed = tt; goes = (refl, refl, refl) }, tt)
-found_end limits Comment p ts e = let is : [] ≡ ts = cc in subst (λ (us : List Token). Found Comment p [] us × AllFit limits us) is (record { begun = []; pieces = []; formed = tt; goes = (tt, tt, refl, refl) }, tt)
+found_end : (limits : Limits) (m : Inside) (p : Place) (ts : List Token) → tokens_before limits (atom_ended m p.at Blank) (Ok []) ≡ Ok ts → Found m p [] ts × TokensFit limits ts
+found_end limits Nothing p ts e = let is : [] ≡ ts = cc in subst (λ (us : List Token). Found Nothing p [] us × TokensFit limits us) is (record { begun = []; pieces = []; formed = tt; goes = (refl, refl, refl) }, tt)
+found_end limits Comment p ts e = let is : [] ≡ ts = cc in subst (λ (us : List Token). Found Comment p [] us × TokensFit limits us) is (record { begun = []; pieces = []; formed = tt; goes = (tt, tt, refl, refl) }, tt)
 found_end limits (Atom q) p ts e =
     let h = parts limits (token_at q p.at ∷ []) ts (Ok []) e in
     let none : [] ≡ h.later = (let f = h.rest in cc) in
     let is : token_at q p.at ∷ [] ≡ ts = ap (λ (us : List Token). token_at q p.at ∷ us) none ∙ sym h.whole in
     let zero_more : p.at + 0 ≡ p.at = omega arith in
-    subst (λ (us : List Token). Found (Atom q) p [] us × AllFit limits us) is
+    subst (λ (us : List Token). Found (Atom q) p [] us × TokensFit limits us) is
     (record { begun = []; pieces = []; formed = tt; goes = (tt, tt, refl, rw (zero_more) refl) }, h.inside)
 
-found_pieces : (limits : Limits) (m : Inside) (p : Place) (bs : List ℕ) (ts : List Token) → lexed limits m p bs ≡ Ok ts → Found m p bs ts × AllFit limits ts
+found_pieces : (limits : Limits) (m : Inside) (p : Place) (bs : List ℕ) (ts : List Token) → lexed limits m p bs ≡ Ok ts → Found m p bs ts × TokensFit limits ts
 unfolding lexed
 found_pieces limits m p [] ts e = found_end limits m p ts e
 found_pieces limits m p (b ∷ bs) ts e =
@@ -326,14 +326,14 @@ found_pieces limits m p (b ∷ bs) ts e =
     let h = parts limits (made m p k) ts (cond (is_bad m k) (Err (Byte p.position)) (lexed limits (inside_after m p k) (place_after p k) bs)) e in
     let good = good_byte (is_bad m k) p (lexed limits (inside_after m p k) (place_after p k) bs) h.later h.rest in
     let later = found_pieces limits (inside_after m p k) (place_after p k) bs h.later good.1 in
-    subst (λ (us : List Token). Found m p (b ∷ bs) us × AllFit limits us) (sym h.whole)
+    subst (λ (us : List Token). Found m p (b ∷ bs) us × TokensFit limits us) (sym h.whole)
     (found_step m p b k bs h.later refl good.0 later.0, both_fit limits (made m p k) h.later h.inside later.1)
 
 pub texts_are_cut : TextsAreCut
 texts_are_cut limits text tokens = (
   λ e. let h = found_pieces limits Nothing first_place text tokens e in
       record { pieces = h.0.pieces; formed = h.0.formed; whole = h.0.goes.1; are = h.0.goes.2; within = h.1 },
-  λ h. let all : AllFit limits (tokens_of first_place h.pieces) = subst (λ (us : List Token). AllFit limits us) (sym h.are) h.within in
+  λ h. let all : TokensFit limits (tokens_of first_place h.pieces) = subst (λ (us : List Token). TokensFit limits us) (sym h.are) h.within in
       let cut = cut_pieces limits first_place h.pieces h.formed all in
       ap (lexed limits Nothing first_place) (sym h.whole) ∙ cut ∙ ap Ok h.are,
 )

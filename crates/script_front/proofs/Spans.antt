@@ -12,7 +12,7 @@ use Rattle.script_front.specs.declared.token.Place.{Place}
 use Rattle.script_front.specs.declared.fault.ScriptFault.TheVariants.{Byte, Limit}
 use Rattle.script_front.specs.Bytes.{kind_of, place_after, first_place}
 use Rattle.script_front.specs.Reading.{AreWithin}
-use Rattle.script_front.specs.Lexing.{inside_after, is_bad, atom_ended, made, fits, added, before, lexed, InOrder}
+use Rattle.script_front.specs.Lexing.{inside_after, is_bad, atom_ended, made, fits, added, tokens_before, lexed, InOrder}
 use Rattle.script_front.proofs.Lexing.{Cuts}
 
 abbrev begins : Inside → Place → ℕ
@@ -98,11 +98,11 @@ after_added : (t : Token) (r : Cuts) (us : List Token) → added t r ≡ Ok us �
 after_added t (Ok vs) us e = (vs, refl, cc)
 after_added t (Err d) us e = absurd cc
 
-parts : (limits : Limits) (ts us : List Token) (r : Cuts) → before limits ts r ≡ Ok us → Parts limits ts us r
+parts : (limits : Limits) (ts us : List Token) (r : Cuts) → tokens_before limits ts r ≡ Ok us → Parts limits ts us r
 parts limits [] us r e = record { later = us; rest = e; whole = refl; inside = tt }
 parts limits (t ∷ ts) us r e =
-    let p = test_of t (fits limits t) (added t (before limits ts r)) us e in
-    let q = after_added t (before limits ts r) us p.1 in
+    let p = test_of t (fits limits t) (added t (tokens_before limits ts r)) us e in
+    let q = after_added t (tokens_before limits ts r) us p.1 in
     let h = parts limits ts q.0 r q.1 in
     record { later = h.later; rest = h.rest; whole = q.2 ∙ ap (λ (xs : List Token). t ∷ xs) h.whole; inside = (p.0, h.inside) }
 
@@ -118,7 +118,7 @@ pub record AreCut (limits : Limits) (from : ℕ) (ts : List Token) (to : ℕ) : 
   pub order : InOrder from ts to
   pub inside : AllIn limits ts
 
-at_end : (limits : Limits) (m : Inside) (p : Place) (ts : List Token) → IsOpen m p → before limits (atom_ended m p.at Blank) (Ok []) ≡ Ok ts → AreCut limits (begins m p) ts (p.at + 0)
+at_end : (limits : Limits) (m : Inside) (p : Place) (ts : List Token) → IsOpen m p → tokens_before limits (atom_ended m p.at Blank) (Ok []) ≡ Ok ts → AreCut limits (begins m p) ts (p.at + 0)
 at_end limits Nothing p ts o e = let is : [] ≡ ts = cc in subst (λ (us : List Token). AreCut limits p.at us (p.at + 0)) is (record { order = omega arith; inside = tt })
 at_end limits Comment p ts o e = let is : [] ≡ ts = cc in subst (λ (us : List Token). AreCut limits p.at us (p.at + 0)) is (record { order = omega arith; inside = tt })
 at_end limits (Atom q) p ts o e =

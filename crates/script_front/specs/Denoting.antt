@@ -1,7 +1,7 @@
 -- What a text denotes: the tree whose words it holds in their order, with blanks and comments between and around them.
 use Rattle.std.specs.Prelude.{◌≡◌, ℕ, ◌≤◌, List, [], ◌∷◌, length}
 use Rattle.script_front.specs.Bytes.{first_place}
-use Rattle.script_front.specs.Texts.{Piece, blank, comment, brace, atom, text_of, AreText, tokens_of, AllFit, script_limits, MOST_BYTES}
+use Rattle.script_front.specs.Texts.{Piece, blank, comment, brace, atom, text_of, AreText, tokens_of, TokensFit, script_limits, MOST_BYTES}
 use Rattle.script_front.specs.Reading.{lines_of}
 use Rattle.script_front.specs.Tree.{Tree, IsScript}
 use Rattle.script_front.specs.Spelled.{Spelled, tree_words, HasLines}
@@ -33,7 +33,7 @@ pub record IsScriptOf (text : List ℕ) (t : Tree) : Type 0 where
   pub spelled : words_in pieces ≡ tree_words t
   pub lined : HasLines (lines_of (tokens_of first_place pieces)) t
   pub short : length text ≤ MOST_BYTES
-  pub within : AllFit script_limits (tokens_of first_place pieces)
+  pub within : TokensFit script_limits (tokens_of first_place pieces)
 
 -- the text is that of no script: none with every number in range, names well formed and different, and no limit passed
 abbrev pub IsNoScript : List ℕ → Type 0

@@ -53,22 +53,22 @@ abbrev pub added : Token → Result (List Token) ScriptFault → Result (List To
 added t (Ok us) = Ok (t ∷ us)
 added t (Err e) = Err e
 
-abbrev pub before : Limits → List Token → Result (List Token) ScriptFault → Result (List Token) ScriptFault
-before limits [] r = r
-before limits (t ∷ ts) r = if fits limits t then added t (before limits ts r) else Err (Limit t.position)
+abbrev pub tokens_before : Limits → List Token → Result (List Token) ScriptFault → Result (List Token) ScriptFault
+tokens_before limits [] r = r
+tokens_before limits (t ∷ ts) r = if fits limits t then added t (tokens_before limits ts r) else Err (Limit t.position)
 
 unfoldable pub lexed : Limits → Inside → Place → List ℕ → Result (List Token) ScriptFault
-lexed limits m p [] = before limits (atom_ended m p.at Blank) (Ok [])
+lexed limits m p [] = tokens_before limits (atom_ended m p.at Blank) (Ok [])
 lexed limits m p (b ∷ bs) =
-    before limits (made m p (kind_of b))
+    tokens_before limits (made m p (kind_of b))
     (if is_bad m (kind_of b) then Err (Byte p.position)
     else lexed limits (inside_after m p (kind_of b)) (place_after p (kind_of b)) bs)
 
 -- these tokens were pushed, or the first that is past a limit is the fault
 abbrev pub Pushes : Limits → (old new ts : List Token) → Result (Unit {0}) ScriptFault → Type 0
-Pushes limits old new ts (Ok u) = (new ≡ old ++ ts) × (before limits ts (Ok []) ≡ Ok ts)
+Pushes limits old new ts (Ok u) = (new ≡ old ++ ts) × (tokens_before limits ts (Ok []) ≡ Ok ts)
 Pushes limits old new ts (Err Memory) = Unit {0}
-Pushes limits old new ts (Err e) = before limits ts (Ok []) ≡ Err e
+Pushes limits old new ts (Err e) = tokens_before limits ts (Ok []) ≡ Err e
 
 -- tokens one after another, from a place on and up to another
 abbrev pub InOrder : ℕ → List Token → ℕ → Type 0

@@ -63,9 +63,9 @@ tokens_of at (comment bs ∷ ps) = tokens_of (past at (35 ∷ bs)) ps
 tokens_of at (brace b ∷ ps) = token_at at (at.at + 1) ∷ tokens_of (past at (b ∷ [])) ps
 tokens_of at (atom bs ∷ ps) = token_at at (at.at + length bs) ∷ tokens_of (past at bs) ps
 
-abbrev pub AllFit : Limits → List Token → Type 0
-AllFit limits [] = Unit {0}
-AllFit limits (t ∷ ts) = (fits limits t ≡ true) × AllFit limits ts
+abbrev pub TokensFit : Limits → List Token → Type 0
+TokensFit limits [] = Unit {0}
+TokensFit limits (t ∷ ts) = (fits limits t ≡ true) × TokensFit limits ts
 
 -- the text consists of pieces that have these tokens, of which none is past a limit
 pub record IsCutInto (limits : Limits) (text : List ℕ) (tokens : List Token) : Type 0 where
@@ -73,7 +73,7 @@ pub record IsCutInto (limits : Limits) (text : List ℕ) (tokens : List Token) :
   pub formed : AreText pieces
   pub whole : text_of pieces ≡ text
   pub are : tokens_of first_place pieces ≡ tokens
-  pub within : AllFit limits tokens
+  pub within : TokensFit limits tokens
 
 -- cutting a text answers its tokens exactly where it is one
 abbrev pub TextsAreCut : Type 0
