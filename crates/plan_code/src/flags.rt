@@ -28,7 +28,10 @@ impl Flags for Counters {
 
     ghost exact = { ⊤ };
 
-    ghost table = { (codes "COUNTER_0", 1) ∷ (codes "COUNTER_1", 2) ∷ (codes "COUNTER_2", 4) ∷ (codes "COUNTER_3", 8) ∷ (codes "COUNTER_4", 16) ∷ (codes "COUNTER_5", 32) ∷ (codes "COUNTER_6", 64) ∷ (codes "COUNTER_7", 128) ∷ [] };
+    ghost table = { (codes "COUNTER_0", 1) ∷ (codes "COUNTER_1", 2)
+        ∷ (codes "COUNTER_2", 4) ∷ (codes "COUNTER_3", 8)
+        ∷ (codes "COUNTER_4", 16) ∷ (codes "COUNTER_5", 32)
+        ∷ (codes "COUNTER_6", 64) ∷ (codes "COUNTER_7", 128) ∷ [] };
 
     ghost set_of = { λ s. s.0 };
 
@@ -105,7 +108,14 @@ impl Flags for Contacts {
 
     ghost exact = { ⊤ };
 
-    ghost table = { (codes "CONTACT_0", 1) ∷ (codes "CONTACT_1", 2) ∷ (codes "CONTACT_2", 4) ∷ (codes "CONTACT_3", 8) ∷ (codes "CONTACT_4", 16) ∷ (codes "CONTACT_5", 32) ∷ (codes "CONTACT_6", 64) ∷ (codes "CONTACT_7", 128) ∷ (codes "CONTACT_8", 256) ∷ (codes "CONTACT_9", 512) ∷ (codes "CONTACT_10", 1024) ∷ (codes "CONTACT_11", 2048) ∷ (codes "CONTACT_12", 4096) ∷ (codes "CONTACT_13", 8192) ∷ (codes "CONTACT_14", 16384) ∷ (codes "CONTACT_15", 32768) ∷ [] };
+    ghost table = { (codes "CONTACT_0", 1) ∷ (codes "CONTACT_1", 2)
+        ∷ (codes "CONTACT_2", 4) ∷ (codes "CONTACT_3", 8)
+        ∷ (codes "CONTACT_4", 16) ∷ (codes "CONTACT_5", 32)
+        ∷ (codes "CONTACT_6", 64) ∷ (codes "CONTACT_7", 128)
+        ∷ (codes "CONTACT_8", 256) ∷ (codes "CONTACT_9", 512)
+        ∷ (codes "CONTACT_10", 1024) ∷ (codes "CONTACT_11", 2048)
+        ∷ (codes "CONTACT_12", 4096) ∷ (codes "CONTACT_13", 8192)
+        ∷ (codes "CONTACT_14", 16384) ∷ (codes "CONTACT_15", 32768) ∷ [] };
 
     ghost set_of = { λ s. s.0 };
 
