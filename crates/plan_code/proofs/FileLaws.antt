@@ -1,8 +1,8 @@
 -- A code that is read is the one whose file it is, and the file of a code is read again.
-use Rattle.std.proofs.Common.{◌≡◌, ◌≢◌, ℕ, zero, suc, ◌+◌, ◌<◌, ◌≤◌, Bool, true, false, eqb, ltb, not, List, [], ◌∷◌, ◌++◌, length, Result, Ok, Err, IfOk, refl, sym, ap, subst, ◌∙◌, append_assoc, arith}
+use Rattle.std.proofs.Common.{◌≡◌, ◌≢◌, ℕ, zero, suc, ◌+◌, ◌<◌, ◌≤◌, Bool, true, false, cond, eqb, ltb, not, List, [], ◌∷◌, ◌++◌, length, Result, Ok, Err, IfOk, refl, sym, ap, subst, ◌∙◌, append_assoc, arith, inl, inr}
 use Rattle.std.specs.Int.{w16, w32, to_be_bytes}
 use Rattle.std.specs.List.{flat_map}
-use Rattle.std.proofs.lemmas.Bool.{ltb-false, le-ltb, eqb-true, eqb-false, ne_eqb}
+use Rattle.std.proofs.lemmas.Bool.{ltb-false, le-ltb, eqb-true, eqb-false, ne_eqb, cases_eq, eq-eqb}
 use Rattle.std.proofs.lemmas.List.{append-nil, nil_from_length}
 use Rattle.fib_codec.specs.declared.modes.Mode.{Mode}
 use Rattle.fib_codec.specs.declared.modes.Mode.TheVariants.{I, II, III, IV}
@@ -19,10 +19,9 @@ use Rattle.plan_code.specs.declared.label.Label.{Label}
 use Rattle.plan_code.specs.declared.instr.Line.{Line}
 use Rattle.plan_code.specs.Program.{Program, IsProgram, IsPlan, IsLabel, IsLine, label_key}
 use Rattle.plan_code.specs.Spelling.{magic, mode_bytes, plan_bytes, header_bytes, label_bytes, line_bytes, code_bytes}
-use Rattle.plan_code.specs.Parts.{label_at, line_at}
+use Rattle.plan_code.specs.Parts.{label_from, line_from}
 use Rattle.plan_code.specs.Reading.{Parses, ◌>>=◌, refuse, read_from, in_file, magic_at, mode_of, mode_in, mode_at, plan_at, count_at, config_in, line_in, items_at, labels_in, Header, header_at, program_at, code_of, Gives}
 use Rattle.plan_code.proofs.Operands.{IsReading, byte_of, word_reading, byte_from_reading}
-use Rattle.plan_code.proofs.EditLaws.{choose}
 use Rattle.plan_code.proofs.LabelLaws.{label_front, label_again}
 use Rattle.plan_code.proofs.LineLaws.{line_front, line_again}
 
@@ -101,6 +100,15 @@ second_version total bytes rest x e front =
     let both : Front bytes (2 ∷ n.0.0 ∷ []) n.0.1 = front_then bytes (byte_of 2) rest (byte_of n.0.0) n.0.1 front fn.0 in
     let here : Front bytes (mode_bytes (mode_of n.0.0)) n.0.1 = subst (λ (t : List ℕ). Front bytes t n.0.1) (sym (number_bytes n.0.0 fn.1.0 fn.1.1)) both in
     subst (λ (y : Mode × List ℕ). Front bytes (mode_bytes y.0) y.1) (made_is found x n.2) here
+
+-- one of the versions, or none of those before
+choose : {T E : Type 0} (version known : ℕ) (given other : Result (T × List ℕ) E) (x : T × List ℕ) (Q : ℕ → Type 0) → (given ≡ Ok x → Q known) → (other ≡ Ok x → Q version)
+    → cond (eqb version known) given other ≡ Ok x → Q version
+choose version known given other x Q here there e =
+    elim (cases_eq version known) [
+      | inl same ↦ rw same (here (rw (eq-eqb _ _ same) at e))
+      | inr apart ↦ there (rw (ne_eqb _ _ apart) at e)
+    ]
 
 version_front : (total version : ℕ) (bytes rest : List ℕ) (x : Mode × List ℕ) → mode_in total version rest ≡ Ok x → Front bytes (byte_of version) rest → Front bytes (mode_bytes x.0) x.1
 version_front total version bytes rest x =
@@ -187,7 +195,7 @@ config_parsing total = record {
 
 line_parsing : (total : ℕ) → IsParsing (line_in total) line_bytes IsLine
 line_parsing total = record {
-  front = λ bytes x fits e. line_front total bytes x fits (read_ok 0 (line_at total bytes) x e);
+  front = λ bytes x fits e. line_front total bytes x fits (read_ok 0 (line_from total bytes) x e);
   again = λ l rest formed. ok_read 0 _ (l, rest) (line_again total l rest formed);
 }
 
@@ -298,7 +306,7 @@ is_row {T} spell P count bytes xs rest r =
 labels_row : (total count : ℕ) (n : ℕ) (bytes : List ℕ) (ls : List Label) (rest : List ℕ) → IsCount 256 count → IsBytes bytes → labels_in total count n bytes ≡ Ok (ls, rest)
     → IsRow label_bytes (IsLabel count) n bytes ls rest × IsAscending label_key ls
 labels_row total count n bytes ls rest known fits e =
-    let f = members_front label_key label_bytes (IsLabel count) (label_at total count)
+    let f = members_front label_key label_bytes (IsLabel count) (label_from total count)
     (λ low b x is h. let r = label_front total count low b x known.0 known.1 is h in (r.front, r.from, r.formed))
     0 [] n bytes (ls, rest) fits tt tt tt (read_ok 0 _ (ls, rest) e) in
     let front : Front bytes (flat_map label_bytes ls) rest = subst (λ (t : List ℕ). Front bytes t rest) (sym f.2) f.1 in
@@ -415,7 +423,7 @@ header_again total h rest planned configurations labels lines =
 labels_again : (total count : ℕ) (ls : List Label) (rest : List ℕ) → count ≤ 256 → Each (IsLabel count) ls → IsAscending label_key ls
     → labels_in total count (length ls) (flat_map label_bytes ls ++ rest) ≡ Ok (ls, rest)
 labels_again total count ls rest few all up =
-    ok_read 0 _ (ls, rest) (members_again label_key label_bytes (IsLabel count) (label_at total count) (λ low l more is from. label_again total count low l more few is from) 0 [] ls rest up (any_place ls) all)
+    ok_read 0 _ (ls, rest) (members_again label_key label_bytes (IsLabel count) (label_from total count) (λ low l more is from. label_again total count low l more few is from) 0 [] ls rest up (any_place ls) all)
 
 abbrev header_of : Program → Header
 header_of p = record { plan = p.plan; configurations = length p.configurations; labels = length p.labels; lines = length p.lines }

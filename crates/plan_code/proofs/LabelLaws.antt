@@ -9,7 +9,7 @@ use Rattle.plan_code.specs.declared.label.Swap.{Swap}
 use Rattle.plan_code.specs.declared.label.Swap.TheVariants.{Idle, Within, Perhaps}
 use Rattle.plan_code.specs.Program.{IsLabel, AreBounds}
 use Rattle.plan_code.specs.Spelling.{swap_bytes, label_bytes}
-use Rattle.plan_code.specs.Parts.{bounds_of, swap_at, label_at}
+use Rattle.plan_code.specs.Parts.{bounds_of, swap_at, label_from}
 use Rattle.plan_code.proofs.Operands.{byte_of, word_from_reading, byte_from_reading}
 
 abbrev bounds_bytes : Swap → List ℕ
@@ -108,8 +108,8 @@ pub record IsLabelRead (count low : ℕ) (bytes : List ℕ) (x : Label × List �
   pub formed : IsLabel count x.0
   pub from : low ≤ x.0.pc
 
-pub label_front : (total count low : ℕ) (bytes : List ℕ) (x : Label × List ℕ) → 1 ≤ count → count ≤ 256 → IsBytes bytes → label_at total count low bytes ≡ Ok x → IsLabelRead count low bytes x
-unfolding label_at
+pub label_front : (total count low : ℕ) (bytes : List ℕ) (x : Label × List ℕ) → 1 ≤ count → count ≤ 256 → IsBytes bytes → label_from total count low bytes ≡ Ok x → IsLabelRead count low bytes x
+unfolding label_from
 label_front total count low bytes x some few fits e =
     let p = bind_ok (word_within total low 65535 bytes) _ x e in
     let fp = (word_from_reading total low 65535 (omega arith)).front bytes p.0 fits p.1 in
@@ -144,13 +144,13 @@ label_front total count low bytes x some few fits e =
       from = fp.1.0;
     })
 
-pub label_again : (total count low : ℕ) (l : Label) (rest : List ℕ) → count ≤ 256 → IsLabel count l → low ≤ l.pc → label_at total count low (label_bytes l ++ rest) ≡ Ok (l, rest)
-unfolding label_at
+pub label_again : (total count low : ℕ) (l : Label) (rest : List ℕ) → count ≤ 256 → IsLabel count l → low ≤ l.pc → label_from total count low (label_bytes l ++ rest) ≡ Ok (l, rest)
+unfolding label_from
 label_again total count low l rest few is from =
     let last : List ℕ = l.counters.0 ∷ l.cost ∷ rest in
     let grouped : label_bytes l ++ rest ≡ word_bytes l.pc ++ (word_bytes l.cur ++ (word_bytes l.next ++ (swap_bytes l.pending ++ last))) =
     append_assoc (word_bytes l.pc ++ word_bytes l.cur ++ word_bytes l.next ++ swap_bytes l.pending) (l.counters.0 ∷ l.cost ∷ []) rest in
-    ap (label_at total count low) grouped
+    ap (label_from total count low) grouped
     ∙ rw (
       (word_from_reading total low 65535 (omega arith)).again l.pc (word_bytes l.cur ++ (word_bytes l.next ++ (swap_bytes l.pending ++ last))) (from, omega (arith, is.place)),
       (word_from_reading total 0 (count - 1) (omega (arith, few))).again l.cur (word_bytes l.next ++ (swap_bytes l.pending ++ last)) (omega arith, omega (arith, is.current)),

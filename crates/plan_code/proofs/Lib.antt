@@ -7,6 +7,7 @@ pub mod LabelLaws
 pub mod LineLaws
 pub mod LoopLaws
 pub mod Loops
+pub mod OpcodeLaws
 pub mod Operands
 pub mod PlacedFiles
 pub mod PlacedParts

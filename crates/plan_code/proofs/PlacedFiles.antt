@@ -9,7 +9,7 @@ use Rattle.plan_code.specs.declared.fault.CodeFault.{CodeFault}
 use Rattle.plan_code.specs.declared.fault.CodeFault.TheVariants.{Magic, Version, Truncated, Field, Limit, Trailing, Memory}
 use Rattle.plan_code.specs.Program.{Program, label_key}
 use Rattle.plan_code.specs.Spelling.{magic}
-use Rattle.plan_code.specs.Parts.{label_at, line_at}
+use Rattle.plan_code.specs.Parts.{label_from, line_from}
 use Rattle.plan_code.specs.Reading.{Parses, ◌>>=◌, refuse, read_from, in_file, magic_at, mode_in, mode_at, plan_at, count_at, config_in, line_in, labels_in, items_at, Header, header_at, program_at, code_of}
 use Rattle.plan_code.specs.Faults.{HasFault}
 use Rattle.plan_code.specs.FileFaults.{TruncatedBeforePlaces}
@@ -125,8 +125,8 @@ stands_program : (total : ℕ) (header : Header) (bytes : List ℕ) → 0 < tota
 unfolding program_at
 stands_program total header bytes some left =
     stands_bind total (items_at (config_in total) [] header.configurations bytes) _ (stands_items total (config_in total) (stands_config total) [] header.configurations bytes left) (λ configurations after_configurations left_configurations.
-    stands_bind total (labels_in total header.configurations header.labels after_configurations) _ (stands_field total _ some (placed_members total label_key (label_at total header.configurations) (λ low b within. placed_label total header.configurations low b within) 0 [] header.labels after_configurations left_configurations)) (λ labels after_labels left_labels.
-    stands_bind total (items_at (line_in total) [] header.lines after_labels) _ (stands_items total (line_in total) (λ b within. stands_field total (line_at total b) some (placed_line total b within)) [] header.lines after_labels left_labels) (λ lines rest after. after)))
+    stands_bind total (labels_in total header.configurations header.labels after_configurations) _ (stands_field total _ some (placed_members total label_key (label_from total header.configurations) (λ low b within. placed_label total header.configurations low b within) 0 [] header.labels after_configurations left_configurations)) (λ labels after_labels left_labels.
+    stands_bind total (items_at (line_in total) [] header.lines after_labels) _ (stands_items total (line_in total) (λ b within. stands_field total (line_from total b) some (placed_line total b within)) [] header.lines after_labels left_labels) (λ lines rest after. after)))
 
 -- ---- the file
 

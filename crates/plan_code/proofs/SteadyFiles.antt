@@ -10,7 +10,7 @@ use Rattle.plan_code.specs.declared.fault.CodeFault.{CodeFault}
 use Rattle.plan_code.specs.declared.fault.CodeFault.TheVariants.{Magic, Version, Truncated, Field, Limit, Trailing, Memory}
 use Rattle.plan_code.specs.Program.{Program, IsProgram, label_key}
 use Rattle.plan_code.specs.Spelling.{magic, code_bytes}
-use Rattle.plan_code.specs.Parts.{label_at}
+use Rattle.plan_code.specs.Parts.{label_from}
 use Rattle.plan_code.specs.Reading.{Parses, ◌>>=◌, refuse, read_from, in_file, magic_at, mode_in, mode_at, plan_at, count_at, config_in, line_in, items_at, Header, header_at, program_at, code_of}
 use Rattle.plan_code.specs.FileFaults.{CutsAreTruncated, FileFaultsStay, FileFaultsAreFirst}
 use Rattle.plan_code.proofs.SteadyParts.{goes_label, goes_line}
@@ -120,7 +120,7 @@ runs_program : (total : ℕ) (header : Header) (bytes more : List ℕ) → Runs 
 unfolding program_at
 runs_program total header bytes more =
     runs_bind more _ _ _ _ (runs_items (config_in total) (config_in (total + length more)) more (λ b. runs_part more _ _ _ _ (place_same total b more) (goes_config b more)) [] header.configurations bytes) (λ configurations after_configurations.
-    runs_bind more _ _ _ _ (runs_field more _ _ (goes_members label_key (label_at total header.configurations) (label_at (total + length more) header.configurations) more (λ low b. goes_label total header.configurations low b more) 0 [] header.labels after_configurations)) (λ labels after_labels.
+    runs_bind more _ _ _ _ (runs_field more _ _ (goes_members label_key (label_from total header.configurations) (label_from (total + length more) header.configurations) more (λ low b. goes_label total header.configurations low b more) 0 [] header.labels after_configurations)) (λ labels after_labels.
     runs_bind more _ _ _ _ (runs_items (line_in total) (line_in (total + length more)) more (λ b. runs_field more _ _ (goes_line total b more)) [] header.lines after_labels) (λ lines rest. refl)))
 
 -- ---- the file

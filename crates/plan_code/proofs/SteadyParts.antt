@@ -1,20 +1,16 @@
 -- Reading labels and instructions is steady: what is read of some bytes, and any fault but that they are short, is the
 -- same whatever follows them.
-use Rattle.std.proofs.Common.{◌≡◌, ℕ, zero, suc, ◌+◌, ◌-◌, Bool, true, false, cond, eqb, ltb, List, ◌++◌, length, Err, refl, ap}
+use Rattle.std.proofs.Common.{◌≡◌, ℕ, zero, suc, ◌+◌, ◌-◌, List, ◌++◌, length, Option, Some, None, refl, ap}
+use Rattle.std.specs.Prelude.{ok_or}
 use Rattle.std.specs.Int.{w16, w32}
+use Rattle.mux_config.specs.declared.edit.Edit.{Edit}
 use Rattle.mux_config.specs.declared.record.RecordFault.TheVariants.{Field}
-use Rattle.mux_config.specs.Reading.{Reads}
+use Rattle.mux_config.specs.Reading.{Reads, ◌>>=◌}
 use Rattle.mux_config.proofs.Steady.{Goes, goes_bind, goes_fault, place_same, goes_byte, goes_number, goes_judged, goes_byte_within, goes_word_within, goes_flag, goes_protection, goes_sid, goes_component}
-use Rattle.plan_code.specs.Parts.{bounds_of, swap_at, label_at, day_frame_at, new_sub_at, new_packet_at, carrier_of_kind, carrier_at, add_sub_at, drop_sub_at, move_sub_at, rate_sub_at, add_service_at, drop_service_at, add_component_at, drop_component_at, add_packet_at, drop_packet_at, edit_of, wait_at, until_at, wait_contact_at, commit_in_at, commit_at_at, test_at, jump_at, set_at, loop_at, jump_of, timing_of, instr_of, line_at}
-
--- one reading or another, by a test of what was read before
-goes_choice : {T : Type 0} (more : List ℕ) (test : Bool) (r s : Reads T) (q t : Reads T) → Goes more r s → Goes more q t → Goes more (cond test r q) (cond test s t)
-goes_choice more true r s q t h k = h
-goes_choice more false r s q t h k = k
-
--- a fault at a place that is the same
-goes_field : (T : Type 0) (more : List ℕ) (at by : ℕ) → at ≡ by → Goes {T = T} more (Err (Field at)) (Err (Field by))
-goes_field T more at by e = goes_fault T more (Field at) (Field by) (ap Field e)
+use Rattle.plan_code.specs.declared.opcode.Opcode.{Opcode}
+use Rattle.plan_code.specs.Opcodes.{opcode_of}
+use Rattle.plan_code.specs.Parts.{bounds_of, swap_at, label_from, day_frame_at, new_sub_at, new_packet_at, carrier_of_kind, carrier_at, add_sub_at, drop_sub_at, move_sub_at, rate_sub_at, add_service_at, drop_service_at, add_component_at, drop_component_at, add_packet_at, drop_packet_at, wait_at, until_at, wait_contact_at, commit_in_at, commit_at_at, test_at, jump_at, set_at, loop_at, opcode_at, edited, instr_of, instr_from, line_from}
+use Rattle.plan_code.proofs.OpcodeLaws.{taken}
 
 -- ---- labels
 
@@ -33,8 +29,8 @@ goes_swap : (total : ℕ) (bytes more : List ℕ) → Goes more (swap_at total b
 unfolding swap_at
 goes_swap total bytes more = goes_bind more _ _ _ _ (goes_byte_within total 0 2 bytes more) (λ kind rest. goes_bounds total kind rest more)
 
-pub goes_label : (total count low : ℕ) (bytes more : List ℕ) → Goes more (label_at total count low bytes) (label_at (total + length more) count low (bytes ++ more))
-unfolding label_at
+pub goes_label : (total count low : ℕ) (bytes more : List ℕ) → Goes more (label_from total count low bytes) (label_from (total + length more) count low (bytes ++ more))
+unfolding label_from
 goes_label total count low bytes more =
     goes_bind more _ _ _ _ (goes_word_within total low 65535 bytes more) (λ pc after_pc.
     goes_bind more _ _ _ _ (goes_word_within total 0 (count - 1) after_pc more) (λ cur after_cur.
@@ -70,58 +66,55 @@ goes_carrier : (total : ℕ) (bytes more : List ℕ) → Goes more (carrier_at t
 unfolding carrier_at
 goes_carrier total bytes more = goes_bind more _ _ _ _ (goes_byte_within total 0 1 bytes more) (λ kind rest. goes_carrier_kind total kind rest more)
 
-goes_edit : (total at by opcode : ℕ) (bytes more : List ℕ) → at ≡ by → Goes more (edit_of total at opcode bytes) (edit_of (total + length more) by opcode (bytes ++ more))
-unfolding edit_of add_sub_at drop_sub_at move_sub_at rate_sub_at add_service_at drop_service_at add_component_at drop_component_at add_packet_at drop_packet_at
-goes_edit total at by opcode bytes more e =
-    goes_choice more (eqb opcode 0x10) _ _ _ _ (goes_bind more _ _ _ _ (goes_new_sub total bytes more) (λ sub rest. refl)) (
-    goes_choice more (eqb opcode 0x11) _ _ _ _ (goes_bind more _ _ _ _ (goes_byte_within total 0 63 bytes more) (λ id rest. refl)) (
-    goes_choice more (eqb opcode 0x12) _ _ _ _ (goes_bind more _ _ _ _ (goes_byte_within total 0 63 bytes more) (λ id after_id. goes_bind more _ _ _ _ (goes_word_within total 0 1023 after_id more) (λ start rest. refl))) (
-    goes_choice more (eqb opcode 0x13) _ _ _ _ (goes_bind more _ _ _ _ (goes_byte_within total 0 63 bytes more) (λ id after_id. goes_bind more _ _ _ _ (goes_number w16 after_id more) (λ kbits rest. refl))) (
-    goes_choice more (eqb opcode 0x14) _ _ _ _ (goes_bind more _ _ _ _ (goes_sid total bytes more) (λ sid rest. refl)) (
-    goes_choice more (eqb opcode 0x15) _ _ _ _ (goes_bind more _ _ _ _ (goes_sid total bytes more) (λ sid rest. refl)) (
-    goes_choice more (eqb opcode 0x16) _ _ _ _ (goes_bind more _ _ _ _ (goes_sid total bytes more) (λ sid after_sid. goes_bind more _ _ _ _ (goes_component total after_sid more) (λ component rest. refl))) (
-    goes_choice more (eqb opcode 0x17) _ _ _ _ (goes_bind more _ _ _ _ (goes_sid total bytes more) (λ sid after_sid. goes_bind more _ _ _ _ (goes_carrier total after_sid more) (λ carrier rest. refl))) (
-    goes_choice more (eqb opcode 0x18) _ _ _ _ (goes_bind more _ _ _ _ (goes_new_packet total bytes more) (λ packet rest. refl)) (
-    goes_choice more (eqb opcode 0x19) _ _ _ _ (goes_bind more _ _ _ _ (goes_word_within total 0 4095 bytes more) (λ scid rest. refl)) (
-    goes_field _ more at by e))))))))))
-
--- ---- the other instructions
+-- ---- instructions
 
 goes_day_frame : (total : ℕ) (bytes more : List ℕ) → Goes more (day_frame_at total bytes) (day_frame_at (total + length more) (bytes ++ more))
 goes_day_frame total bytes more = goes_bind more _ _ _ _ (goes_number w32 bytes more) (λ n rest. goes_judged more _ _ 0 3599999 n rest (place_same total bytes more))
 
-goes_timing : (total at by opcode : ℕ) (bytes more : List ℕ) → at ≡ by → Goes more (timing_of total at opcode bytes) (timing_of (total + length more) by opcode (bytes ++ more))
-unfolding timing_of wait_at until_at wait_contact_at commit_in_at commit_at_at
-goes_timing total at by opcode bytes more e =
-    goes_choice more (eqb opcode 0x01) _ _ _ _ (goes_bind more _ _ _ _ (goes_word_within total 1 65535 bytes more) (λ frames rest. refl)) (
-    goes_choice more (eqb opcode 0x02) _ _ _ _ (goes_bind more _ _ _ _ (goes_day_frame total bytes more) (λ frame rest. refl)) (
-    goes_choice more (eqb opcode 0x03) _ _ _ _ (goes_bind more _ _ _ _ (goes_byte_within total 0 15 bytes more) (λ contact after_contact. goes_bind more _ _ _ _ (goes_flag total after_contact more) (λ closed rest. refl))) (
-    goes_choice more (eqb opcode 0x04) _ _ _ _ (goes_bind more _ _ _ _ (goes_word_within total 1 60000 bytes more) (λ delay rest. refl)) (
-    goes_choice more (eqb opcode 0x05) _ _ _ _ (goes_bind more _ _ _ _ (goes_number w16 bytes more) (λ count rest. refl)) (
-    goes_choice more (eqb opcode 0x06) _ _ _ _ refl (
-    goes_choice more (eqb opcode 0x07) _ _ _ _ refl (
-    goes_choice more (eqb opcode 0x08) _ _ _ _ refl (
-    goes_field _ more at by e))))))))
+goes_edited : (more : List ℕ) (r s : Reads Edit) → Goes more r s → Goes more (edited r) (edited s)
+goes_edited more r s h = goes_bind more r s _ _ h (λ edit rest. refl)
 
-goes_jump : (total at by opcode : ℕ) (bytes more : List ℕ) → at ≡ by → Goes more (jump_of total at opcode bytes) (jump_of (total + length more) by opcode (bytes ++ more))
-unfolding jump_of test_at jump_at set_at loop_at
-goes_jump total at by opcode bytes more e =
-    goes_choice more (eqb opcode 0x20) _ _ _ _ (goes_bind more _ _ _ _ (goes_byte_within total 0 15 bytes more) (λ contact after_contact. goes_bind more _ _ _ _ (goes_number w16 after_contact more) (λ target rest. refl))) (
-    goes_choice more (eqb opcode 0x21) _ _ _ _ (goes_bind more _ _ _ _ (goes_number w16 bytes more) (λ target rest. refl)) (
-    goes_choice more (eqb opcode 0x22) _ _ _ _ (goes_bind more _ _ _ _ (goes_byte_within total 0 7 bytes more) (λ counter after_counter. goes_bind more _ _ _ _ (goes_word_within total 1 65535 after_counter more) (λ times rest. refl))) (
-    goes_choice more (eqb opcode 0x23) _ _ _ _ (goes_bind more _ _ _ _ (goes_byte_within total 0 7 bytes more) (λ counter after_counter. goes_bind more _ _ _ _ (goes_number w16 after_counter more) (λ target rest. refl))) (
-    goes_field _ more at by e))))
+goes_operands : (total : ℕ) (opcode : Opcode) (bytes more : List ℕ) → Goes more (instr_of total opcode bytes) (instr_of (total + length more) opcode (bytes ++ more))
+unfolding instr_of wait_at until_at wait_contact_at commit_in_at commit_at_at add_sub_at drop_sub_at move_sub_at rate_sub_at add_service_at drop_service_at add_component_at drop_component_at add_packet_at drop_packet_at test_at jump_at set_at loop_at
+goes_operands total Opcode.Wait bytes more = goes_bind more _ _ _ _ (goes_word_within total 1 65535 bytes more) (λ frames rest. refl)
+goes_operands total Opcode.Until bytes more = goes_bind more _ _ _ _ (goes_day_frame total bytes more) (λ frame rest. refl)
+goes_operands total Opcode.WaitContact bytes more = goes_bind more _ _ _ _ (goes_byte_within total 0 15 bytes more) (λ contact after_contact. goes_bind more _ _ _ _ (goes_flag total after_contact more) (λ closed rest. refl))
+goes_operands total Opcode.CommitIn bytes more = goes_bind more _ _ _ _ (goes_word_within total 1 60000 bytes more) (λ delay rest. refl)
+goes_operands total Opcode.CommitAt bytes more = goes_bind more _ _ _ _ (goes_number w16 bytes more) (λ count rest. refl)
+goes_operands total Opcode.Join bytes more = refl
+goes_operands total Opcode.End bytes more = refl
+goes_operands total Opcode.Settle bytes more = refl
+goes_operands total Opcode.AddSub bytes more = goes_edited more _ _ (goes_bind more _ _ _ _ (goes_new_sub total bytes more) (λ sub rest. refl))
+goes_operands total Opcode.DropSub bytes more = goes_edited more _ _ (goes_bind more _ _ _ _ (goes_byte_within total 0 63 bytes more) (λ id rest. refl))
+goes_operands total Opcode.MoveSub bytes more = goes_edited more _ _ (goes_bind more _ _ _ _ (goes_byte_within total 0 63 bytes more) (λ id after_id. goes_bind more _ _ _ _ (goes_word_within total 0 1023 after_id more) (λ start rest. refl)))
+goes_operands total Opcode.RateSub bytes more = goes_edited more _ _ (goes_bind more _ _ _ _ (goes_byte_within total 0 63 bytes more) (λ id after_id. goes_bind more _ _ _ _ (goes_number w16 after_id more) (λ kbits rest. refl)))
+goes_operands total Opcode.AddService bytes more = goes_edited more _ _ (goes_bind more _ _ _ _ (goes_sid total bytes more) (λ sid rest. refl))
+goes_operands total Opcode.DropService bytes more = goes_edited more _ _ (goes_bind more _ _ _ _ (goes_sid total bytes more) (λ sid rest. refl))
+goes_operands total Opcode.AddComponent bytes more = goes_edited more _ _ (goes_bind more _ _ _ _ (goes_sid total bytes more) (λ sid after_sid. goes_bind more _ _ _ _ (goes_component total after_sid more) (λ component rest. refl)))
+goes_operands total Opcode.DropComponent bytes more = goes_edited more _ _ (goes_bind more _ _ _ _ (goes_sid total bytes more) (λ sid after_sid. goes_bind more _ _ _ _ (goes_carrier total after_sid more) (λ carrier rest. refl)))
+goes_operands total Opcode.AddPacket bytes more = goes_edited more _ _ (goes_bind more _ _ _ _ (goes_new_packet total bytes more) (λ packet rest. refl))
+goes_operands total Opcode.DropPacket bytes more = goes_edited more _ _ (goes_bind more _ _ _ _ (goes_word_within total 0 4095 bytes more) (λ scid rest. refl))
+goes_operands total Opcode.Test bytes more = goes_bind more _ _ _ _ (goes_byte_within total 0 15 bytes more) (λ contact after_contact. goes_bind more _ _ _ _ (goes_number w16 after_contact more) (λ target rest. refl))
+goes_operands total Opcode.Jump bytes more = goes_bind more _ _ _ _ (goes_number w16 bytes more) (λ target rest. refl)
+goes_operands total Opcode.Set bytes more = goes_bind more _ _ _ _ (goes_byte_within total 0 7 bytes more) (λ counter after_counter. goes_bind more _ _ _ _ (goes_word_within total 1 65535 after_counter more) (λ times rest. refl))
+goes_operands total Opcode.Loop bytes more = goes_bind more _ _ _ _ (goes_byte_within total 0 7 bytes more) (λ counter after_counter. goes_bind more _ _ _ _ (goes_number w16 after_counter more) (λ target rest. refl))
 
-goes_instr : (total at by opcode : ℕ) (bytes more : List ℕ) → at ≡ by → Goes more (instr_of total at opcode bytes) (instr_of (total + length more) by opcode (bytes ++ more))
-unfolding instr_of
-goes_instr total at by opcode bytes more e =
-    goes_choice more (ltb opcode 0x10) _ _ _ _ (goes_timing total at by opcode bytes more e) (
-    goes_choice more (ltb opcode 0x20) _ _ _ _ (goes_bind more _ _ _ _ (goes_edit total at by opcode bytes more e) (λ edit rest. refl)) (
-    goes_jump total at by opcode bytes more e))
+-- the opcode of a byte, or a fault at a place that is the same
+goes_known : (more rest : List ℕ) (opcode : Option Opcode) (at by : ℕ) → at ≡ by
+    → Goes more (ok_or opcode (Field at) >>= λ o. taken (o, rest)) (ok_or opcode (Field by) >>= λ o. taken (o, rest ++ more))
+goes_known more rest None at by e = goes_fault Opcode more (Field at) (Field by) (ap Field e)
+goes_known more rest (Some opcode) at by e = refl
 
-pub goes_line : (total : ℕ) (bytes more : List ℕ) → Goes more (line_at total bytes) (line_at (total + length more) (bytes ++ more))
-unfolding line_at
+goes_opcode : (total : ℕ) (bytes more : List ℕ) → Goes more (opcode_at total bytes) (opcode_at (total + length more) (bytes ++ more))
+goes_opcode total bytes more =
+    goes_bind more _ _ _ _ (goes_byte bytes more) (λ byte rest. goes_known more rest (opcode_of byte) _ _ (place_same total bytes more))
+
+goes_instr : (total : ℕ) (bytes more : List ℕ) → Goes more (instr_from total bytes) (instr_from (total + length more) (bytes ++ more))
+unfolding instr_from
+goes_instr total bytes more = goes_bind more _ _ _ _ (goes_opcode total bytes more) (λ opcode rest. goes_operands total opcode rest more)
+
+pub goes_line : (total : ℕ) (bytes more : List ℕ) → Goes more (line_from total bytes) (line_from (total + length more) (bytes ++ more))
+unfolding line_from
 goes_line total bytes more =
     goes_bind more _ _ _ _ (goes_number w16 bytes more) (λ number after_number.
-    goes_bind more _ _ _ _ (goes_byte after_number more) (λ opcode after_opcode.
-    goes_bind more _ _ _ _ (goes_instr total _ _ opcode after_opcode more (place_same total after_number more)) (λ instr rest. refl)))
+    goes_bind more _ _ _ _ (goes_instr total after_number more) (λ instr rest. refl))

@@ -2,6 +2,7 @@ pub mod Faults
 pub mod FileFaults
 pub mod Flags
 pub mod Machine
+pub mod Opcodes
 pub mod Parts
 pub mod Program
 pub mod Reading

@@ -1,6 +1,6 @@
 -- Reading a label, and a line with its instruction, from left to right, with the first fault that is met: a
 -- field whose bytes are missing, or one that is out of its range.
-use Rattle.std.specs.Prelude.{ℕ, zero, suc, ◌-◌, ◌==◌, nat_lt, if◌then◌else◌, List, Ok, Err}
+use Rattle.std.specs.Prelude.{ℕ, zero, suc, ◌-◌, List, ok_or, Ok}
 use Rattle.std.specs.Int.{w16, w32}
 use Rattle.mux_config.specs.Reading.{Reads, ◌>>=◌, place, byte_at, number_at, judged, byte_within, word_within, flag_at, protection_at, sid_at, component_at}
 use Rattle.mux_config.specs.declared.record.RecordFault.TheVariants.{Field}
@@ -17,6 +17,8 @@ use Rattle.plan_code.specs.declared.label.Swap.TheVariants.{Idle, Within, Perhap
 use Rattle.plan_code.specs.declared.instr.Instr.{Instr}
 use Rattle.plan_code.specs.declared.instr.Instr.TheVariants.{Wait, Until, WaitContact, CommitIn, CommitAt, Join, Settle, End, Edit as Edits, Test, Jump, Set, Loop}
 use Rattle.plan_code.specs.declared.instr.Line.{Line}
+use Rattle.plan_code.specs.declared.opcode.Opcode.{Opcode}
+use Rattle.plan_code.specs.Opcodes.{opcode_of}
 
 -- ---- labels
 
@@ -41,8 +43,8 @@ swap_at total bytes = do
   bounds_of total kind.0 kind.1
 
 -- a label at `low` or later, where the table has this many configurations
-unfoldable pub label_at : (total count low : ℕ) → List ℕ → Reads Label
-label_at total count low bytes = do
+unfoldable pub label_from : (total count low : ℕ) → List ℕ → Reads Label
+label_from total count low bytes = do
   pc ← word_within total low 65535 bytes
   cur ← word_within total 0 (count - 1) pc.1
   next ← word_within total 0 (count - 1) cur.1
@@ -116,7 +118,7 @@ carrier_at total bytes = do
   kind ← byte_within total 0 1 bytes
   carrier_of_kind total kind.0 kind.1
 
--- ---- edits, by their opcodes; the opcode itself stands at `at`
+-- ---- edits, after their opcodes
 
 unfoldable pub add_sub_at : (total : ℕ) → List ℕ → Reads Edit
 add_sub_at total bytes = do
@@ -172,21 +174,7 @@ drop_packet_at total bytes = do
   scid ← scid_at total bytes
   Ok (DropPacket scid.0, scid.1)
 
-unfoldable pub edit_of : (total at opcode : ℕ) → List ℕ → Reads Edit
-edit_of total at opcode bytes =
-    if opcode == 0x10 then add_sub_at total bytes
-    else if opcode == 0x11 then drop_sub_at total bytes
-    else if opcode == 0x12 then move_sub_at total bytes
-    else if opcode == 0x13 then rate_sub_at total bytes
-    else if opcode == 0x14 then add_service_at total bytes
-    else if opcode == 0x15 then drop_service_at total bytes
-    else if opcode == 0x16 then add_component_at total bytes
-    else if opcode == 0x17 then drop_component_at total bytes
-    else if opcode == 0x18 then add_packet_at total bytes
-    else if opcode == 0x19 then drop_packet_at total bytes
-    else Err (Field at)
-
--- ---- the other instructions
+-- ---- the other instructions, after their opcodes
 
 unfoldable pub wait_at : (total : ℕ) → List ℕ → Reads Instr
 wait_at total bytes = do
@@ -237,35 +225,50 @@ loop_at total bytes = do
   target ← word_at counter.1
   Ok (Loop counter.0 target.0, target.1)
 
-unfoldable pub jump_of : (total at opcode : ℕ) → List ℕ → Reads Instr
-jump_of total at opcode bytes =
-    if opcode == 0x20 then test_at total bytes
-    else if opcode == 0x21 then jump_at bytes
-    else if opcode == 0x22 then set_at total bytes
-    else if opcode == 0x23 then loop_at total bytes
-    else Err (Field at)
+-- ---- any instruction, and its line
 
-unfoldable pub timing_of : (total at opcode : ℕ) → List ℕ → Reads Instr
-timing_of total at opcode bytes =
-    if opcode == 0x01 then wait_at total bytes
-    else if opcode == 0x02 then until_at total bytes
-    else if opcode == 0x03 then wait_contact_at total bytes
-    else if opcode == 0x04 then commit_in_at total bytes
-    else if opcode == 0x05 then commit_at_at bytes
-    else if opcode == 0x06 then Ok (Join, bytes)
-    else if opcode == 0x07 then Ok (End, bytes)
-    else if opcode == 0x08 then Ok (Settle, bytes)
-    else Err (Field at)
+abbrev pub opcode_at : (total : ℕ) → List ℕ → Reads Opcode
+opcode_at total bytes = do
+  byte ← byte_at bytes
+  opcode ← ok_or (opcode_of byte.0) (Field (place total bytes))
+  Ok (opcode, byte.1)
 
-unfoldable pub instr_of : (total at opcode : ℕ) → List ℕ → Reads Instr
-instr_of total at opcode bytes =
-    if nat_lt opcode 0x10 then timing_of total at opcode bytes
-    else if nat_lt opcode 0x20 then (edit_of total at opcode bytes >>= λ e. Ok (Edits e.0, e.1))
-    else jump_of total at opcode bytes
+-- an edit as an instruction
+abbrev pub edited : Reads Edit → Reads Instr
+edited read = read >>= λ edit. Ok (Edits edit.0, edit.1)
 
-unfoldable pub line_at : (total : ℕ) → List ℕ → Reads Line
-line_at total bytes = do
+-- an instruction, after its opcode
+unfoldable pub instr_of : (total : ℕ) → Opcode → List ℕ → Reads Instr
+instr_of total Opcode.Wait bytes = wait_at total bytes
+instr_of total Opcode.Until bytes = until_at total bytes
+instr_of total Opcode.WaitContact bytes = wait_contact_at total bytes
+instr_of total Opcode.CommitIn bytes = commit_in_at total bytes
+instr_of total Opcode.CommitAt bytes = commit_at_at bytes
+instr_of total Opcode.Join bytes = Ok (Join, bytes)
+instr_of total Opcode.End bytes = Ok (End, bytes)
+instr_of total Opcode.Settle bytes = Ok (Settle, bytes)
+instr_of total Opcode.AddSub bytes = edited (add_sub_at total bytes)
+instr_of total Opcode.DropSub bytes = edited (drop_sub_at total bytes)
+instr_of total Opcode.MoveSub bytes = edited (move_sub_at total bytes)
+instr_of total Opcode.RateSub bytes = edited (rate_sub_at total bytes)
+instr_of total Opcode.AddService bytes = edited (add_service_at total bytes)
+instr_of total Opcode.DropService bytes = edited (drop_service_at total bytes)
+instr_of total Opcode.AddComponent bytes = edited (add_component_at total bytes)
+instr_of total Opcode.DropComponent bytes = edited (drop_component_at total bytes)
+instr_of total Opcode.AddPacket bytes = edited (add_packet_at total bytes)
+instr_of total Opcode.DropPacket bytes = edited (drop_packet_at total bytes)
+instr_of total Opcode.Test bytes = test_at total bytes
+instr_of total Opcode.Jump bytes = jump_at bytes
+instr_of total Opcode.Set bytes = set_at total bytes
+instr_of total Opcode.Loop bytes = loop_at total bytes
+
+unfoldable pub instr_from : (total : ℕ) → List ℕ → Reads Instr
+instr_from total bytes = do
+  opcode ← opcode_at total bytes
+  instr_of total opcode.0 opcode.1
+
+unfoldable pub line_from : (total : ℕ) → List ℕ → Reads Line
+line_from total bytes = do
   number ← word_at bytes
-  opcode ← byte_at number.1
-  instr ← instr_of total (place total number.1) opcode.0 opcode.1
+  instr ← instr_from total number.1
   Ok (record { number = number.0; instr = instr.0 }, instr.1)

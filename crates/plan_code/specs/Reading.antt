@@ -14,7 +14,7 @@ use Rattle.plan_code.specs.declared.label.Label.{Label}
 use Rattle.plan_code.specs.declared.plan.Plan.{Plan}
 use Rattle.plan_code.specs.Program.{Program, label_key}
 use Rattle.plan_code.specs.Spelling.{magic}
-use Rattle.plan_code.specs.Parts.{label_at, line_at}
+use Rattle.plan_code.specs.Parts.{label_from, line_from}
 
 -- what is read, and the bytes after it; or the first fault
 abbrev pub Parses : Type 0 → Type 0
@@ -124,7 +124,7 @@ abbrev pub config_in : (total : ℕ) → List ℕ → Parses Configuration
 config_in total bytes = read_from (place total bytes) (config_at bytes)
 
 abbrev pub line_in : (total : ℕ) → List ℕ → Parses Line
-line_in total bytes = in_file (line_at total bytes)
+line_in total bytes = in_file (line_from total bytes)
 
 -- so many items after those that were read before
 unfoldable pub items_at : {T : Type 0} → (item_at : List ℕ → Parses T) → (before : List T) → (count : ℕ) → List ℕ → Parses (List T)
@@ -134,7 +134,7 @@ items_at item_at before (suc count) bytes = do
   items_at item_at (before ++ item.0 ∷ []) count item.1
 
 abbrev pub labels_in : (total configurations count : ℕ) → List ℕ → Parses (List Label)
-labels_in total configurations count bytes = in_file (members_at label_key (label_at total configurations) 0 [] count bytes)
+labels_in total configurations count bytes = in_file (members_at label_key (label_from total configurations) 0 [] count bytes)
 
 unfoldable pub program_at : (total : ℕ) → Header → List ℕ → Parses Program
 program_at total header bytes = do

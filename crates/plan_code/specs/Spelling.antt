@@ -16,6 +16,8 @@ use Rattle.plan_code.specs.declared.label.Swap.TheVariants.{Idle, Within, Perhap
 use Rattle.plan_code.specs.declared.instr.Instr.{Instr}
 use Rattle.plan_code.specs.declared.instr.Instr.TheVariants.{Wait, Until, WaitContact, CommitIn, CommitAt, Join, Settle, End, Edit as Edits, Test, Jump, Set, Loop}
 use Rattle.plan_code.specs.declared.instr.Line.{Line}
+use Rattle.plan_code.specs.declared.opcode.Opcode.{Opcode}
+use Rattle.plan_code.specs.Opcodes.{opcode_byte}
 use Rattle.plan_code.specs.Program.{Program}
 
 -- the letters DABP as a number of four bytes
@@ -55,31 +57,31 @@ carrier_bytes (ByPacket scid) = 1 ∷ word_bytes scid
 
 -- an instruction: its opcode, and its operands
 abbrev pub edit_bytes : Edit → List ℕ
-edit_bytes (AddSub s) = 0x10 ∷ sub_bytes s
-edit_bytes (DropSub id) = 0x11 ∷ id ∷ []
-edit_bytes (MoveSub id start) = 0x12 ∷ id ∷ word_bytes start
-edit_bytes (RateSub id kbits) = 0x13 ∷ id ∷ word_bytes kbits
-edit_bytes (AddService sid) = 0x14 ∷ sid_bytes sid
-edit_bytes (DropService sid) = 0x15 ∷ sid_bytes sid
-edit_bytes (AddComponent sid m) = 0x16 ∷ sid_bytes sid ++ component_bytes m
-edit_bytes (DropComponent sid carrier) = 0x17 ∷ sid_bytes sid ++ carrier_bytes carrier
-edit_bytes (AddPacket p) = 0x18 ∷ packet_bytes p
-edit_bytes (DropPacket scid) = 0x19 ∷ word_bytes scid
+edit_bytes (AddSub s) = opcode_byte Opcode.AddSub ∷ sub_bytes s
+edit_bytes (DropSub id) = opcode_byte Opcode.DropSub ∷ id ∷ []
+edit_bytes (MoveSub id start) = opcode_byte Opcode.MoveSub ∷ id ∷ word_bytes start
+edit_bytes (RateSub id kbits) = opcode_byte Opcode.RateSub ∷ id ∷ word_bytes kbits
+edit_bytes (AddService sid) = opcode_byte Opcode.AddService ∷ sid_bytes sid
+edit_bytes (DropService sid) = opcode_byte Opcode.DropService ∷ sid_bytes sid
+edit_bytes (AddComponent sid m) = opcode_byte Opcode.AddComponent ∷ sid_bytes sid ++ component_bytes m
+edit_bytes (DropComponent sid carrier) = opcode_byte Opcode.DropComponent ∷ sid_bytes sid ++ carrier_bytes carrier
+edit_bytes (AddPacket p) = opcode_byte Opcode.AddPacket ∷ packet_bytes p
+edit_bytes (DropPacket scid) = opcode_byte Opcode.DropPacket ∷ word_bytes scid
 
 abbrev pub instr_bytes : Instr → List ℕ
-instr_bytes (Wait n) = 0x01 ∷ word_bytes n
-instr_bytes (Until t) = 0x02 ∷ to_be_bytes w32 t
-instr_bytes (WaitContact c closed) = 0x03 ∷ c ∷ flag_byte closed ∷ []
-instr_bytes (CommitIn k) = 0x04 ∷ word_bytes k
-instr_bytes (CommitAt n) = 0x05 ∷ word_bytes n
-instr_bytes Join = 0x06 ∷ []
-instr_bytes End = 0x07 ∷ []
-instr_bytes Settle = 0x08 ∷ []
+instr_bytes (Wait n) = opcode_byte Opcode.Wait ∷ word_bytes n
+instr_bytes (Until t) = opcode_byte Opcode.Until ∷ to_be_bytes w32 t
+instr_bytes (WaitContact c closed) = opcode_byte Opcode.WaitContact ∷ c ∷ flag_byte closed ∷ []
+instr_bytes (CommitIn k) = opcode_byte Opcode.CommitIn ∷ word_bytes k
+instr_bytes (CommitAt n) = opcode_byte Opcode.CommitAt ∷ word_bytes n
+instr_bytes Join = opcode_byte Opcode.Join ∷ []
+instr_bytes End = opcode_byte Opcode.End ∷ []
+instr_bytes Settle = opcode_byte Opcode.Settle ∷ []
 instr_bytes (Edits e) = edit_bytes e
-instr_bytes (Test c target) = 0x20 ∷ c ∷ word_bytes target
-instr_bytes (Jump target) = 0x21 ∷ word_bytes target
-instr_bytes (Set r n) = 0x22 ∷ r ∷ word_bytes n
-instr_bytes (Loop r target) = 0x23 ∷ r ∷ word_bytes target
+instr_bytes (Test c target) = opcode_byte Opcode.Test ∷ c ∷ word_bytes target
+instr_bytes (Jump target) = opcode_byte Opcode.Jump ∷ word_bytes target
+instr_bytes (Set r n) = opcode_byte Opcode.Set ∷ r ∷ word_bytes n
+instr_bytes (Loop r target) = opcode_byte Opcode.Loop ∷ r ∷ word_bytes target
 
 abbrev pub line_bytes : Line → List ℕ
 line_bytes l = word_bytes l.number ++ instr_bytes l.instr

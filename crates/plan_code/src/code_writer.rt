@@ -2,7 +2,8 @@
 
 ghost use Rattle.std.specs.Prelude.{◌≡◌, ℕ, ◌++◌, ◌∷◌, [], List, length, Ok, OnOk, IfOk};
 ghost use Rattle.std.specs.List.{flat_map};
-ghost use Rattle.mux_config.specs.Spelling.{sub_bytes, packet_bytes, config_bytes};
+ghost use Rattle.mux_config.specs.Spelling.{word_bytes, sub_bytes, packet_bytes, config_bytes};
+ghost use Rattle.plan_code.specs.Opcodes.{opcode_byte};
 ghost use Rattle.plan_code.specs.Program.{IsProgram};
 ghost use Rattle.plan_code.specs.Spelling.{mode_bytes, plan_bytes, header_bytes, swap_bytes, label_bytes, carrier_bytes, edit_bytes, instr_bytes, line_bytes, code_bytes};
 ghost use Rattle.plan_code.specs.Reading.{code_of};
@@ -12,6 +13,7 @@ use crate::code_reader::MAGIC;
 use crate::flags::Counters;
 use crate::instr::{Instr, Line};
 use crate::label::{Label, Swap};
+use crate::opcode::Opcode;
 use crate::plan::Plan;
 use fib_codec::Mode;
 use mux_config::record_writer::{
@@ -95,49 +97,73 @@ fn put_carrier(out: &mut Vec<u8>, carrier: Carrier) -> Result<(), AllocError>
     }
 }
 
+fn put_opcode(out: &mut Vec<u8>, opcode: Opcode) -> Result<(), AllocError>
+    ensures { OnOk result (out.new.items ≡ out.old.items ++ opcode_byte opcode ∷ []) }
+{
+    out.extend_from_slice(&[u8::from(opcode)])
+}
+
+/// Writes an opcode, and an operand of one byte.
+fn put_with_byte(out: &mut Vec<u8>, opcode: Opcode, byte: u8) -> Result<(), AllocError>
+    ensures { OnOk result (out.new.items ≡ out.old.items ++ opcode_byte opcode ∷ byte ∷ []) }
+{
+    out.extend_from_slice(&[u8::from(opcode), byte])
+}
+
+/// Writes an opcode, and an operand of two bytes.
+fn put_with_word(out: &mut Vec<u8>, opcode: Opcode, word: u16) -> Result<(), AllocError>
+    ensures { OnOk result
+        (out.new.items ≡ out.old.items ++ opcode_byte opcode ∷ word_bytes word) }
+{
+    put_opcode(out, opcode)?;
+    put_word(out, word)
+}
+
+/// Writes an opcode, and operands of one and of two bytes.
+fn put_with_both(out: &mut Vec<u8>, opcode: Opcode, byte: u8, word: u16) -> Result<(), AllocError>
+    ensures { OnOk result
+        (out.new.items ≡ out.old.items ++ opcode_byte opcode ∷ byte ∷ word_bytes word) }
+{
+    put_with_byte(out, opcode, byte)?;
+    put_word(out, word)
+}
+
 fn put_edit(out: &mut Vec<u8>, edit: Edit) -> Result<(), AllocError>
     ensures { OnOk result (out.new.items ≡ out.old.items ++ edit_bytes edit) }
 {
     match edit {
         Edit::AddSub(sub) => {
-            out.push(0x10)?;
+            put_opcode(out, Opcode::AddSub)?;
             put_new_sub(out, sub)
         }
-        Edit::DropSub(id) => out.extend_from_slice(&[0x11, id.get()]),
+        Edit::DropSub(id) => put_with_byte(out, Opcode::DropSub, id.get()),
         Edit::MoveSub { id, start } => {
-            out.extend_from_slice(&[0x12, id.get()])?;
-            put_word(out, start.get())
+            put_with_both(out, Opcode::MoveSub, id.get(), start.get())
         }
-        Edit::RateSub { id, kbits } => {
-            out.extend_from_slice(&[0x13, id.get()])?;
-            put_word(out, kbits)
-        }
+        Edit::RateSub { id, kbits } => put_with_both(out, Opcode::RateSub, id.get(), kbits),
         Edit::AddService(sid) => {
-            out.push(0x14)?;
+            put_opcode(out, Opcode::AddService)?;
             put_sid(out, sid)
         }
         Edit::DropService(sid) => {
-            out.push(0x15)?;
+            put_opcode(out, Opcode::DropService)?;
             put_sid(out, sid)
         }
         Edit::AddComponent { sid, component } => {
-            out.push(0x16)?;
+            put_opcode(out, Opcode::AddComponent)?;
             put_sid(out, sid)?;
             put_component(out, &component)
         }
         Edit::DropComponent { sid, carrier } => {
-            out.push(0x17)?;
+            put_opcode(out, Opcode::DropComponent)?;
             put_sid(out, sid)?;
             put_carrier(out, carrier)
         }
         Edit::AddPacket(packet) => {
-            out.push(0x18)?;
+            put_opcode(out, Opcode::AddPacket)?;
             put_new_packet(out, packet)
         }
-        Edit::DropPacket(scid) => {
-            out.push(0x19)?;
-            put_word(out, scid.get())
-        }
+        Edit::DropPacket(scid) => put_with_word(out, Opcode::DropPacket, scid.get()),
     }
 }
 
@@ -145,44 +171,30 @@ fn put_instr(out: &mut Vec<u8>, instr: Instr) -> Result<(), AllocError>
     ensures { OnOk result (out.new.items ≡ out.old.items ++ instr_bytes instr) }
 {
     match instr {
-        Instr::Wait(frames) => {
-            out.push(0x01)?;
-            put_word(out, frames.get())
-        }
+        Instr::Wait(frames) => put_with_word(out, Opcode::Wait, frames.get()),
         Instr::Until(frame) => {
-            out.push(0x02)?;
+            put_opcode(out, Opcode::Until)?;
             put_long(out, frame.get())
         }
         Instr::WaitContact { contact, closed } => {
-            out.extend_from_slice(&[0x03, contact.get(), u8::from(closed)])
+            put_with_byte(out, Opcode::WaitContact, contact.get())?;
+            out.extend_from_slice(&[u8::from(closed)])
         }
-        Instr::CommitIn(delay) => {
-            out.push(0x04)?;
-            put_word(out, delay.get())
-        }
-        Instr::CommitAt(count) => {
-            out.push(0x05)?;
-            put_word(out, count)
-        }
-        Instr::Join => out.extend_from_slice(&[0x06]),
-        Instr::End => out.extend_from_slice(&[0x07]),
-        Instr::Settle => out.extend_from_slice(&[0x08]),
+        Instr::CommitIn(delay) => put_with_word(out, Opcode::CommitIn, delay.get()),
+        Instr::CommitAt(count) => put_with_word(out, Opcode::CommitAt, count),
+        Instr::Join => put_opcode(out, Opcode::Join),
+        Instr::End => put_opcode(out, Opcode::End),
+        Instr::Settle => put_opcode(out, Opcode::Settle),
         Instr::Edit(edit) => put_edit(out, edit),
         Instr::Test { contact, target } => {
-            out.extend_from_slice(&[0x20, contact.get()])?;
-            put_word(out, target)
+            put_with_both(out, Opcode::Test, contact.get(), target)
         }
-        Instr::Jump(target) => {
-            out.push(0x21)?;
-            put_word(out, target)
-        }
+        Instr::Jump(target) => put_with_word(out, Opcode::Jump, target),
         Instr::Set { counter, times } => {
-            out.extend_from_slice(&[0x22, counter.get()])?;
-            put_word(out, times.get())
+            put_with_both(out, Opcode::Set, counter.get(), times.get())
         }
         Instr::Loop { counter, target } => {
-            out.extend_from_slice(&[0x23, counter.get()])?;
-            put_word(out, target)
+            put_with_both(out, Opcode::Loop, counter.get(), target)
         }
     }
 }

@@ -1,6 +1,7 @@
 //! What holds of the machine, whatever runs it.
 
 ghost use Rattle.plan_code.specs.Flags.{CountersChangeAlone, ContactsChangeAlone};
+ghost use Rattle.plan_code.specs.Opcodes.{OpcodesAgree};
 ghost use Rattle.plan_code.specs.Faults.{HasOneFault, HasFaultWithoutCode, BytesLackNoMemory};
 ghost use Rattle.plan_code.specs.FileFaults.{CutsAreTruncated, FileFaultsStay, FileFaultsAreFirst, TruncatedBeforePlaces};
 ghost use Rattle.plan_code.specs.Machine.{SwapsInTime, SwapsAtCount, AlwaysSettles, LoopsRun};
@@ -23,6 +24,12 @@ pub fn settling()
 /// counter unset. The function does nothing; its contract is the law.
 pub fn loops()
     ensures as_set { LoopsRun }
+{}
+
+/// The law of opcodes: each is the opcode of its byte, and of no other. The function does nothing; its contract
+/// is the law.
+pub fn opcodes()
+    ensures agree { OpcodesAgree }
 {}
 
 /// The law of faults: bytes have one fault at most, and one exactly where they are the file of no code; want

@@ -17,6 +17,7 @@ pub mod label;
 pub mod laws;
 pub mod limits;
 pub mod numbers;
+mod opcode;
 mod operand;
 pub mod plan;
 mod ranges;

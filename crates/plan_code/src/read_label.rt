@@ -2,7 +2,7 @@
 
 ghost use Rattle.std.specs.Prelude.{◌≡◌, ◌≤◌};
 ghost use Rattle.mux_config.specs.Reading.{Takes, word_within};
-ghost use Rattle.plan_code.specs.Parts.{swap_at, label_at};
+ghost use Rattle.plan_code.specs.Parts.{swap_at, label_from};
 
 use crate::flags::Counters;
 use crate::label::{Label, Swap};
@@ -48,10 +48,10 @@ fn place_from(reader: &mut Reader, low: u32) -> Result<u16, RecordFault>
 }
 
 /// Reads a label at `low` or later, where there are so many configurations.
-#[tactic(auto, unfolding(crate::specs::Parts::label_at))]
+#[tactic(auto, unfolding(crate::specs::Parts::label_from))]
 pub(crate) fn label(reader: &mut Reader, configs: u16, low: u32) -> Result<Label, RecordFault>
     requires { 1 ≤ configs }
-    ensures read { Takes (label_at reader.old.total configs low reader.old.rest) result reader.new }
+    ensures read { Takes (label_from reader.old.total configs low reader.old.rest) result reader.new }
     ensures total { reader.new.total ≡ reader.old.total }
 {
     let pc = place_from(reader, low)?;

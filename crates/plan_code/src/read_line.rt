@@ -2,11 +2,15 @@
 
 ghost use Rattle.std.specs.Prelude.{◌≡◌};
 ghost use Rattle.mux_config.specs.Reading.{Takes};
-ghost use Rattle.plan_code.specs.Parts.{wait_at, until_at, wait_contact_at, commit_in_at, commit_at_at, test_at, jump_at, set_at, loop_at, jump_of, timing_of, instr_of, line_at};
+ghost use Rattle.plan_code.specs.Parts.{wait_at, until_at, wait_contact_at, commit_in_at, commit_at_at, test_at, jump_at, set_at, loop_at, opcode_at, instr_of, instr_from, line_from};
 
 use crate::instr::{Instr, Line};
+use crate::opcode::{Opcode, UnknownOpcode};
 use crate::operand::{contact, counter, day_frame, delay, frames, times};
-use crate::read_edit::edit;
+use crate::read_edit::{
+    add_component, add_packet, add_service, add_sub, drop_component, drop_packet, drop_service,
+    drop_sub, move_sub, rate_sub,
+};
 use mux_config::{Reader, RecordFault};
 
 #[tactic(auto, unfolding(crate::specs::Parts::wait_at))]
@@ -94,65 +98,68 @@ fn loop_back(reader: &mut Reader) -> Result<Instr, RecordFault>
     Ok(Instr::Loop { counter, target })
 }
 
-/// An instruction of waiting or committing, after its opcode, which stands at `at`.
-#[tactic(auto, unfolding(crate::specs::Parts::timing_of))]
-fn timing(reader: &mut Reader, at: usize, opcode: u8) -> Result<Instr, RecordFault>
-    ensures read { Takes (timing_of reader.old.total at opcode reader.old.rest) result reader.new }
+/// An opcode.
+fn opcode(reader: &mut Reader) -> Result<Opcode, RecordFault>
+    ensures read { Takes (opcode_at reader.old.total reader.old.rest) result reader.new }
     ensures total { reader.new.total ≡ reader.old.total }
 {
-    match opcode {
-        0x01 => wait(reader),
-        0x02 => until(reader),
-        0x03 => wait_contact(reader),
-        0x04 => commit_in(reader),
-        0x05 => commit_at(reader),
-        0x06 => Ok(Instr::Join),
-        0x07 => Ok(Instr::End),
-        0x08 => Ok(Instr::Settle),
-        _ => Err(RecordFault::Field(at)),
+    let place = reader.place();
+    let byte = reader.byte()?;
+    match Opcode::try_from(byte) {
+        Ok(opcode) => Ok(opcode),
+        Err(UnknownOpcode) => Err(RecordFault::Field(place)),
     }
 }
 
-/// An instruction of testing or jumping, after its opcode, which stands at `at`.
-#[tactic(auto, unfolding(crate::specs::Parts::jump_of))]
-fn jumping(reader: &mut Reader, at: usize, opcode: u8) -> Result<Instr, RecordFault>
-    ensures read { Takes (jump_of reader.old.total at opcode reader.old.rest) result reader.new }
-    ensures total { reader.new.total ≡ reader.old.total }
-{
-    match opcode {
-        0x20 => test(reader),
-        0x21 => jump(reader),
-        0x22 => set(reader),
-        0x23 => loop_back(reader),
-        _ => Err(RecordFault::Field(at)),
-    }
-}
-
-/// An instruction, after its opcode, which stands at `at`.
+/// An instruction, after its opcode.
 #[tactic(auto, unfolding(crate::specs::Parts::instr_of))]
-fn instr(reader: &mut Reader, at: usize, opcode: u8) -> Result<Instr, RecordFault>
-    ensures read { Takes (instr_of reader.old.total at opcode reader.old.rest) result reader.new }
+fn instr_of(reader: &mut Reader, opcode: Opcode) -> Result<Instr, RecordFault>
+    ensures read { Takes (instr_of reader.old.total opcode reader.old.rest) result reader.new }
     ensures total { reader.new.total ≡ reader.old.total }
 {
-    if opcode < 0x10 {
-        timing(reader, at, opcode)
-    } else if opcode < 0x20 {
-        let edit = edit(reader, at, opcode)?;
-        Ok(Instr::Edit(edit))
-    } else {
-        jumping(reader, at, opcode)
+    match opcode {
+        Opcode::Wait => wait(reader),
+        Opcode::Until => until(reader),
+        Opcode::WaitContact => wait_contact(reader),
+        Opcode::CommitIn => commit_in(reader),
+        Opcode::CommitAt => commit_at(reader),
+        Opcode::Join => Ok(Instr::Join),
+        Opcode::End => Ok(Instr::End),
+        Opcode::Settle => Ok(Instr::Settle),
+        Opcode::AddSub => Ok(Instr::Edit(add_sub(reader)?)),
+        Opcode::DropSub => Ok(Instr::Edit(drop_sub(reader)?)),
+        Opcode::MoveSub => Ok(Instr::Edit(move_sub(reader)?)),
+        Opcode::RateSub => Ok(Instr::Edit(rate_sub(reader)?)),
+        Opcode::AddService => Ok(Instr::Edit(add_service(reader)?)),
+        Opcode::DropService => Ok(Instr::Edit(drop_service(reader)?)),
+        Opcode::AddComponent => Ok(Instr::Edit(add_component(reader)?)),
+        Opcode::DropComponent => Ok(Instr::Edit(drop_component(reader)?)),
+        Opcode::AddPacket => Ok(Instr::Edit(add_packet(reader)?)),
+        Opcode::DropPacket => Ok(Instr::Edit(drop_packet(reader)?)),
+        Opcode::Test => test(reader),
+        Opcode::Jump => jump(reader),
+        Opcode::Set => set(reader),
+        Opcode::Loop => loop_back(reader),
     }
+}
+
+/// An instruction.
+#[tactic(auto, unfolding(crate::specs::Parts::instr_from))]
+fn instr(reader: &mut Reader) -> Result<Instr, RecordFault>
+    ensures read { Takes (instr_from reader.old.total reader.old.rest) result reader.new }
+    ensures total { reader.new.total ≡ reader.old.total }
+{
+    let opcode = opcode(reader)?;
+    instr_of(reader, opcode)
 }
 
 /// A line.
-#[tactic(auto, unfolding(crate::specs::Parts::line_at))]
+#[tactic(auto, unfolding(crate::specs::Parts::line_from))]
 pub(crate) fn line(reader: &mut Reader) -> Result<Line, RecordFault>
-    ensures read { Takes (line_at reader.old.total reader.old.rest) result reader.new }
+    ensures read { Takes (line_from reader.old.total reader.old.rest) result reader.new }
     ensures total { reader.new.total ≡ reader.old.total }
 {
     let number = reader.word()?;
-    let at = reader.place();
-    let opcode = reader.byte()?;
-    let instr = instr(reader, at, opcode)?;
+    let instr = instr(reader)?;
     Ok(Line { number, instr })
 }
