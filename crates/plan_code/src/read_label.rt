@@ -51,7 +51,8 @@ fn place_from(reader: &mut Reader, low: u32) -> Result<u16, RecordFault>
 #[tactic(auto, unfolding(crate::specs::Parts::label_from))]
 pub(crate) fn label(reader: &mut Reader, configs: u16, low: u32) -> Result<Label, RecordFault>
     requires { 1 ≤ configs }
-    ensures read { Takes (label_from reader.old.total configs low reader.old.rest) result reader.new }
+    ensures read { Takes (label_from reader.old.total configs low reader.old.rest) result
+        reader.new }
     ensures total { reader.new.total ≡ reader.old.total }
 {
     let pc = place_from(reader, low)?;
