@@ -1,9 +1,11 @@
 -- The table of configurations grows at its end.
-use Rattle.std.proofs.Common.{◌≡◌, ◌≢◌, ℕ, zero, suc, ◌+◌, ◌<◌, ◌≤◌, ◌⊎◌, List, [], ◌∷◌, ◌++◌, length, Some, refl, sym, ap, ◌∙◌, subst, arith, inl, inr, get_or, drop, drop-cons, Contains, add-one, append_assoc, append-nil}
-use Rattle.std.proofs.lemmas.List.{drop_all}
+use Rattle.std.proofs.Common.{◌≡◌, ◌≢◌, ℕ, zero, suc, ◌+◌, ◌<◌, ◌≤◌, ◌⊎◌, List, [], ◌∷◌, ◌++◌, length, map, Some, refl, sym, ap, ◌∙◌, subst, arith, inl, inr, get_or, drop, drop-cons, Contains, add-one, append_assoc, append-nil}
+use Rattle.std.proofs.lemmas.List.{drop_all, length-map}
 use Rattle.std.specs.Prelude.{slice_get, slice_index}
 use Rattle.std.proofs.lemmas.List.Elements.{Contains-push_cases}
-use Rattle.std.proofs.lemmas.Option.{slice_get_within, slice_get-get_or}
+use Rattle.std.proofs.lemmas.Option.{slice_get_within, slice_get-get_or, slice_get-map}
+use Rattle.std.specs.Option.{option_map}
+use Rattle.script_compiler.specs.Fingerprint.{print_of}
 use Rattle.mux_config.specs.Configuration.{Configuration}
 use Rattle.plan_code.specs.declared.label.Label.{Label}
 use Rattle.script_scheme.specs.declared.flow.Mark.{Mark}
@@ -30,13 +32,10 @@ pub last_new : (c : Configuration) (table new : List Configuration) (i : ℕ) �
 last_new c table new i e f = ap (λ xs. slice_get xs i) f ∙ ap (λ n. slice_get (table ++ c ∷ []) n) e ∙ stands_last table c
 
 -- not among so many
-pub none_more : (xs : List Configuration) (k : ℕ) (x c : Configuration) → x ≡ get_or xs k x → k < length xs → (x ≡ c → ⊥) → ((i : ℕ) → i < k → slice_get xs i ≢ Some c) → (i : ℕ) → i < k + 1 → slice_get xs i ≢ Some c
-none_more xs k x c is lt differs before i le e = elim (below i k (omega (arith, le))) [
+none_at : (xs : List Configuration) (k : ℕ) (c : Configuration) → slice_get xs k ≢ Some c → ((i : ℕ) → i < k → slice_get xs i ≢ Some c) → (i : ℕ) → i < k + 1 → slice_get xs i ≢ Some c
+none_at xs k c differs before i le e = elim (below i k (omega (arith, le))) [
   | inl less ↦ before i less e
-  | inr same ↦
-      let here : Some (get_or xs k x) ≡ Some c = sym (slice_get-get_or xs k x lt) ∙ ap (λ n. slice_get xs n) (sym same) ∙ e in
-      let h : get_or xs k x ≡ c = cc in
-      differs (is ∙ h)
+  | inr same ↦ differs (ap (λ n. slice_get xs n) (sym same) ∙ e)
 ]
   where
     below : (i k : ℕ) → i ≤ k → (i < k) ⊎ (i ≡ k)
@@ -44,6 +43,24 @@ none_more xs k x c is lt differs before i le e = elim (below i k (omega (arith, 
     below zero (suc k) le = inl (omega arith)
     below (suc i) zero le = absurd (omega (arith, le))
     below (suc i) (suc k) le = elim (below i k (omega (arith, le))) [ inl less ↦ inl (omega (arith, less)) | inr same ↦ inr (ap (λ n. suc n) same) ]
+
+pub none_more : (xs : List Configuration) (k : ℕ) (x c : Configuration) → x ≡ get_or xs k x → k < length xs → (x ≡ c → ⊥) → ((i : ℕ) → i < k → slice_get xs i ≢ Some c) → (i : ℕ) → i < k + 1 → slice_get xs i ≢ Some c
+none_more xs k x c is lt differs = none_at xs k c (λ e.
+    let here : Some (get_or xs k x) ≡ Some c = sym (slice_get-get_or xs k x lt) ∙ e in
+    let h : get_or xs k x ≡ c = cc in
+    differs (is ∙ h))
+
+-- a configuration does not stand where another print does
+pub none_by_print : (xs : List Configuration) (prints : List ℕ) (k print : ℕ) (c : Configuration) → prints ≡ map print_of xs → print ≡ print_of c → k < length prints → (get_or prints k 0 ≡ print → ⊥)
+    → ((i : ℕ) → i < k → slice_get xs i ≢ Some c) → (i : ℕ) → i < k + 1 → slice_get xs i ≢ Some c
+none_by_print xs prints k print c all one lt differs = none_at xs k c (λ e.
+    let here : slice_get prints k ≡ option_map print_of (slice_get xs k) = ap (λ ps. slice_get ps k) all ∙ slice_get-map print_of xs k in
+    let there : Some (get_or prints k 0) ≡ Some (print_of c) = sym (slice_get-get_or prints k 0 lt) ∙ here ∙ ap (option_map print_of) e in
+    let h : get_or prints k 0 ≡ print_of c = cc in
+    differs (h ∙ sym one))
+
+pub as_many : (xs : List Configuration) (prints : List ℕ) → prints ≡ map print_of xs → length prints ≡ length xs
+as_many xs prints all = ap length all ∙ length-map xs print_of
 
 pub none_of_all : (xs : List Configuration) (k : ℕ) (c : Configuration) → length xs ≤ k → ((i : ℕ) → i < k → slice_get xs i ≢ Some c) → (i : ℕ) → slice_get xs i ≢ Some c
 none_of_all xs k c le before i e = let lt = slice_get_within xs i c e in before i (omega (arith, le, lt)) e

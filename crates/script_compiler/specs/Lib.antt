@@ -2,3 +2,4 @@ pub mod Refusals
 pub mod Laying
 pub mod Longest
 pub mod Room
+pub mod Fingerprint

@@ -21,6 +21,7 @@ use crate::fault::CompileFault;
 use crate::labels::labels_of;
 use crate::needs::{first_over, needs};
 use crate::opening::{built, test};
+use crate::table::ConfigTable;
 use crate::work::{Work, refused};
 use mux_config::Config;
 use plan_code::{Code, Line, Plan};
@@ -86,7 +87,7 @@ fn lay(alloc: Global, plan: &Plan, script: &Script, config: &Config) -> Result<W
     let mut work = Work {
         lines: Vec::new(alloc),
         marks: Vec::new(alloc),
-        configs: Vec::new(alloc),
+        configs: ConfigTable::new(alloc),
         now: Spot {
             flow: Flow::opening(config),
             labelled: true,

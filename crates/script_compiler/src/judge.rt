@@ -12,6 +12,7 @@ ghost use Rattle.script_scheme.specs.Scheme.{known_at, flow_of, moved, instr_of}
 use crate::fault::CompileFault;
 use fib_carousel::pages;
 use mux_config::{Config, Edit, Store, soundness};
+use mux_tables::Tables;
 use plan_code::limits::COUNTS;
 use plan_code::{Delay, Instr, Plan, Swap};
 use plan_verifier::Cause;
@@ -86,7 +87,7 @@ fn test_change(plan: &Plan, flow: &Flow) -> Result<(), Cause>
     ensures { IsOk result ↔ (IsSound flow.now.next × (flow.now.next ≢ flow.now.current)
         × HasRoom plan.now (known_at flow.now)) }
 {
-    if let Err(fault) = soundness(&flow.next) {
+    if let Err(fault) = soundness(&Tables::from_config(&flow.next)) {
         return Err(Cause::Config(fault));
     }
     if flow.next.same(&flow.current) {

@@ -10,7 +10,7 @@ ghost use Rattle.script_compiler.specs.declared.fault.CompileFault.TheVariants.{
 
 use crate::fault::CompileFault;
 use crate::needs::at;
-use crate::table::index_of;
+use crate::table::{ConfigTable, index_of};
 use mux_config::Config;
 use plan_code::{CounterId, Counters, Label};
 use script_scheme::Mark;
@@ -39,7 +39,7 @@ fn first_counters(count: u8) -> Option<Counters>
 }
 
 /// The label that stands at a mark.
-fn label_of(mark: &Mark, needs: &[u16], configs: &mut Vec<Config>) -> Result<Label, CompileFault>
+fn label_of(mark: &Mark, needs: &[u16], configs: &mut ConfigTable) -> Result<Label, CompileFault>
     requires room { length configs.old.items ≤ 256 }
     requires bytes { (pc : ℕ) → slice_index needs.now pc ≤ 255 }
     ensures room { OnOk result (length configs.new.items ≤ 256) }
@@ -99,7 +99,7 @@ pub(crate) fn labels_of(
     ensures limited { IfErr result (λ e. e ≡ Limit → IsDeepAtMost 8 marks.now
         → HasRoomFor [] (named_by marks.now) → ⊥) }
 {
-    let mut configs = Vec::new(alloc);
+    let mut configs = ConfigTable::new(alloc);
     let mut labels = Vec::new(alloc);
     for mark in marks {
         let label = match label_of(mark, needs, &mut configs) {
@@ -110,5 +110,8 @@ pub(crate) fn labels_of(
             return Err(fault);
         }
     }
-    Ok(Labels { configs, labels })
+    Ok(Labels {
+        configs: configs.into_configs(),
+        labels,
+    })
 }

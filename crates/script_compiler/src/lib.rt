@@ -10,6 +10,7 @@ pub mod compiler;
 mod cost;
 mod falls;
 pub mod fault;
+mod fingerprint;
 mod judge;
 mod labels;
 mod merge;

@@ -1,25 +1,104 @@
 //! The table of configurations that labels name, each content once.
 
-ghost use Rattle.std.specs.Prelude.{◌≡◌, ◌≢◌, ◌≤◌, ◌<◌, ℕ, [], ◌∷◌, length, slice_get, Some, None, OnOk, IfOk, IfErr, IfSome};
+ghost use Rattle.std.specs.Prelude.{◌≡◌, ◌≢◌, ◌≤◌, ◌<◌, ℕ, [], ◌∷◌, ◌++◌, length, map, slice_get, Some, None, OnOk, IfOk, IfErr, IfSome};
 ghost use Rattle.script_scheme.specs.Compiled.{Added};
+ghost use Rattle.script_compiler.specs.Fingerprint.{print_of};
 ghost use Rattle.script_compiler.specs.Laying.{Grows};
 ghost use Rattle.script_compiler.specs.Refusals.{IsRefusal};
 ghost use Rattle.script_compiler.specs.Room.{HasRoomFor};
-ghost use Rattle.script_compiler.specs.declared.fault.CompileFault.TheVariants.{Limit};
+ghost use Rattle.script_compiler.specs.declared.fault.CompileFault.TheVariants.{Limit, Memory};
 
 use crate::fault::CompileFault;
+use crate::fingerprint::print_of;
 use mux_config::{Config, Store};
 use plan_code::limits::MOST_CONFIGURATIONS;
+use std::alloc::Global;
+use std::marker::Model;
 
-/// Where a configuration stands in the table; None where it does not.
-fn find(table: &[Config], config: &Config) -> Option<usize>
+/// A table of configurations. Contracts see the configurations.
+#[derive(Drop)]
+pub(crate) struct ConfigTable {
+    configs: Vec<Config>,
+    /// The fingerprint of each, so that a search looks at the parts of few.
+    prints: Vec<u64>,
+}
+
+impl Model for ConfigTable {
+    ghost use Rattle.std.specs.Prelude.{◌≡◌, map};
+    ghost use Rattle.script_compiler.specs.Fingerprint.{Listed, print_of};
+
+    ghost Value = { Listed };
+
+    ghost view = { λ t. record { items = t.configs.items } };
+
+    ghost invariant = { λ t. t.prints.items ≡ map print_of t.configs.items };
+}
+
+impl ConfigTable {
+    /// No configuration.
+    pub(crate) fn new(alloc: Global) -> ConfigTable
+        ensures { result.items ≡ [] }
+    {
+        ConfigTable {
+            configs: Vec::new(alloc),
+            prints: Vec::new(alloc),
+        }
+    }
+
+    /// How many configurations there are.
+    pub(crate) fn len(&self) -> usize
+        ensures { result ≡ length self.now.items }
+    {
+        self.configs.len()
+    }
+
+    /// The configurations.
+    pub(crate) fn into_configs(self) -> Vec<Config>
+        ensures { result.items ≡ self.items }
+    {
+        self.configs
+    }
+
+    /// Where a configuration of this fingerprint stands; None where it does not.
+    fn find(&self, print: u64, config: &Config) -> Option<usize>
+        requires { print ≡ print_of config.now }
+        ensures within { IfSome result (λ i. i < length self.now.items) }
+        ensures some { IfSome result (λ i. slice_get self.now.items i ≡ Some config.now) }
+        ensures none { result ≡ None → (i : ℕ) → slice_get self.now.items i ≢ Some config.now }
+    {
+        find(&self.prints, &self.configs, print, config)
+    }
+
+    /// One configuration more, of this fingerprint.
+    fn add(&mut self, print: u64, config: &Config) -> Result<(), CompileFault>
+        requires { print ≡ print_of config.now }
+        ensures added { OnOk result (self.new.items ≡ self.old.items ++ config.now ∷ []) }
+        ensures memory { IfErr result (λ e. e ≡ Memory) }
+    {
+        if self.prints.push(print).is_err() {
+            return Err(CompileFault::Memory);
+        }
+        if self.configs.push(Config::from_config(config)).is_err() {
+            self.prints.pop();
+            return Err(CompileFault::Memory);
+        }
+        Ok(())
+    }
+}
+
+/// Where a configuration stands among others, by their fingerprints; None where it does not.
+fn find(prints: &[u64], table: &[Config], print: u64, config: &Config) -> Option<usize>
+    requires prints { prints.now ≡ map print_of table.now }
+    requires print { print ≡ print_of config.now }
     ensures within { IfSome result (λ i. i < length table.now) }
     ensures some { IfSome result (λ i. slice_get table.now i ≡ Some config.now) }
     ensures none { result ≡ None → (i : ℕ) → slice_get table.now i ≢ Some config.now }
 {
-    for (index, other) in table.iter().enumerate() {
-        if other.same(config) {
-            return Some(index);
+    for (index, other) in prints.iter().enumerate() {
+        if *other == print {
+            if table[index].same(config) {
+                return Some(index);
+            }
         }
     }
     None
@@ -30,7 +109,7 @@ fn find(table: &[Config], config: &Config) -> Option<usize>
 /// # Errors
 ///
 /// `Limit` where the table is full, `Memory`.
-pub(crate) fn index_of(table: &mut Vec<Config>, config: &Config) -> Result<u16, CompileFault>
+pub(crate) fn index_of(table: &mut ConfigTable, config: &Config) -> Result<u16, CompileFault>
     requires { length table.old.items ≤ 256 }
     ensures room { OnOk result (length table.new.items ≤ 256) }
     ensures added { OnOk result (Added config.now table.old.items table.new.items) }
@@ -40,26 +119,31 @@ pub(crate) fn index_of(table: &mut Vec<Config>, config: &Config) -> Result<u16, 
     ensures limited { IfErr result (λ e. e ≡ Limit
         → HasRoomFor table.old.items (config.now ∷ []) → ⊥) }
 {
-    if let Some(index) = find(table, config) {
+    let print = print_of(config);
+    if let Some(index) = table.find(print, config) {
         return Ok(index as u16);
     }
     let index = table.len();
     if index >= usize::from(MOST_CONFIGURATIONS) {
         return Err(CompileFault::Limit);
     }
-    if table.push(Config::from_config(config)).is_err() {
-        return Err(CompileFault::Memory);
+    if let Err(fault) = table.add(print, config) {
+        return Err(fault);
     }
     Ok(index as u16)
 }
 
-/// How many configurations the table would have with these two.
-pub(crate) fn size_with(table: &[Config], first: &Config, second: &Config) -> usize {
+/// How many configurations the table would have with these two, or two more than it has where there is room for two.
+pub(crate) fn size_with(table: &ConfigTable, first: &Config, second: &Config) -> usize {
+    let most = table.len().saturating_add(2);
+    if most <= usize::from(MOST_CONFIGURATIONS) {
+        return most;
+    }
     let mut size = table.len();
-    if find(table, first).is_none() {
+    if table.find(print_of(first), first).is_none() {
         size = size.saturating_add(1);
     }
-    if !second.same(first) && find(table, second).is_none() {
+    if !second.same(first) && table.find(print_of(second), second).is_none() {
         size = size.saturating_add(1);
     }
     size

@@ -14,8 +14,7 @@ ghost use Rattle.script_compiler.specs.Laying.{Lays, Forks, ClosesIf, Turns, Goe
 use crate::fault::CompileFault;
 use crate::judge::{instr_of, judge};
 use crate::merge::{fits, meeting};
-use crate::table::{index_of, size_with};
-use mux_config::Config;
+use crate::table::{ConfigTable, index_of, size_with};
 use plan_code::limits::{MOST_CONFIGURATIONS, MOST_INSTRUCTIONS, MOST_LABELS};
 use plan_code::{ContactId, Instr, Line, Plan};
 use plan_verifier::Cause;
@@ -29,7 +28,7 @@ pub(crate) struct Work {
     /// The labels, without what they cost.
     pub(crate) marks: Vec<Mark>,
     /// The configurations that the labels name.
-    pub(crate) configs: Vec<Config>,
+    pub(crate) configs: ConfigTable,
     pub(crate) now: Spot,
     /// What is known where branches and loops come back to.
     pub(crate) saved: Vec<Spot>,
