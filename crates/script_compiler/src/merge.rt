@@ -1,9 +1,10 @@
 //! Where two ways through a script meet.
 
-ghost use Rattle.std.specs.Prelude.{◌≡◌, ◌↔◌, min, max, IsTrue, IsSome, IfSome};
-ghost use Rattle.script_scheme.specs.Scheme.{latest, widest, telling, merged};
+ghost use Rattle.std.specs.Prelude.{◌≡◌, ◌↔◌, true, min, max, IsTrue};
+ghost use Rattle.script_scheme.specs.Scheme.{latest, widest, merged};
 ghost use Rattle.script_scheme.specs.Judged.{FitsFlow};
 
+use crate::judge::is_idle;
 use mux_config::Store;
 use plan_code::Swap;
 use script_scheme::Flow;
@@ -79,30 +80,42 @@ fn widest(first: Swap, second: Swap) -> Swap
     }
 }
 
-/// The way that says which configurations are known where two ways meet.
-fn telling(first: &Flow, second: &Flow) -> Flow
-    ensures { result ≡ telling first.now.pending first.now second.now }
+/// Whether the one's configurations are what the other's will be after its swap.
+fn has_swapped(flow: &Flow, other: &Flow) -> bool
+    ensures { IsTrue result ↔ ((flow.now.current ≡ other.now.next)
+        × (flow.now.next ≡ other.now.next)) }
 {
-    match first.pending {
-        Swap::Idle => second.copied(),
-        Swap::Within(_, _) => first.copied(),
-        Swap::Perhaps(_) => first.copied(),
+    flow.current.same(&other.next) && flow.next.same(&other.next)
+}
+
+/// Whether two ways can meet: each fits what is known where they do.
+fn agree(first: &Flow, second: &Flow) -> bool
+    ensures { IsTrue result ↔ (FitsFlow first.now (merged first.now second.now)
+        × FitsFlow second.now (merged first.now second.now)) }
+{
+    match (first.pending, second.pending) {
+        (Swap::Idle, Swap::Idle) => has_same_configurations(first, second),
+        (Swap::Idle, Swap::Within(_, _)) => has_swapped(first, second),
+        (Swap::Idle, Swap::Perhaps(_)) => has_swapped(first, second),
+        (Swap::Within(_, _), Swap::Idle) => has_swapped(second, first),
+        (Swap::Perhaps(_), Swap::Idle) => has_swapped(second, first),
+        (_, _) => has_same_configurations(second, first),
     }
 }
 
-/// What is known where two ways meet; None where one of them does not fit it.
-pub(crate) fn meeting(first: &Flow, second: &Flow) -> Option<Flow>
-    ensures met { IfSome result (λ f. f ≡ merged first.now second.now) }
-    ensures agree { IsSome result ↔ (FitsFlow first.now (merged first.now second.now)
-        × FitsFlow second.now (merged first.now second.now)) }
+/// Becomes what is known where this way and another meet; false where one of them does not fit it.
+pub(crate) fn meet(first: &mut Flow, second: &Flow) -> bool
+    ensures met { result ≡ true → first.new ≡ merged first.old second.now }
+    ensures agree { IsTrue result ↔ (FitsFlow first.old (merged first.old second.now)
+        × FitsFlow second.now (merged first.old second.now)) }
 {
-    let mut met = telling(first, second);
-    met.pending = widest(first.pending, second.pending);
-    if !fits(first, &met) {
-        return None;
+    if !agree(first, second) {
+        return false;
     }
-    if !fits(second, &met) {
-        return None;
+    let pending = widest(first.pending, second.pending);
+    if is_idle(first.pending) && !is_idle(second.pending) {
+        first.current.copy_from(&second.current);
     }
-    Some(met)
+    first.pending = pending;
+    true
 }

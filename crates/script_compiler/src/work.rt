@@ -13,7 +13,7 @@ ghost use Rattle.script_compiler.specs.Laying.{Lays, Forks, ClosesIf, Turns, Goe
 
 use crate::fault::CompileFault;
 use crate::judge::{instr_of, judge};
-use crate::merge::{fits, meeting};
+use crate::merge::{fits, meet};
 use crate::table::{ConfigTable, index_of, size_with};
 use plan_code::limits::{MOST_CONFIGURATIONS, MOST_INSTRUCTIONS, MOST_LABELS};
 use plan_code::{ContactId, Instr, Line, Plan};
@@ -289,13 +289,10 @@ impl Work {
             self.now.labelled = false;
             return self.mark();
         }
-        match meeting(&self.now.flow, &other.flow) {
-            None => Err(refused(line, Cause::Mismatch)),
-            Some(flow) => {
-                self.now.flow = flow;
-                self.mark()
-            }
+        if !meet(&mut self.now.flow, &other.flow) {
+            return Err(refused(line, Cause::Mismatch));
         }
+        self.mark()
     }
 
     /// The end of an `if` without `else`: its block's way, if it falls out, and the one past it meet.
