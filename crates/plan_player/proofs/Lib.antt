@@ -3,3 +3,4 @@ pub mod FrameFacts
 pub mod Delivering
 pub mod Places
 mod Vectors
+mod VectorsOfPhases

@@ -1,6 +1,6 @@
 -- What a player stands for and what a sink is given of a run, by a code that waits for a frame and ends: each definition
 -- where it holds, and where it fails.
-use Rattle.std.proofs.Common.{◌≡◌, ℕ, ◌+◌, List, [], ◌∷◌, ◌++◌, length, take, replicate, Some, None, true, refl, ap, arith}
+use Rattle.std.proofs.Common.{◌≡◌, ℕ, List, [], ◌∷◌, ◌++◌, length, take, replicate, Some, None, true, refl, ap, arith}
 use Rattle.std.proofs.lemmas.List.{length-append}
 use Rattle.mux_config.specs.Configuration.{nothing}
 use Rattle.fib_codec.specs.declared.modes.Mode.TheVariants.{I}
