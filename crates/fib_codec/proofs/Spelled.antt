@@ -1,11 +1,9 @@
 -- Bytes that are an entry in the grammar are spelled by an entry.
-use Rattle.std.proofs.Common.{◌≡◌, ◌⊎◌, inl, inr, ℕ, zero, suc, ◌+◌, ◌*◌, ◌/◌, ◌%◌, ◌<◌, ◌≤◌, Bool, true, false, cond, eqb, Option, Some, None, List, [], ◌∷◌, ◌++◌, length, refl, sym, ◌∙◌, ap, ap₂, subst, arith, eqb-true}
-use Rattle.std.specs.Prelude.{get_or, is_some, IfSome}
+use Rattle.std.proofs.Common.{◌≡◌, ◌⊎◌, inl, inr, ℕ, zero, suc, ◌+◌, ◌*◌, ◌/◌, ◌%◌, ◌<◌, Bool, true, false, cond, eqb, Option, Some, None, List, [], ◌∷◌, ◌++◌, length, refl, sym, ◌∙◌, ap, ap₂, arith, eqb-true}
+use Rattle.std.specs.Prelude.{is_some, IfSome}
 use Rattle.mux_config.specs.Configuration.{Each, IsSid}
-use Rattle.mux_config.specs.Entries.{EnsembleInformation}
 use Rattle.mux_config.specs.declared.numbers.Sid.{Sid}
 use Rattle.mux_config.specs.declared.numbers.Sid.TheVariants.{Short, Long}
-use Rattle.mux_config.specs.declared.entry.Entry.{Entry}
 use Rattle.mux_config.specs.declared.entry.Entry.TheVariants.{Ensemble as EnsembleOf, Sub as SubOf, Short as ShortOf, Service as ServiceOf, Packet as PacketOf}
 use Rattle.mux_config.specs.declared.entry.SubEntry.{SubEntry}
 use Rattle.mux_config.specs.declared.entry.ShortEntry.{ShortEntry}
@@ -15,8 +13,8 @@ use Rattle.mux_config.specs.declared.entry.ComponentEntry.{ComponentEntry}
 use Rattle.mux_config.specs.declared.entry.ComponentEntry.TheVariants.{Sound, Stream, Other, Packet}
 use Rattle.byteorder.specs.Endian.{big_bytes}
 use Rattle.fib_codec.specs.declared.head.Head.{Head}
-use Rattle.fib_codec.specs.Ranges.{IsWithin, IsEnsembleInformation, IsSubEntry, IsShortEntry, IsServiceEntry, IsPacketEntry, IsComponentEntry}
-use Rattle.fib_codec.specs.Spelling.{bit_of, ensemble_bytes, sub_bytes, short_bytes, service_bytes, packet_bytes, component_word, components_bytes, occurrence_bytes, ca_org_bytes, sid_bytes, is_long_sid, entry_bytes, IsUnder}
+use Rattle.fib_codec.specs.Ranges.{IsEnsembleInformation, IsSubEntry, IsShortEntry, IsServiceEntry, IsPacketEntry, IsComponentEntry}
+use Rattle.fib_codec.specs.Spelling.{bit_of, ensemble_bytes, component_word, components_bytes, occurrence_bytes, ca_org_bytes, sid_bytes, is_long_sid}
 use Rattle.fib_codec.specs.Grammar.{ensemble_len, sub_len, service_len, packet_len, entry_len, IsEntry, IsCounted}
 use Rattle.fib_codec.specs.Laws.{IsByte, IsSpelled}
 

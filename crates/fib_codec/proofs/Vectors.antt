@@ -1,6 +1,6 @@
 -- Bytes that are in the grammar, and bytes that are not.
-use Rattle.std.proofs.Common.{◌≡◌, ℕ, ◌<◌, Bool, true, false, List, [], ◌∷◌, inl, inr, refl, arith}
-use Rattle.fib_codec.specs.Grammar.{Open, Other, IsEntry, AreEntries, IsCounted, IsBody, IsOther, IsFig, AreFigs, IsFib, is_open, is_next, is_long}
+use Rattle.std.proofs.Common.{◌≡◌, ℕ, true, false, List, [], ◌∷◌, inl, inr, refl, arith}
+use Rattle.fib_codec.specs.Grammar.{Other, IsEntry, AreEntries, IsCounted, IsFig, AreFigs, is_open}
 
 -- ensemble information without flags is 4 bytes, with a flag 5; the short form of a sub-channel 3, the long form 4;
 -- a service of one component 5 bytes, 7 with a 32-bit SId; a packet component 5, 7 with CAOrg

@@ -1,5 +1,5 @@
 -- Words of sixteen bits as two bytes, and as bits.
-use Rattle.std.proofs.Common.{◌≡◌, ℕ, zero, suc, ◌+◌, ◌-◌, ◌*◌, ◌/◌, ◌%◌, ◌^◌, ◌<◌, ◌≤◌, map, refl, replicate, List, [], ◌∷◌, ◌++◌, length, get_or, drop, take, sym, ◌∙◌, ap, ap₂, arith, subst, take_at, drop_at, length-append, pow-suc, length-take, append-nil, drop-cons, ◌↔◌, length-drop}
+use Rattle.std.proofs.Common.{◌≡◌, ℕ, zero, suc, ◌+◌, ◌-◌, ◌*◌, ◌/◌, ◌%◌, ◌^◌, ◌<◌, ◌≤◌, map, refl, replicate, List, [], ◌∷◌, ◌++◌, length, get_or, drop, take, sym, ◌∙◌, ap, ap₂, arith, subst, take_at, drop_at, length-append, pow-suc, length-take, length-take-le, append-nil, drop-cons, ◌↔◌, length-drop}
 use Rattle.std.proofs.lemmas.List.{drop_all, drop-drop, length-map}
 use Rattle.std.proofs.lemmas.Nat.Bits.{bit_at_cat_high, bit_at_lowest}
 use Rattle.std.specs.Int.{bit_at}
@@ -181,7 +181,27 @@ sealed_row row buf word whole fits bits written =
     ∙ ap (λ t. take 30 row ++ t) (append-nil (big_bytes 2 word))
     ∙ ap (λ w. take 30 row ++ big_bytes 2 w) (word_checked (take 30 row) word fits bits)
 
--- the same in a piece of a longer row
+-- the same over all bytes behind thirty
+pub sealed_end : (row buf : List ℕ) (word : ℕ) → length row ≡ 32 → word < 65536
+    → bits_of 16 word ≡ check_bits (take 30 row)
+    → buf ≡ word / 256 % 256 ∷ word % 256 ∷ drop 2 (take (length row - 30) (drop 30 row))
+    → put_mid 30 (length row - 30) row buf ≡ checked (take 30 row)
+sealed_end row buf word whole fits bits written =
+    let two : length row - 30 ≡ 2 = omega (arith, whole) in
+    let put : buf ≡ word / 256 % 256 ∷ word % 256 ∷ drop 2 (take 2 (drop 30 row)) =
+    written ∙ ap (λ n. word / 256 % 256 ∷ word % 256 ∷ drop 2 (take n (drop 30 row))) two in
+    ap (λ n. put_mid 30 n row buf) two ∙ sealed_row row buf word whole fits bits put
+
+-- thirty-two bytes written over a piece of a longer row
+pub piece_into : (offset : ℕ) (bytes piece is : List ℕ) → piece ≡ is
+    → put_mid offset (offset + 32 - offset) bytes piece ≡ take offset bytes ++ (is ++ drop (offset + 32) bytes)
+piece_into offset bytes piece is same =
+    let count : offset + 32 - offset ≡ 32 = omega arith in
+    let behind : drop (offset + 32 - offset) (drop offset bytes) ≡ drop (offset + 32) bytes =
+    ap (λ n. drop n (drop offset bytes)) count ∙ drop-drop 32 offset bytes in
+    ap₂ (λ xs ys. take offset bytes ++ (xs ++ ys)) same behind
+
+-- the same where they get their check word there
 pub sealed_into : (offset word : ℕ) (bytes row copied buf : List ℕ) → length row ≡ 32 → copied ≡ row → word < 65536
     → bits_of 16 word ≡ check_bits (take 30 row)
     → buf ≡ word / 256 % 256 ∷ word % 256 ∷ drop 2 (take (length copied - 30) (drop 30 copied))
@@ -189,16 +209,22 @@ pub sealed_into : (offset word : ℕ) (bytes row copied buf : List ℕ) → leng
     ≡ take offset bytes ++ (checked (take 30 row) ++ drop (offset + 32) bytes)
 sealed_into offset word bytes row copied buf whole same fits bits written =
     let long : length copied ≡ 32 = ap length same ∙ whole in
-    let two : length copied - 30 ≡ 2 = omega (arith, long) in
-    let count : offset + 32 - offset ≡ 32 = omega arith in
     let own : bits_of 16 word ≡ check_bits (take 30 copied) = bits ∙ ap (λ xs. check_bits (take 30 xs)) (sym same) in
-    let put : buf ≡ word / 256 % 256 ∷ word % 256 ∷ drop 2 (take 2 (drop 30 copied)) =
-    written ∙ ap (λ n. word / 256 % 256 ∷ word % 256 ∷ drop 2 (take n (drop 30 copied))) two in
-    let inner : put_mid 30 (length copied - 30) copied buf ≡ checked (take 30 row) =
-    ap (λ n. put_mid 30 n copied buf) two ∙ sealed_row copied buf word long fits own put ∙ ap (λ xs. checked (take 30 xs)) same in
-    let behind : drop (offset + 32 - offset) (drop offset bytes) ≡ drop (offset + 32) bytes =
-    ap (λ n. drop n (drop offset bytes)) count ∙ drop-drop 32 offset bytes in
-    ap₂ (λ xs ys. take offset bytes ++ (xs ++ ys)) inner behind
+    piece_into offset bytes _ (checked (take 30 row)) (sealed_end copied buf word long fits own written ∙ ap (λ xs. checked (take 30 xs)) same)
+
+-- thirty data bytes of a FIG and of what is left of others
+pub joined_len : (fig plain : List ℕ) → length fig ≤ 30 → length plain ≡ 32 → length (fig ++ take (30 - length fig) plain) ≡ 30
+joined_len fig plain few whole =
+    let cut : length (take (30 - length fig) plain) ≡ 30 - length fig = length-take-le (30 - length fig) plain (omega (arith, whole)) in
+    length-append fig (take (30 - length fig) plain) ∙ omega (arith, cut, few)
+
+pub joined_into : (offset : ℕ) (bytes fig plain joined rest sealed : List ℕ) → length fig ≤ 30 → length plain ≡ 32
+    → joined ≡ (fig ++ take (30 - length fig) plain) ++ rest → sealed ≡ checked (take 30 joined)
+    → put_mid offset (offset + 32 - offset) bytes sealed ≡ take offset bytes ++ (checked (fig ++ take (30 - length fig) plain) ++ drop (offset + 32) bytes)
+joined_into offset bytes fig plain joined rest sealed few whole is seals =
+    let thirty : List ℕ = fig ++ take (30 - length fig) plain in
+    piece_into offset bytes sealed (checked thirty)
+    (seals ∙ ap (λ xs. checked (take 30 xs)) is ∙ ap checked (take_at thirty rest 30 (joined_len fig plain few whole)))
 
 pub checked_len : (bytes : List ℕ) → length bytes ≡ 30 → length (checked bytes) ≡ 32
 checked_len bytes h = length-append bytes (big_bytes 2 (check_word bytes)) ∙ omega (arith, h)

@@ -1,6 +1,6 @@
 //! The FIBs of one frame.
 
-ghost use Rattle.std.specs.Prelude.{◌≡◌, ◌+◌, ◌*◌, ◌≤◌, ◌<◌, ◌++◌, ◌↔◌, length, take, drop, replicate, IsSome, IfSome};
+ghost use Rattle.std.specs.Prelude.{◌≡◌, ◌+◌, ◌-◌, ◌*◌, ◌≤◌, ◌<◌, ◌++◌, ◌↔◌, length, take, drop, replicate, IsSome, IfSome};
 ghost use Rattle.fib_codec.specs.Modes.{fib_count, with_fib};
 ghost use Rattle.fib_codec.specs.Heard.{fib_at};
 ghost use Rattle.fib_codec.specs.Spelling.{checked, filled};
@@ -66,6 +66,53 @@ fn write_sealed(bytes: &mut [u8], offset: usize, row: &[u8; 32])
     BigEndian::write_u16(&mut fib[30..], word);
 }
 
+/// Writes bytes over the front of a FIB, one by one: as many at once would have to wait for each of them to be stored.
+fn write_front<const LEN: usize>(fib: &mut [u8], fig: &[u8; LEN])
+    requires { LEN ≤ length fib.old }
+    ensures { fib.new ≡ fig.now ++ drop (length fig.now) fib.old }
+{
+    for place in 0..LEN {
+        fib[place] = fig[place];
+    }
+}
+
+/// Writes a FIG over the front of a FIB, and behind it as many bytes of another FIB as thirty data bytes have room for.
+fn join<const LEN: usize>(fib: &mut [u8], fig: &[u8; LEN], plain: &[u8; 32])
+    requires whole { length fib.old ≡ 32 }
+    requires few { LEN ≤ 30 }
+    ensures { fib.new ≡ (fig.now ++ take (30 - length fig.now) plain.now) ++ drop 30 fib.old }
+{
+    write_front(fib, fig);
+    fib[LEN..30].copy_from_slice(&plain[..30 - LEN]);
+}
+
+/// Writes the check word of the first thirty bytes of a FIB behind them.
+fn seal(fib: &mut [u8])
+    requires { length fib.old ≡ 32 }
+    ensures { fib.new ≡ checked (take 30 fib.old) }
+{
+    let word = crc16(&fib[..30]);
+    BigEndian::write_u16(&mut fib[30..], word);
+}
+
+/// Writes a FIB of a FIG and of what there is room for of another FIB over the 32 bytes from an offset on.
+fn write_joined<const LEN: usize>(
+    bytes: &mut [u8],
+    offset: usize,
+    fig: &[u8; LEN],
+    plain: &[u8; 32],
+)
+    requires within { offset + 32 ≤ length bytes.old }
+    requires few { LEN ≤ 30 }
+    ensures { bytes.new ≡ take offset bytes.old
+        ++ (checked (fig.now ++ take (30 - length fig.now) plain.now)
+        ++ drop (offset + 32) bytes.old) }
+{
+    let fib = &mut bytes[offset..offset + 32];
+    join(fib, fig, plain);
+    seal(fib);
+}
+
 impl FibFrame {
     /// A frame of this mode whose bytes are all 0, for FIBs to be written into.
     pub fn new(mode: Mode) -> FibFrame
@@ -97,6 +144,17 @@ impl FibFrame {
         ensures size { length self.new ≡ length self.old }
     {
         write_sealed(&mut self.bytes, 32 * index, fib.row());
+    }
+
+    /// Writes a FIB of a FIG and of as many bytes of another FIB as thirty data bytes have room for behind it, with
+    /// their check word, over the one at this index, from 0.
+    pub fn join_fib<const LEN: usize>(&mut self, index: usize, fig: &[u8; LEN], plain: &[u8; 32])
+        requires there { 32 * index + 32 ≤ length self.old }
+        requires few { LEN ≤ 30 }
+        ensures { self.new ≡ with_fib index
+            (checked (fig.now ++ take (30 - length fig.now) plain.now)) self.old }
+    {
+        write_joined(&mut self.bytes, 32 * index, fig, plain);
     }
 
     /// The bytes of all its FIBs, in order.

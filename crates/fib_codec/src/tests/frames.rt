@@ -2,8 +2,8 @@
 
 use super::begins;
 use crate::{
-    Bits, ComponentEntry, Ensemble, Entry, Few, Fib, Head, PacketEntry, ScId, ScTy, ServiceEntry,
-    Sid, SubEntry, SubId,
+    Bits, ComponentEntry, Ensemble, Entry, Few, Fib, FibFrame, Head, Mode, PacketEntry, ScId, ScTy,
+    ServiceEntry, Sid, SubEntry, SubId,
 };
 use std::test::Fail;
 
@@ -89,6 +89,25 @@ fn one_audio_service(rt: HostRuntime) -> Result<(), Fail> {
             0xc2, 0x21, 0x01, 0x3f, 0x06, 0xff, 0, 0, 0, 0, 0, 0, 0, 0, 0, 0, 0x23, 0x69,
         ]
     );
+    Ok(())
+}
+
+#[test]
+fn ensemble_information_before_the_figs_of_a_fib(rt: HostRuntime) -> Result<(), Fail> {
+    let mut fib = Fib::new();
+    put(&mut fib, head(false, 1), sub(1, 0, 2, 96))?;
+    put(&mut fib, head(false, 2), audio(1))?;
+    let mut frame = FibFrame::new(Mode::I);
+    frame.join_fib(1, &[0x05, 0x00, 0xe1, 0xc5, 0x00, 0x00], &fib.finish());
+    assert_eq!(rt;
+        frame.fib(1),
+        Some(&[
+            0x05, 0x00, 0xe1, 0xc5, 0x00, 0x00, 0x05, 0x01, 0x04, 0x00, 0x88, 0x60, 0x06, 0x02,
+            0xc2, 0x21, 0x01, 0x3f, 0x06, 0xff, 0, 0, 0, 0, 0, 0, 0, 0, 0, 0, 0x23, 0x69,
+        ])
+    );
+    assert_eq!(rt; frame.fib(0), Some(&[0u8; 32]));
+    assert_eq!(rt; frame.fib(2), Some(&[0u8; 32]));
     Ok(())
 }
 
