@@ -1,25 +1,25 @@
 //! A list of a few values, held without memory of its own.
 
-ghost use Rattle.std.specs.Prelude.{◌≡◌, ◌<◌, ◌≤◌, ◌++◌, ◌∷◌, [], ◌↔◌, length, IsTrue, option_copied, slice_get};
+ghost use Rattle.std.specs.Prelude.{◌≡◌, ◌+◌, ◌<◌, ◌≤◌, ◌++◌, ◌∷◌, [], ◌↔◌, length, take, IsTrue, option_copied, slice_get};
 ghost use Rattle.std.specs.List.{insert, remove};
 
-use arrayvec::ArrayVec;
 use std::marker::Model;
 
 /// A list of at most `CAP` values. Contracts see it as the list.
 #[derive(Drop)]
 pub struct Few<T: Drop, const CAP: usize> {
-    items: ArrayVec<T, CAP>,
+    items: [T; CAP],
+    len: usize,
 }
 
 impl<T: Drop, const CAP: usize> Model for Few<T, CAP> {
-    ghost use Rattle.std.specs.Prelude.{List, length, ◌≤◌};
+    ghost use Rattle.std.specs.Prelude.{◌≡◌, ◌≤◌, List, length, take};
 
     ghost Value = { List T };
 
-    ghost view = { λ f. f.items.items };
+    ghost view = { λ f. take f.len f.items };
 
-    ghost invariant = { λ f. length f.items.items ≤ CAP };
+    ghost invariant = { λ f. (f.len ≤ CAP) × (length f.items ≡ CAP) };
 }
 
 impl<T: Default + Drop, const CAP: usize> Few<T, CAP> {
@@ -28,7 +28,8 @@ impl<T: Default + Drop, const CAP: usize> Few<T, CAP> {
         ensures { result ≡ [] }
     {
         Few {
-            items: ArrayVec::new(),
+            items: Default::default(),
+            len: 0,
         }
     }
 }
@@ -39,7 +40,7 @@ impl<T: Drop, const CAP: usize> Few<T, CAP> {
         ensures value { result ≡ length self.now }
         ensures bound { result ≤ CAP }
     {
-        self.items.len()
+        self.len
     }
 
     /// Appends a value. The list must have room for it.
@@ -47,7 +48,9 @@ impl<T: Drop, const CAP: usize> Few<T, CAP> {
         requires { length self.old < CAP }
         ensures { self.new ≡ self.old ++ value ∷ [] }
     {
-        self.items.push(value);
+        let len = self.len;
+        self.items[len] = value;
+        self.len = len + 1;
     }
 
     /// The values in order.
@@ -55,30 +58,30 @@ impl<T: Drop, const CAP: usize> Few<T, CAP> {
         ensures value { result.now ≡ self.now }
         ensures bound { length result.now ≤ CAP }
     {
-        self.items.as_slice()
+        &self.items[..self.len]
     }
 
     /// The value at a place, counted from 0.
     pub fn get(&self, place: usize) -> Option<&T>
         ensures { option_copied result ≡ slice_get self.now place }
     {
-        self.items.as_slice().get(place)
+        self.as_slice().get(place)
     }
 
     /// Whether it holds `CAP` values.
     pub fn is_full(&self) -> bool
         ensures { IsTrue result ↔ (CAP ≤ length self.now) }
     {
-        self.items.len() >= CAP
+        self.len >= CAP
     }
 }
 
-impl<T: Default + Drop, const CAP: usize> Few<T, CAP> {
+impl<T: Copy + Drop, const CAP: usize> Few<T, CAP> {
     /// Lets go of every value.
     pub fn clear(&mut self)
         ensures { self.new ≡ [] }
     {
-        self.items.clear();
+        self.len = 0;
     }
 
     /// Takes in a value at a place, before the one that stands there; the later ones move up. The list must
@@ -88,7 +91,10 @@ impl<T: Default + Drop, const CAP: usize> Few<T, CAP> {
         requires room { length self.old < CAP }
         ensures { self.new ≡ insert self.old place value }
     {
-        self.items.insert(place, value);
+        let old = self.copied();
+        self.truncate(place);
+        self.push(value);
+        self.extend(&old.as_slice()[place..]);
     }
 
     /// Takes out the value at a place; the later ones move down.
@@ -96,19 +102,36 @@ impl<T: Default + Drop, const CAP: usize> Few<T, CAP> {
         requires { place < length self.old }
         ensures { self.new ≡ remove self.old place }
     {
-        self.items.remove(place);
+        let old = self.copied();
+        self.truncate(place);
+        self.extend(&old.as_slice()[place + 1..]);
     }
-}
 
-impl<T: Copy + Default + Drop, const CAP: usize> Few<T, CAP> {
+    /// Keeps so many of the first values.
+    fn truncate(&mut self, len: usize)
+        requires { len ≤ length self.old }
+        ensures { self.new ≡ take len self.old }
+    {
+        self.len = len;
+    }
+
+    /// Appends values, for which it has room.
+    fn extend(&mut self, values: &[T])
+        requires { length self.old + length values.now ≤ CAP }
+        ensures { self.new ≡ self.old ++ values.now }
+    {
+        for value in values {
+            self.push(*value);
+        }
+    }
+
     /// A copy of the list.
     pub fn copied(&self) -> Self
         ensures { result ≡ self.now }
     {
-        let mut copy = Few::new();
-        for value in self.items.as_slice() {
-            copy.push(*value);
+        Few {
+            items: self.items,
+            len: self.len,
         }
-        copy
     }
 }
