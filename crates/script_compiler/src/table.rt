@@ -21,6 +21,9 @@ pub(crate) struct ConfigTable {
     configs: Vec<Config>,
     /// The fingerprint of each, so that a search looks at the parts of few.
     prints: Vec<u64>,
+    /// The two places that were found last, where a search begins: mostly those of the current and of the next
+    /// configuration.
+    recent: [usize; 2],
 }
 
 impl Model for ConfigTable {
@@ -42,6 +45,7 @@ impl ConfigTable {
         ConfigTable {
             configs: Vec::new(alloc),
             prints: Vec::new(alloc),
+            recent: [0; 2],
         }
     }
 
@@ -59,29 +63,56 @@ impl ConfigTable {
         self.configs
     }
 
-    /// Where a configuration of this fingerprint stands; None where it does not.
-    fn find(&self, print: u64, config: &Config) -> Option<usize>
-        requires { print ≡ print_of config.now }
+    /// Where a configuration stands, if that is one of the places that were found last.
+    fn recall(&self, config: &Config) -> Option<usize>
+        ensures within { IfSome result (λ i. i < length self.now.items) }
+        ensures some { IfSome result (λ i. slice_get self.now.items i ≡ Some config.now) }
+    {
+        for place in self.recent {
+            if place < self.configs.len() {
+                if self.configs[place].same(config) {
+                    return Some(place);
+                }
+            }
+        }
+        None
+    }
+
+    /// Where a configuration stands; None where it does not.
+    fn find(&self, config: &Config) -> Option<usize>
         ensures within { IfSome result (λ i. i < length self.now.items) }
         ensures some { IfSome result (λ i. slice_get self.now.items i ≡ Some config.now) }
         ensures none { result ≡ None → (i : ℕ) → slice_get self.now.items i ≢ Some config.now }
     {
-        find(&self.prints, &self.configs, print, config)
+        if let Some(place) = self.recall(config) {
+            return Some(place);
+        }
+        find(&self.prints, &self.configs, print_of(config), config)
     }
 
-    /// One configuration more, of this fingerprint.
-    fn add(&mut self, print: u64, config: &Config) -> Result<(), CompileFault>
-        requires { print ≡ print_of config.now }
+    /// Notes that a place was found.
+    fn note(&mut self, place: usize)
+        ensures { self.new.items ≡ self.old.items }
+    {
+        if place != self.recent[0] && place != self.recent[1] {
+            self.recent = [self.recent[1], place];
+        }
+    }
+
+    /// One configuration more.
+    fn add(&mut self, config: &Config) -> Result<(), CompileFault>
         ensures added { OnOk result (self.new.items ≡ self.old.items ++ config.now ∷ []) }
         ensures memory { IfErr result (λ e. e ≡ Memory) }
     {
-        if self.prints.push(print).is_err() {
+        let place = self.configs.len();
+        if self.prints.push(print_of(config)).is_err() {
             return Err(CompileFault::Memory);
         }
         if self.configs.push(Config::from_config(config)).is_err() {
             self.prints.pop();
             return Err(CompileFault::Memory);
         }
+        self.note(place);
         Ok(())
     }
 }
@@ -119,15 +150,15 @@ pub(crate) fn index_of(table: &mut ConfigTable, config: &Config) -> Result<u16, 
     ensures limited { IfErr result (λ e. e ≡ Limit
         → HasRoomFor table.old.items (config.now ∷ []) → ⊥) }
 {
-    let print = print_of(config);
-    if let Some(index) = table.find(print, config) {
+    if let Some(index) = table.find(config) {
+        table.note(index);
         return Ok(index as u16);
     }
     let index = table.len();
     if index >= usize::from(MOST_CONFIGURATIONS) {
         return Err(CompileFault::Limit);
     }
-    if let Err(fault) = table.add(print, config) {
+    if let Err(fault) = table.add(config) {
         return Err(fault);
     }
     Ok(index as u16)
@@ -140,10 +171,10 @@ pub(crate) fn size_with(table: &ConfigTable, first: &Config, second: &Config) ->
         return most;
     }
     let mut size = table.len();
-    if table.find(print_of(first), first).is_none() {
+    if table.find(first).is_none() {
         size = size.saturating_add(1);
     }
-    if !second.same(first) && table.find(print_of(second), second).is_none() {
+    if !second.same(first) && table.find(second).is_none() {
         size = size.saturating_add(1);
     }
     size
