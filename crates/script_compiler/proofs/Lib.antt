@@ -10,6 +10,7 @@ mod Steps
 mod Tabling
 mod Whole
 mod Accepting
+mod Making
 mod Refusing
 mod Sound
 mod Connected

@@ -14,7 +14,6 @@ ghost use Rattle.plan_code.specs.Program.{IsProgram};
 ghost use Rattle.plan_verifier.specs.Typing.{IsTyped, pages_alone};
 ghost use Rattle.script_meaning.specs.Meaning.{PlaysAsItReads};
 
-use crate::accepted::test_typed;
 use crate::cost::first_round;
 use crate::falls::{all_fall, all_silent};
 use crate::fault::CompileFault;
@@ -136,12 +135,17 @@ fn test_costs(alloc: Global, lines: &[Line], needs: &[u16], budget: u8) -> Resul
     Err(refused(line_at(lines, pc), Cause::Cost))
 }
 
-/// The law of scripts, of a code that is a script's.
+/// The laws of scripts, of the code of one that is accepted: it is typed, and plays as the script reads.
 fn promise(script: &Script, code: &Code)
     requires formed { IsProgram code.now }
     requires code { IsCodeOf script.now code.now }
-    requires typed { IsTyped code.now }
-    ensures { PlaysAsItReads script.now code.now }
+    requires costs { CostsItsNeeds code.now }
+    requires accepted { IsAccepted script.now }
+    ensures code { IsCodeOf script.now code.now }
+    ensures costs { CostsItsNeeds code.now }
+    ensures accepted { IsAccepted script.now }
+    ensures typed { IsTyped code.now }
+    ensures plays { PlaysAsItReads script.now code.now }
 {
     laws::scripts();
 }
@@ -184,9 +188,6 @@ pub fn compile(alloc: Global, script: &Script) -> Result<Code, CompileFault>
     let costs = needs(alloc, &work.lines, plan.budget)?;
     test_costs(alloc, &work.lines, &costs, plan.budget)?;
     let made = labels_of(alloc, &work.marks, &costs)?;
-    if let Err(fault) = test_typed(alloc, plan, &made.configs, &made.labels, &work.lines) {
-        return Err(fault);
-    }
     match Code::new(plan, made.configs, made.labels, work.lines) {
         Some(code) => {
             promise(script, &code);

@@ -5,7 +5,6 @@
 //! saved in a vector. The costs of labels come last.
 #![tactic(auto)]
 
-mod accepted;
 pub mod compiler;
 mod cost;
 mod falls;

@@ -1,0 +1,61 @@
+-- What the parts of a code are made of.
+use Rattle.std.proofs.Common.{◌≡◌, ℕ, ◌+◌, ◌≤◌, List, [], refl, ap, ◌∙◌, subst, arith}
+use Rattle.std.specs.Prelude.{slice_index}
+use Rattle.mux_config.specs.Configuration.{Configuration, nothing}
+use Rattle.mux_config.specs.Sound.{IsSound}
+use Rattle.plan_code.specs.Program.{Program, IsProgram}
+use Rattle.plan_code.specs.declared.instr.Line.{Line}
+use Rattle.plan_code.specs.declared.label.Label.{Label}
+use Rattle.plan_code.specs.declared.plan.Plan.{Plan}
+use Rattle.plan_verifier.specs.Typing.{pages_alone}
+use Rattle.script_front.specs.Tree.{Tree}
+use Rattle.script_scheme.specs.declared.flow.Mark.{Mark}
+use Rattle.script_scheme.specs.Scheme.{all_places, marks_of}
+use Rattle.script_scheme.specs.Judged.{IsJudged}
+use Rattle.script_scheme.specs.Need.{IsWithin}
+use Rattle.script_scheme.specs.Compiled.{plan_of, body_of, beginning, opening_of, places_of, lines_of, instrs_of, nested, AreFine, Tabled, AreLabelsOf, IsCodeOf, CostsItsNeeds, IsAccepted}
+use Rattle.script_compiler.specs.Longest.{longest, Priced}
+use Rattle.script_compiler.proofs.Accepting.{is_accepted, is_code_of}
+use Rattle.script_compiler.proofs.Paths.{within_from}
+use Rattle.script_compiler.proofs.Tabling.{costs_needs}
+
+-- what is laid down of a script, the needs of its places within the budget, and the labels with their table
+pub record Parts (s : Tree) (plan : Plan) (config : Configuration) (lines : List Line) (marks : List Mark) (needs : List ℕ) (configs : List Configuration) (labels : List Label) : Type 0 where
+  pub plan_is : plan ≡ plan_of s
+  pub config_is : config ≡ opening_of s
+  pub laid : lines ≡ lines_of (all_places plan s.last_line (body_of s) (beginning config))
+  pub marked : marks ≡ marks_of 0 (all_places plan s.last_line (body_of s) (beginning config))
+  pub each : (pc : ℕ) → slice_index needs pc ≡ longest (instrs_of lines) (plan.budget + 1) pc
+  pub within : (pc : ℕ) → slice_index needs pc ≤ plan.budget
+  pub tabled : Tabled [] marks configs
+  pub labelled : AreLabelsOf configs marks labels
+  pub priced : Priced needs labels
+
+abbrev pub code_from : Plan → List Configuration → List Label → List Line → Program
+code_from plan configs labels lines = record { plan = plan; configurations = configs; labels = labels; lines = lines }
+
+module _ (s : Tree) (plan : Plan) (config : Configuration) (lines : List Line) (marks : List Mark) (needs : List ℕ) (configs : List Configuration) (labels : List Label) (p : Parts s plan config lines marks needs configs labels) where
+  pub places_are : all_places plan s.last_line (body_of s) (beginning config) ≡ places_of s
+  places_are = ap (λ (q : Plan). all_places q s.last_line (body_of s) (beginning config)) p.plan_is ∙ ap (λ x. all_places (plan_of s) s.last_line (body_of s) (beginning x)) p.config_is
+
+  pub lines_are : lines ≡ lines_of (places_of s)
+  lines_are = p.laid ∙ ap lines_of places_are
+
+  pub parts_code : IsCodeOf s (code_from plan configs labels lines)
+  parts_code = is_code_of s plan configs labels lines marks p.plan_is lines_are (p.marked ∙ ap (λ ps. marks_of 0 ps) places_are) p.tabled p.labelled
+
+  pub parts_cost : CostsItsNeeds (code_from plan configs labels lines)
+  parts_cost = costs_needs (code_from plan configs labels lines) lines labels needs plan.budget refl refl p.each p.within p.priced
+
+  pub parts_within : IsWithin s.header.budget (instrs_of (lines_of (places_of s)))
+  parts_within =
+      let all : IsWithin plan.budget (instrs_of lines) = within_from (instrs_of lines) plan.budget (λ pc. let h = p.within pc in let e = p.each pc in omega (arith, h, e)) in
+      subst (λ b. IsWithin b (instrs_of (lines_of (places_of s)))) (ap (λ (q : Plan). q.budget) p.plan_is) (subst (λ (ls : List Line). IsWithin plan.budget (instrs_of ls)) lines_are all)
+
+  -- where they are a code, the script is accepted
+  pub parts_accepted :
+      IsProgram (code_from plan configs labels lines) → AreFine s.items nothing → IsSound config → pages_alone plan config ≤ plan.period → IsJudged plan (body_of s) (beginning config) → nested (body_of s) ≤ 8 → IsAccepted s
+  parts_accepted formed fine sound period judged deep =
+      is_accepted s (code_from plan configs labels lines) formed parts_code fine (subst IsSound p.config_is sound)
+      (subst (λ (x : Configuration). pages_alone (plan_of s) x ≤ s.header.period) p.config_is (subst (λ (q : Plan). pages_alone q config ≤ q.period) p.plan_is period))
+      (subst (λ (x : Configuration). IsJudged (plan_of s) (body_of s) (beginning x)) p.config_is (subst (λ (q : Plan). IsJudged q (body_of s) (beginning config)) p.plan_is judged)) deep parts_within
