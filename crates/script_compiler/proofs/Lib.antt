@@ -10,7 +10,6 @@ mod Steps
 mod Tabling
 mod Whole
 mod Accepting
-mod Making
 mod Refusing
 mod Sound
 mod Connected
@@ -18,4 +17,7 @@ mod Labelled
 mod First
 mod Typed
 mod Rooms
+mod Spaces
+mod Fitting
 mod Deep
+mod Making

@@ -75,7 +75,7 @@ pub some_is : (g : Bool) (w : Work) → g ≡ is_some (way g w)
 some_is true w = refl
 some_is false w = refl
 
-head_is : (body : Block) (falls : Bool) (v w : Work) → falls ≡ falls_out body → w.now ≡ record { flow = v.now.flow; labelled = if falls then true else v.now.labelled } → w.now ≡ head body v.now
+pub head_is : (body : Block) (falls : Bool) (v w : Work) → falls ≡ falls_out body → w.now ≡ record { flow = v.now.flow; labelled = if falls then true else v.now.labelled } → w.now ≡ head body v.now
 head_is body falls v w ef n = n ∙ ap (λ b. let t : Spot = record { flow = v.now.flow; labelled = if b then true else v.now.labelled } in t) ef
 
 module _ (plan : Plan) (r line n : ℕ) (body rest : Block) (w0 w1 w2 w3 : Work) (f falls : Bool) where

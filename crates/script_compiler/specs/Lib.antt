@@ -3,3 +3,4 @@ pub mod Laying
 pub mod Longest
 pub mod Room
 pub mod Fingerprint
+pub mod Space

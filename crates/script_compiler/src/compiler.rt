@@ -9,7 +9,8 @@ ghost use Rattle.mux_config.specs.Configuration.{nothing};
 ghost use Rattle.mux_config.specs.Sound.{IsSound};
 ghost use Rattle.script_compiler.specs.Laying.{tables, lays_nothing};
 ghost use Rattle.script_compiler.specs.Refusals.{IsRefusal};
-ghost use Rattle.script_compiler.specs.declared.fault.CompileFault.TheVariants.{Memory};
+ghost use Rattle.script_compiler.specs.Space.{AreFew, AreFormed};
+ghost use Rattle.script_compiler.specs.declared.fault.CompileFault.TheVariants.{Limit, Memory};
 ghost use Rattle.plan_code.specs.Program.{IsProgram};
 ghost use Rattle.plan_verifier.specs.Typing.{IsTyped, pages_alone};
 ghost use Rattle.script_meaning.specs.Meaning.{PlaysAsItReads};
@@ -80,6 +81,10 @@ fn lay(alloc: Global, plan: &Plan, script: &Script, config: &Config) -> Result<W
     ensures repeats { IsOk result → nested (body_of script.now) ≤ 8 }
     ensures refused { IfErr result (λ e. IsRefusal e → IsJudged plan.now (body_of script.now)
         (beginning config.now) → ⊥) }
+    ensures limited { IfErr result (λ e. e ≡ Limit → IsJudged plan.now (body_of script.now)
+        (beginning config.now) → nested (body_of script.now) ≤ 8
+        → AreFew (all_places plan.now script.now.last_line (body_of script.now)
+        (beginning config.now)) → ⊥) }
 {
     let known = known_of(alloc, script.blocks())?;
     let silent = silent_of(alloc, script.blocks())?;
@@ -180,6 +185,8 @@ pub fn compile(alloc: Global, script: &Script) -> Result<Code, CompileFault>
     ensures typed { IfOk result (λ c. IsTyped c) }
     ensures plays { IfOk result (λ c. PlaysAsItReads script.now c) }
     ensures refused { IfErr result (λ e. IsRefusal e → IsAccepted script.now → ⊥) }
+    ensures limited { IfErr result (λ e. e ≡ Limit → IsAccepted script.now → AreFormed script.now
+        → ⊥) }
 {
     let plan = plan_of(script);
     let config = built(script.items())?;

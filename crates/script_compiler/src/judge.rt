@@ -1,12 +1,13 @@
 //! What is known after a statement that is one instruction, or why it is refused.
 
-ghost use Rattle.std.specs.Prelude.{◌≡◌, ◌≢◌, ◌↔◌, None, IsOk, IsTrue, OnOk};
+ghost use Rattle.std.specs.Prelude.{◌≡◌, ◌≢◌, ◌↔◌, None, IsOk, IfErr, IsTrue, OnOk};
 ghost use Rattle.mux_config.specs.Edits.{changed, edit_fault};
 ghost use Rattle.mux_config.specs.Sound.{IsSound};
 ghost use Rattle.plan_code.specs.Machine.{IsSwapCount};
 ghost use Rattle.plan_code.specs.declared.instr.Instr.TheVariants.{CommitIn, CommitAt};
 ghost use Rattle.plan_code.specs.declared.label.Swap.TheVariants.{Idle};
 ghost use Rattle.plan_verifier.specs.Typing.{pages_alone, swapped, waited, paused, perhaps_swapped, settled, HasRoom, IsCertain, IsSurelyPending, IsFine};
+ghost use Rattle.script_compiler.specs.declared.fault.CompileFault.TheVariants.{Limit};
 ghost use Rattle.script_scheme.specs.Scheme.{known_at, flow_of, moved, instr_of};
 
 use crate::fault::CompileFault;
@@ -240,6 +241,7 @@ fn step(plan: &Plan, act: Act, flow: &mut Flow) -> Result<(), Cause>
 pub(crate) fn judge(plan: &Plan, line: u16, act: Act, flow: &mut Flow) -> Result<(), CompileFault>
     ensures left { OnOk result (flow.new ≡ moved plan.now (instr_of act) flow.old) }
     ensures fine { IsOk result ↔ IsFine plan.now (instr_of act) (known_at flow.old) }
+    ensures unlimited { IfErr result (λ e. e ≢ Limit) }
 {
     match step(plan, act, flow) {
         Ok(()) => Ok(()),

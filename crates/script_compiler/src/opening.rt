@@ -1,11 +1,12 @@
 //! The configuration that a script begins with.
 
-ghost use Rattle.std.specs.Prelude.{◌≡◌, ◌≤◌, ◌↔◌, None, OnOk, IsOk, IfOk};
+ghost use Rattle.std.specs.Prelude.{◌≡◌, ◌≢◌, ◌≤◌, ◌↔◌, None, OnOk, IsOk, IfOk, IfErr};
 ghost use Rattle.mux_config.specs.Configuration.{nothing};
 ghost use Rattle.mux_config.specs.Edits.{changed, edit_fault};
 ghost use Rattle.mux_config.specs.Sound.{IsSound};
 ghost use Rattle.plan_verifier.specs.Typing.{pages_alone};
 ghost use Rattle.script_scheme.specs.Compiled.{with_items, AreFine};
+ghost use Rattle.script_compiler.specs.declared.fault.CompileFault.TheVariants.{Limit};
 
 use crate::fault::CompileFault;
 use crate::judge::pages_alone;
@@ -19,6 +20,7 @@ use script_front::Item;
 fn add(item: &Item, config: &mut Config) -> Result<(), CompileFault>
     ensures made { OnOk result (config.new ≡ changed item.now.edit config.old) }
     ensures fine { IsOk result ↔ (edit_fault item.now.edit config.old ≡ None) }
+    ensures unlimited { IfErr result (λ e. e ≢ Limit) }
 {
     if let Err(fault) = item.edit.apply(config) {
         return Err(refused(item.line, Cause::Edit(fault)));
@@ -30,6 +32,7 @@ fn add(item: &Item, config: &mut Config) -> Result<(), CompileFault>
 pub(crate) fn built(items: &[Item]) -> Result<Config, CompileFault>
     ensures made { IfOk result (λ c. c ≡ with_items items.now nothing) }
     ensures fine { IsOk result ↔ AreFine items.now nothing }
+    ensures unlimited { IfErr result (λ e. e ≢ Limit) }
 {
     let mut config = Config::empty();
     for item in items {
@@ -46,6 +49,7 @@ pub(crate) fn test(plan: &Plan, config: &Config, line: u16) -> Result<(), Compil
     ensures within { IsOk result → pages_alone plan.now config.now ≤ plan.now.period }
     ensures refused { IsSound config.now → pages_alone plan.now config.now ≤ plan.now.period
         → IsOk result }
+    ensures unlimited { IfErr result (λ e. e ≢ Limit) }
 {
     if let Err(fault) = soundness(config) {
         return Err(refused(line, Cause::Config(fault)));

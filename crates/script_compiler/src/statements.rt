@@ -6,6 +6,8 @@ ghost use Rattle.script_scheme.specs.Scheme.{falls_out};
 ghost use Rattle.script_scheme.specs.Judged.{IsJudged};
 ghost use Rattle.script_compiler.specs.Laying.{Left, tables, lays_nothing};
 ghost use Rattle.script_compiler.specs.Refusals.{IsRefusal};
+ghost use Rattle.script_compiler.specs.Space.{HasTable, CanLay};
+ghost use Rattle.script_compiler.specs.declared.fault.CompileFault.TheVariants.{Limit};
 
 use crate::falls::all_fall;
 use crate::fault::CompileFault;
@@ -43,12 +45,16 @@ impl Work {
         requires counters { counters ≤ 8 }
         requires known { known.now ≡ map falls_out (tables blocks.now) }
         requires silent { silent.now ≡ map lays_nothing (tables blocks.now) }
+        requires table { HasTable self.old }
         ensures left { IfOk result (λ f. Left plan.now counters
             (block_of (tables blocks.now) statements.now) self.old
             self.new f nothing) }
         ensures room { OnOk result (length self.new.lines.items ≤ 4096) }
         ensures refused { IfErr result (λ e. IsRefusal e → IsJudged plan.now
             (block_of (tables blocks.now) statements.now) self.old.now → ⊥) }
+        ensures table { OnOk result (HasTable self.new) }
+        ensures limited { IfErr result (λ e. e ≡ Limit → CanLay plan.now counters
+            (block_of (tables blocks.now) statements.now) self.old → ⊥) }
     {
         let mut goes_on = true;
         for statement in statements {
@@ -78,12 +84,16 @@ impl Work {
         requires counters { counters ≤ 8 }
         requires known { known.now ≡ map falls_out (tables blocks.now) }
         requires silent { silent.now ≡ map lays_nothing (tables blocks.now) }
+        requires table { HasTable self.old }
         ensures left { IfOk result (λ f. (rest : Block) → Left plan.now counters
             (before (tables blocks.now) statement.now rest) self.old
             self.new f rest) }
         ensures room { OnOk result (length self.new.lines.items ≤ 4096) }
         ensures refused { IfErr result (λ e. IsRefusal e → (rest : Block) → IsJudged plan.now
             (before (tables blocks.now) statement.now rest) self.old.now → ⊥) }
+        ensures table { OnOk result (HasTable self.new) }
+        ensures limited { IfErr result (λ e. e ≡ Limit → (rest : Block) → CanLay plan.now
+            counters (before (tables blocks.now) statement.now rest) self.old → ⊥) }
     {
         match statement {
             Statement::Act { line, act } => self.act(plan, *line, counters, act),
@@ -151,12 +161,17 @@ impl Work {
         requires counters { counters ≤ 8 }
         requires known { known.now ≡ map falls_out (tables blocks.now) }
         requires silent { silent.now ≡ map lays_nothing (tables blocks.now) }
+        requires table { HasTable self.old }
         ensures left { IfOk result (λ f. (rest : Block) → Left plan.now counters (when line
             contact (block_of (tables blocks.now) first.now) rest) self.old
             self.new f rest) }
         ensures room { OnOk result (length self.new.lines.items ≤ 4096) }
         ensures refused { IfErr result (λ e. IsRefusal e → (rest : Block) → IsJudged plan.now
             (when line contact (block_of (tables blocks.now) first.now) rest) self.old.now → ⊥) }
+        ensures table { OnOk result (HasTable self.new) }
+        ensures limited { IfErr result (λ e. e ≡ Limit → (rest : Block) → CanLay plan.now
+            counters (when line contact (block_of (tables blocks.now) first.now) rest) self.old
+            → ⊥) }
     {
         let at = self.lines.len();
         if let Err(fault) = self.fork(line, counters, Instr::Test { contact, target: 0 }) {
@@ -187,6 +202,7 @@ impl Work {
         requires counters { counters ≤ 8 }
         requires known { known.now ≡ map falls_out (tables blocks.now) }
         requires silent { silent.now ≡ map lays_nothing (tables blocks.now) }
+        requires table { HasTable self.old }
         ensures left { IfOk result (λ f. (rest : Block) → Left plan.now counters (either line
             contact (block_of (tables blocks.now) first.now) (block_of (tables blocks.now)
             second.now) rest) self.old
@@ -195,6 +211,10 @@ impl Work {
         ensures refused { IfErr result (λ e. IsRefusal e → (rest : Block) → IsJudged plan.now
             (either line contact (block_of (tables blocks.now) first.now)
             (block_of (tables blocks.now) second.now) rest) self.old.now → ⊥) }
+        ensures table { OnOk result (HasTable self.new) }
+        ensures limited { IfErr result (λ e. e ≡ Limit → (rest : Block) → CanLay plan.now
+            counters (either line contact (block_of (tables blocks.now) first.now)
+            (block_of (tables blocks.now) second.now) rest) self.old → ⊥) }
     {
         let at = self.lines.len();
         if let Err(fault) = self.fork(line, counters, Instr::Test { contact, target: 0 }) {
@@ -232,12 +252,17 @@ impl Work {
         requires counters { counters ≤ 8 }
         requires known { known.now ≡ map falls_out (tables blocks.now) }
         requires silent { silent.now ≡ map lays_nothing (tables blocks.now) }
+        requires table { HasTable self.old }
         ensures left { IfOk result (λ f. (rest : Block) → Left plan.now counters (repeat line
             times (block_of (tables blocks.now) body.now) rest) self.old
             self.new f rest) }
         ensures room { OnOk result (length self.new.lines.items ≤ 4096) }
         ensures refused { IfErr result (λ e. IsRefusal e → (rest : Block) → IsJudged plan.now
             (repeat line times (block_of (tables blocks.now) body.now) rest) self.old.now → ⊥) }
+        ensures table { OnOk result (HasTable self.new) }
+        ensures limited { IfErr result (λ e. e ≡ Limit → (rest : Block) → CanLay plan.now
+            counters (repeat line times (block_of (tables blocks.now) body.now) rest) self.old
+            → ⊥) }
     {
         let Some(counter) = CounterId::new(counters) else {
             return Err(CompileFault::Limit);
@@ -280,12 +305,16 @@ impl Work {
         requires counters { counters ≤ 8 }
         requires known { known.now ≡ map falls_out (tables blocks.now) }
         requires silent { silent.now ≡ map lays_nothing (tables blocks.now) }
+        requires table { HasTable self.old }
         ensures left { IfOk result (λ f. (rest : Block) → Left plan.now counters (forever line
             (block_of (tables blocks.now) body.now) rest) self.old
             self.new f rest) }
         ensures room { OnOk result (length self.new.lines.items ≤ 4096) }
         ensures refused { IfErr result (λ e. IsRefusal e → (rest : Block) → IsJudged plan.now
             (forever line (block_of (tables blocks.now) body.now) rest) self.old.now → ⊥) }
+        ensures table { OnOk result (HasTable self.new) }
+        ensures limited { IfErr result (λ e. e ≡ Limit → (rest : Block) → CanLay plan.now
+            counters (forever line (block_of (tables blocks.now) body.now) rest) self.old → ⊥) }
     {
         let target = self.lines.len() as u16;
         if let Err(fault) = self.enter(all_fall(known, body)) {

@@ -1,6 +1,6 @@
 //! The table of configurations that labels name, each content once.
 
-ghost use Rattle.std.specs.Prelude.{◌≡◌, ◌≢◌, ◌≤◌, ◌<◌, ℕ, [], ◌∷◌, ◌++◌, length, map, slice_get, Some, None, OnOk, IfOk, IfErr, IfSome};
+ghost use Rattle.std.specs.Prelude.{◌≡◌, ◌≢◌, ◌≤◌, ◌<◌, ℕ, [], ◌∷◌, ◌++◌, length, map, slice_get, false, Some, None, OnOk, IfOk, IfErr, IfSome};
 ghost use Rattle.script_scheme.specs.Compiled.{Added};
 ghost use Rattle.script_compiler.specs.Fingerprint.{print_of};
 ghost use Rattle.script_compiler.specs.Laying.{Grows};
@@ -164,18 +164,32 @@ pub(crate) fn index_of(table: &mut ConfigTable, config: &Config) -> Result<u16, 
     Ok(index as u16)
 }
 
-/// How many configurations the table would have with these two, or two more than it has where there is room for two.
-pub(crate) fn size_with(table: &ConfigTable, first: &Config, second: &Config) -> usize {
-    let most = table.len().saturating_add(2);
-    if most <= usize::from(MOST_CONFIGURATIONS) {
-        return most;
+/// Whether the table has room for a configuration, or has it.
+fn has_room_for(table: &ConfigTable, config: &Config) -> bool
+    ensures limited { result ≡ false → HasRoomFor table.now.items (config.now ∷ []) → ⊥ }
+{
+    if table.len() < usize::from(MOST_CONFIGURATIONS) {
+        return true;
     }
-    let mut size = table.len();
-    if table.find(first).is_none() {
-        size = size.saturating_add(1);
+    table.find(config).is_some()
+}
+
+/// Whether the table has room for those of these two that it does not have.
+pub(crate) fn has_room_for_both(table: &ConfigTable, first: &Config, second: &Config) -> bool
+    ensures limited { result ≡ false → HasRoomFor table.now.items (first.now ∷ second.now ∷ [])
+        → ⊥ }
+{
+    if table.len() <= usize::from(MOST_CONFIGURATIONS - 2) {
+        return true;
     }
-    if !second.same(first) && table.find(second).is_none() {
-        size = size.saturating_add(1);
+    if second.same(first) {
+        return has_room_for(table, first);
     }
-    size
+    if table.find(second).is_some() {
+        return has_room_for(table, first);
+    }
+    if table.find(first).is_some() {
+        return has_room_for(table, second);
+    }
+    false
 }

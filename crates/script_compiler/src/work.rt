@@ -1,21 +1,23 @@
 //! Code that is laid down, instruction by instruction, with what is known where it has come to.
 
-ghost use Rattle.std.specs.Prelude.{◌≡◌, ℕ, ◌+◌, ◌<◌, ◌≤◌, true, false, if◌then◌else◌, [], ◌∷◌, ◌++◌, length, slice_set, List, Option, Some, is_some, OnOk, IfOk, IfErr};
+ghost use Rattle.std.specs.Prelude.{◌≡◌, ◌≢◌, ℕ, ◌+◌, ◌<◌, ◌≤◌, true, false, if◌then◌else◌, [], ◌∷◌, ◌++◌, length, slice_set, List, Option, Some, is_some, OnOk, IfOk, IfErr};
 ghost use Rattle.plan_code.specs.declared.instr.Instr.{Instr};
 ghost use Rattle.plan_code.specs.declared.instr.Instr.TheVariants.{End};
 ghost use Rattle.script_scheme.specs.declared.flow.Spot.{Spot};
-ghost use Rattle.script_scheme.specs.Scheme.{past, at_label, known_at, moved, alone, onward, meet, marks_of, instr_of};
+ghost use Rattle.script_scheme.specs.Scheme.{Place, past, at_label, known_at, moved, alone, onward, meet, join, marks_of, instr_of};
 ghost use Rattle.script_scheme.specs.Judged.{WaysAgree, BranchesAgree, ComesRound};
 ghost use Rattle.plan_verifier.specs.Typing.{IsFine};
 ghost use Rattle.script_scheme.specs.Compiled.{lines_of};
 ghost use Rattle.script_compiler.specs.Refusals.{IsRefusal};
-ghost use Rattle.script_compiler.specs.Laying.{Lays, Forks, ClosesIf, Turns, GoesRound, Arrives, line_at, way, kept};
+ghost use Rattle.script_compiler.specs.Space.{HasSpace, HasTable, IsCovered, Covers};
+ghost use Rattle.script_compiler.specs.declared.fault.CompileFault.TheVariants.{Limit};
+ghost use Rattle.script_compiler.specs.Laying.{Lays, Forks, ClosesIf, Turns, GoesRound, Arrives, jumping, line_at, way, kept};
 
 use crate::fault::CompileFault;
 use crate::judge::{instr_of, judge};
 use crate::merge::{fits, meet};
-use crate::table::{ConfigTable, index_of, size_with};
-use plan_code::limits::{MOST_CONFIGURATIONS, MOST_INSTRUCTIONS, MOST_LABELS};
+use crate::table::{ConfigTable, has_room_for_both, index_of};
+use plan_code::limits::{MOST_INSTRUCTIONS, MOST_LABELS};
 use plan_code::{ContactId, Instr, Line, Plan};
 use plan_verifier::Cause;
 use script_front::Act;
@@ -35,7 +37,9 @@ pub(crate) struct Work {
 }
 
 /// A refusal at a line.
-pub(crate) fn refused(line: u16, cause: Cause) -> CompileFault {
+pub(crate) fn refused(line: u16, cause: Cause) -> CompileFault
+    ensures { result ≢ Limit }
+{
     CompileFault::Refused { line, cause }
 }
 
@@ -43,6 +47,7 @@ impl Work {
     /// Lays the label down that stands here, if one does. Its cost is found later.
     fn put_label(&mut self, counters: u8) -> Result<(), CompileFault>
         requires room { length self.old.lines.items ≤ 4096 }
+        requires table { HasTable self.old }
         ensures lines { self.new.lines ≡ self.old.lines }
         ensures saved { self.new.saved ≡ self.old.saved }
         ensures marks { OnOk result ((line : ℕ) (i : Instr) → self.new.marks.items
@@ -50,14 +55,14 @@ impl Work {
             ++ marks_of (length self.old.lines.items) (alone line i counters self.old.now)) }
         ensures now { OnOk result (self.new.now ≡ past self.old.now.flow) }
         ensures refused { IfErr result (λ e. IsRefusal e → ⊥) }
+        ensures table { OnOk result (HasTable self.new) }
+        ensures limited { IfErr result (λ e. e ≡ Limit → (ps : List Place) → Covers self.old.now ps
+            → HasSpace self.old ps → ⊥) }
     {
         if !self.now.labelled {
             return Ok(());
         }
         if self.marks.len() >= usize::from(MOST_LABELS) {
-            return Err(CompileFault::Limit);
-        }
-        if self.configs.len() > usize::from(MOST_CONFIGURATIONS) {
             return Err(CompileFault::Limit);
         }
         if let Err(fault) = index_of(&mut self.configs, &self.now.flow.current) {
@@ -80,6 +85,7 @@ impl Work {
 
     /// Lays an instruction down.
     fn put_instr(&mut self, line: u16, instr: Instr) -> Result<(), CompileFault>
+        requires table { HasTable self.old }
         ensures saved { self.new.saved ≡ self.old.saved }
         ensures marks { self.new.marks ≡ self.old.marks }
         ensures now { self.new.now ≡ self.old.now }
@@ -87,6 +93,8 @@ impl Work {
             ++ line_at line instr ∷ []) }
         ensures room { OnOk result (length self.new.lines.items ≤ 4096) }
         ensures refused { IfErr result (λ e. IsRefusal e → ⊥) }
+        ensures table { HasTable self.new }
+        ensures limited { IfErr result (λ e. e ≡ Limit → 4096 ≤ length self.old.lines.items) }
     {
         if self.lines.len() >= usize::from(MOST_INSTRUCTIONS) {
             return Err(CompileFault::Limit);
@@ -102,11 +110,15 @@ impl Work {
     #[inline(never)]
     pub(crate) fn put(&mut self, line: u16, counters: u8, instr: Instr) -> Result<(), CompileFault>
         requires room { length self.old.lines.items ≤ 4096 }
+        requires table { HasTable self.old }
         ensures lays { OnOk result (Lays self.old self.new
             (alone line instr counters self.old.now)) }
         ensures now { OnOk result (self.new.now ≡ past self.old.now.flow) }
         ensures room { OnOk result (length self.new.lines.items ≤ 4096) }
         ensures refused { IfErr result (λ e. IsRefusal e → ⊥) }
+        ensures table { OnOk result (HasTable self.new) }
+        ensures limited { IfErr result (λ e. e ≡ Limit → (p : Place) (ps : List Place)
+            → p.spot ≡ self.old.now → HasSpace self.old (p ∷ ps) → ⊥) }
     {
         if let Err(fault) = self.put_label(counters) {
             return Err(fault);
@@ -124,6 +136,7 @@ impl Work {
         act: &Act,
     ) -> Result<bool, CompileFault>
         requires room { length self.old.lines.items ≤ 4096 }
+        requires table { HasTable self.old }
         ensures goes_on { IfOk result (λ f. f ≡ true) }
         ensures lays { OnOk result (Lays self.old self.new
             (alone line (instr_of act.now) counters self.old.now)) }
@@ -134,6 +147,9 @@ impl Work {
         ensures room { OnOk result (length self.new.lines.items ≤ 4096) }
         ensures refused { IfErr result (λ e. IsRefusal e → IsFine plan.now (instr_of act.now)
             (known_at self.old.now.flow) → ⊥) }
+        ensures table { OnOk result (HasTable self.new) }
+        ensures limited { IfErr result (λ e. e ≡ Limit → (p : Place) (ps : List Place)
+            → p.spot ≡ self.old.now → HasSpace self.old (p ∷ ps) → ⊥) }
     {
         if let Err(fault) = self.put_label(counters) {
             return Err(fault);
@@ -149,17 +165,20 @@ impl Work {
 
     /// Says that a label stands here, where there is room for it and for what it names.
     fn mark(&mut self) -> Result<(), CompileFault>
+        requires table { HasTable self.old }
         ensures lines { self.new.lines ≡ self.old.lines }
         ensures marks { self.new.marks ≡ self.old.marks }
         ensures saved { self.new.saved ≡ self.old.saved }
         ensures now { OnOk result (self.new.now ≡ at_label self.old.now.flow) }
         ensures refused { IfErr result (λ e. IsRefusal e → ⊥) }
+        ensures table { HasTable self.new }
+        ensures limited { IfErr result (λ e. e ≡ Limit → (ps : List Place)
+            → IsCovered self.old.now.flow ps → HasSpace self.old ps → ⊥) }
     {
         if !self.now.labelled && self.marks.len() >= usize::from(MOST_LABELS) {
             return Err(CompileFault::Limit);
         }
-        let size = size_with(&self.configs, &self.now.flow.current, &self.now.flow.next);
-        if size > usize::from(MOST_CONFIGURATIONS) {
+        if !has_room_for_both(&self.configs, &self.now.flow.current, &self.now.flow.next) {
             return Err(CompileFault::Limit);
         }
         self.now.labelled = true;
@@ -168,12 +187,15 @@ impl Work {
 
     /// Keeps what is known here.
     fn save(&mut self) -> Result<(), CompileFault>
+        requires table { HasTable self.old }
         ensures lines { self.new.lines ≡ self.old.lines }
         ensures marks { self.new.marks ≡ self.old.marks }
         ensures now { self.new.now ≡ self.old.now }
         ensures saved { OnOk result (self.new.saved.items ≡ self.old.saved.items
             ++ self.old.now ∷ []) }
         ensures refused { IfErr result (λ e. IsRefusal e → ⊥) }
+        ensures table { HasTable self.new }
+        ensures limited { IfErr result (λ e. e ≡ Limit → ⊥) }
     {
         let kept = self.now.copied();
         if self.saved.push(kept).is_err() {
@@ -184,11 +206,13 @@ impl Work {
 
     /// What was kept last, which is kept no more.
     fn restore(&mut self) -> Spot
-        requires { 0 < length self.old.saved.items }
+        requires kept { 0 < length self.old.saved.items }
+        requires table { HasTable self.old }
         ensures lines { self.new.lines ≡ self.old.lines }
         ensures marks { self.new.marks ≡ self.old.marks }
         ensures now { self.new.now ≡ self.old.now }
         ensures saved { self.new.saved.items ++ result ∷ [] ≡ self.old.saved.items }
+        ensures table { HasTable self.new }
     {
         match self.saved.pop() {
             Some(spot) => spot,
@@ -198,12 +222,14 @@ impl Work {
 
     /// Another instruction in the place of one.
     fn aim(&mut self, at: usize, line: u16, instr: Instr)
-        requires { at < length self.old.lines.items }
+        requires there { at < length self.old.lines.items }
+        requires table { HasTable self.old }
         ensures lines { self.new.lines.items ≡ slice_set self.old.lines.items at
             (line_at line instr) }
         ensures marks { self.new.marks ≡ self.old.marks }
         ensures now { self.new.now ≡ self.old.now }
         ensures saved { self.new.saved ≡ self.old.saved }
+        ensures table { HasTable self.new }
     {
         let number = line;
         self.lines[at] = Line { number, instr };
@@ -213,9 +239,13 @@ impl Work {
     #[inline(never)]
     pub(crate) fn fork(&mut self, line: u16, counters: u8, instr: Instr) -> Result<(), CompileFault>
         requires room { length self.old.lines.items ≤ 4096 }
+        requires table { HasTable self.old }
         ensures forks { OnOk result (Forks line instr counters self.old self.new) }
         ensures room { OnOk result (length self.new.lines.items ≤ 4096) }
         ensures refused { IfErr result (λ e. IsRefusal e → ⊥) }
+        ensures table { OnOk result (HasTable self.new) }
+        ensures limited { IfErr result (λ e. e ≡ Limit → (p : Place) (ps : List Place)
+            → p.spot ≡ self.old.now → HasSpace self.old (p ∷ ps) → ⊥) }
     {
         if let Err(fault) = self.save() {
             return Err(fault);
@@ -226,6 +256,7 @@ impl Work {
     /// The head of a loop: what is known here is kept, and a label stands here if it can be gone round.
     #[inline(never)]
     pub(crate) fn enter(&mut self, falls: bool) -> Result<(), CompileFault>
+        requires table { HasTable self.old }
         ensures lines { self.new.lines ≡ self.old.lines }
         ensures marks { self.new.marks ≡ self.old.marks }
         ensures now { OnOk result (self.new.now ≡ record {
@@ -236,6 +267,9 @@ impl Work {
         ensures saved { OnOk result (self.new.saved.items ≡ self.old.saved.items
             ++ self.new.now ∷ []) }
         ensures refused { IfErr result (λ e. IsRefusal e → ⊥) }
+        ensures table { OnOk result (HasTable self.new) }
+        ensures limited { IfErr result (λ e. e ≡ Limit → (ps : List Place)
+            → (falls ≡ true → IsCovered self.old.now.flow ps) → HasSpace self.old ps → ⊥) }
     {
         if falls {
             if let Err(fault) = self.mark() {
@@ -256,6 +290,7 @@ impl Work {
     ) -> Result<(), CompileFault>
         requires saved { 0 < length self.old.saved.items }
         requires few { length self.old.lines.items ≤ 4096 }
+        requires table { HasTable self.old }
         ensures round { OnOk result ((front : List Spot) (entry : Spot) → self.old.saved.items
             ≡ front
             ++ entry ∷ [] → GoesRound falls line counters back front entry self.old self.new) }
@@ -263,6 +298,9 @@ impl Work {
         ensures refused { IfErr result (λ e. IsRefusal e → (front : List Spot) (entry : Spot)
             → self.old.saved.items ≡ front
             ++ entry ∷ [] → ComesRound (way falls self.old) entry → ⊥) }
+        ensures table { OnOk result (HasTable self.new) }
+        ensures limited { IfErr result (λ e. e ≡ Limit → (m n : ℕ) (i : Instr) (ps : List Place)
+            → HasSpace self.old (onward (way falls self.old) [] (alone m i n) ++ ps) → ⊥) }
     {
         let entry = self.restore();
         if !falls {
@@ -276,6 +314,7 @@ impl Work {
 
     /// This way and another one meet, where this one comes here at all.
     fn join(&mut self, falls: bool, line: u16, other: Spot) -> Result<(), CompileFault>
+        requires table { HasTable self.old }
         ensures lines { self.new.lines ≡ self.old.lines }
         ensures marks { self.new.marks ≡ self.old.marks }
         ensures saved { self.new.saved ≡ self.old.saved }
@@ -283,6 +322,10 @@ impl Work {
         ensures agree { OnOk result (WaysAgree (way falls self.old) (Some other)) }
         ensures refused { IfErr result (λ e. IsRefusal e
             → WaysAgree (way falls self.old) (Some other) → ⊥) }
+        ensures table { OnOk result (HasTable self.new) }
+        ensures limited { IfErr result (λ e. e ≡ Limit → (ps : List Place)
+            → ((u : Spot) → meet (way falls self.old) (Some other) ≡ Some u → IsCovered u.flow ps)
+            → HasSpace self.old ps → ⊥) }
     {
         if !falls {
             self.now = other;
@@ -307,6 +350,7 @@ impl Work {
         requires saved { 0 < length self.old.saved.items }
         requires there { at < length self.old.lines.items }
         requires few { length self.old.lines.items ≤ 4096 }
+        requires table { HasTable self.old }
         ensures goes_on { IfOk result (λ f. f ≡ true) }
         ensures closes { OnOk result ((front : List Spot) (entry : Spot)
             → self.old.saved.items ≡ front
@@ -315,6 +359,11 @@ impl Work {
         ensures refused { IfErr result (λ e. IsRefusal e → (front : List Spot) (entry : Spot)
             → self.old.saved.items ≡ front
             ++ entry ∷ [] → WaysAgree (way falls self.old) (Some entry) → ⊥) }
+        ensures table { OnOk result (HasTable self.new) }
+        ensures limited { IfErr result (λ e. e ≡ Limit → (front : List Spot) (entry : Spot)
+            → self.old.saved.items ≡ front ++ entry ∷ [] → (ps : List Place)
+            → ((u : Spot) → meet (way falls self.old) (Some entry) ≡ Some u → IsCovered u.flow ps)
+            → HasSpace self.old ps → ⊥) }
     {
         let entry = self.restore();
         let target = self.lines.len() as u16;
@@ -323,6 +372,28 @@ impl Work {
             return Err(fault);
         }
         Ok(true)
+    }
+
+    /// The way out of a first branch, where it falls out: what is known is kept, and it jumps over the second.
+    fn leave(&mut self, falls: bool, line: u16, counters: u8) -> Result<(), CompileFault>
+        requires room { length self.old.lines.items ≤ 4096 }
+        requires table { HasTable self.old }
+        ensures lines { OnOk result (self.new.lines.items ≡ self.old.lines.items
+            ++ lines_of (jumping falls line counters self.old)) }
+        ensures marks { OnOk result (self.new.marks.items ≡ self.old.marks.items
+            ++ marks_of (length self.old.lines.items) (jumping falls line counters self.old)) }
+        ensures saved { OnOk result (self.new.saved.items ≡ self.old.saved.items
+            ++ kept (way falls self.old)) }
+        ensures room { OnOk result (length self.new.lines.items ≤ 4096) }
+        ensures table { OnOk result (HasTable self.new) }
+        ensures refused { IfErr result (λ e. IsRefusal e → ⊥) }
+        ensures limited { IfErr result (λ e. e ≡ Limit → (m n : ℕ) (i : Instr) (ps : List Place)
+            → HasSpace self.old (onward (way falls self.old) [] (alone m i n) ++ ps) → ⊥) }
+    {
+        if !falls {
+            return Ok(());
+        }
+        self.fork(line, counters, Instr::Jump(0))
     }
 
     /// The end of a first branch: where it falls out, what is known is kept, and it jumps over the second. The
@@ -339,17 +410,21 @@ impl Work {
         requires saved { 0 < length self.old.saved.items }
         requires there { at < length self.old.lines.items }
         requires few { length self.old.lines.items ≤ 4096 }
+        requires table { HasTable self.old }
         ensures turns { OnOk result ((front : List Spot) (entry : Spot) → self.old.saved.items
             ≡ front
             ++ entry ∷ [] → Turns falls line counters contact at front entry self.old self.new) }
         ensures room { OnOk result (length self.new.lines.items ≤ 4096) }
         ensures refused { IfErr result (λ e. IsRefusal e → ⊥) }
+        ensures table { OnOk result (HasTable self.new) }
+        ensures limited { IfErr result (λ e. e ≡ Limit → (front : List Spot) (entry : Spot)
+            → self.old.saved.items ≡ front ++ entry ∷ [] → (m n : ℕ) (i : Instr) (ps : List Place)
+            → HasSpace self.old (onward (way falls self.old) [] (alone m i n) ++ ps)
+            → IsCovered entry.flow ps → ⊥) }
     {
         let mut entry = self.restore();
-        if falls {
-            if let Err(fault) = self.fork(line, counters, Instr::Jump(0)) {
-                return Err(fault);
-            }
+        if let Err(fault) = self.leave(falls, line, counters) {
+            return Err(fault);
         }
         let target = self.lines.len() as u16;
         self.aim(at, line, Instr::Test { contact, target });
@@ -370,6 +445,7 @@ impl Work {
         requires saved { first ≡ true → 0 < length self.old.saved.items }
         requires there { first ≡ true → jump < length self.old.lines.items }
         requires few { length self.old.lines.items ≤ 4096 }
+        requires table { HasTable self.old }
         ensures arrives { IfOk result (λ f. (front : List Spot) (a : Option Spot) → first
             ≡ is_some a
             → self.old.saved.items ≡ front ++ kept a → Arrives a (way second self.old) front line
@@ -380,6 +456,11 @@ impl Work {
             ≡ is_some a
             → self.old.saved.items ≡ front
             ++ kept a → BranchesAgree a (way second self.old) → ⊥) }
+        ensures table { OnOk result (HasTable self.new) }
+        ensures limited { IfErr result (λ e. e ≡ Limit → (front : List Spot) (a : Option Spot)
+            → first ≡ is_some a → self.old.saved.items ≡ front ++ kept a → (ps : List Place)
+            → ((u : Spot) → join a (way second self.old) ≡ Some u → Covers u ps)
+            → HasSpace self.old ps → ⊥) }
     {
         if !first {
             return Ok(second);
@@ -396,10 +477,14 @@ impl Work {
     /// The end of a script: an end follows, where it falls out.
     pub(crate) fn close(&mut self, falls: bool, line: u16) -> Result<(), CompileFault>
         requires room { length self.old.lines.items ≤ 4096 }
+        requires table { HasTable self.old }
         ensures lays { OnOk result (Lays self.old self.new (onward (way falls self.old) []
             (alone line End 0))) }
         ensures room { OnOk result (length self.new.lines.items ≤ 4096) }
         ensures refused { IfErr result (λ e. IsRefusal e → ⊥) }
+        ensures table { OnOk result (HasTable self.new) }
+        ensures limited { IfErr result (λ e. e ≡ Limit → HasSpace self.old (onward
+            (way falls self.old) [] (alone line End 0)) → ⊥) }
     {
         if !falls {
             return Ok(());

@@ -1,23 +1,29 @@
-use Rattle.std.proofs.Common.{◌≡◌, ◌+◌, ◌<◌, ap, sym, ◌∙◌, refl, take, length, arith}
+use Rattle.std.proofs.Common.{true, subst, ◌≡◌, ◌+◌, ◌<◌, ap, sym, ◌∙◌, refl, take, length, arith}
 use Rattle.std.proofs.lemmas.List.{length-take}
 use Rattle.script_front.specs.Block.{nothing, basic, when, either, repeat, forever, apply, named_at, before, block_of}
-use Rattle.script_scheme.specs.Scheme.{falls_out}
-use Rattle.script_compiler.specs.Laying.{tables, lays_nothing}
+use Rattle.script_scheme.specs.Scheme.{alone, falls_out}
+use Rattle.script_compiler.specs.Laying.{Lays, tables, lays_nothing}
+use Rattle.script_compiler.specs.Space.{CanLay}
+use Rattle.plan_code.specs.declared.instr.Instr.TheVariants.{Set}
 use Rattle.script_compiler.proofs.Weight.{weight, weight_each, tables_at}
 use Rattle.script_compiler.proofs.Arms.{is_act, is_if, is_if_else, is_repeat, is_forever, is_apply}
 use Rattle.script_compiler.proofs.Steps.{ok_map, left_as, act_step, when_step, either_step, repeat_step, forever_step, block_step, told_length, told_take, silent_step, unnamed_step, apply_left}
 use Rattle.script_compiler.proofs.Refusing.{block_refused, refused_as, apply_refused}
+use Rattle.script_compiler.proofs.Arms.{is_end}
+use Rattle.script_compiler.proofs.Spaces.{err_each}
+use Rattle.script_compiler.proofs.Fitting.{limited_as, block_limited, act_limited, stop_limited, when_limited, either_limited, repeat_limited, apply_limited, can_when_first, can_when_closed, can_either_first, can_either_turned, can_either_second, can_either_closed, can_repeat_entered, can_repeat_body, can_repeat_closed, can_forever_entered, can_forever_body, can_forever_closed}
 use Rattle.script_compiler.proofs.work.Work.+work.Goals as goal
 
 pub block-statement-requires : goal.block-statement-requires
 block-statement-requires t c =
     let w = weight_each (tables c.args.blocks.now) c.args.statements.now c.loop-statement.statement-index c.statement-item.result c.statement-item.is c.loop-statement-test.true in
-    (omega (arith, c.decreases, w), (c.loop-statement.invariant.room, (c.requires.counters, (c.requires.known, c.requires.silent))))
+    (omega (arith, c.decreases, w), (c.loop-statement.invariant.room, (c.requires.counters, (c.requires.known, (c.requires.silent, c.loop-statement.invariant.table)))))
 
 pub block-loop-statement-preserved : goal.block-loop-statement-preserved
 block-loop-statement-preserved t c = record {
   left = block_step c.args.plan.now c.args.counters (tables c.args.blocks.now) c.args.statements.now c.loop-statement.statement-index c.statement-item.result c.args.self.now c.loop-statement.self c.statement.new.self c.loop-statement.goes_on c.in-Ok.falls c.statement-item.is c.loop-statement-test.true c.if-not-goes_on.false c.loop-statement.invariant.left c.in-Ok.ensures.left;
   room = c.in-Ok.ensures.room;
+  table = c.in-Ok.ensures.table;
 }
 
 pub either-returns-clause-left : goal.either-returns-clause-left
@@ -72,7 +78,7 @@ statement-block-requires t c =
     let e : before table c.args.statement.now nothing ≡ apply c.in-Apply.line c.in-Apply.block inner nothing =
     is_apply table c.args.statement.now c.in-Apply.line c.in-Apply.block c.in-Apply.is nothing ∙ ap (λ n. apply c.in-Apply.line c.in-Apply.block (named_at table n) nothing) (sym (c.from-number.ensures ∙ c.get.ensures.value)) ∙ ap (λ b. apply c.in-Apply.line c.in-Apply.block b nothing) at ∙ ap (λ x. apply c.in-Apply.line c.in-Apply.block (block_of (tables (take k bs)) x) nothing) (sym c.deref-in-Apply.ensures.value) in
     let w : weight (before table c.args.statement.now nothing) ≡ 1 + weight inner + 0 = ap (λ b. weight b) e in
-    (omega (arith, c.decreases, w), (c.requires.room, (c.requires.counters, (told_take falls_out c.args.known.now bs k c.requires.known, told_take lays_nothing c.args.silent.now bs k c.requires.silent))))
+    (omega (arith, c.decreases, w), (c.requires.room, (c.requires.counters, (told_take falls_out c.args.known.now bs k c.requires.known, (told_take lays_nothing c.args.silent.now bs k c.requires.silent, c.requires.table)))))
 
 pub statement-returns-in-Act-clause-left : goal.statement-returns-in-Act-clause-left
 statement-returns-in-Act-clause-left t c =
@@ -139,3 +145,133 @@ statement-returns-else-silent-number-clause-refused t c =
     refused_as c.args.plan.now c.args.self.now.now c.block.result (λ rest. before table c.args.statement.now rest) (λ rest. apply c.in-Apply.line c.in-Apply.block inner rest)
     (λ rest. is_apply table c.args.statement.now c.in-Apply.line c.in-Apply.block c.in-Apply.is rest ∙ ap (λ n. apply c.in-Apply.line c.in-Apply.block (named_at table n) rest) (sym (c.from-number.ensures ∙ c.get.ensures.value)) ∙ ap (λ b. apply c.in-Apply.line c.in-Apply.block b rest) at ∙ ap (λ x. apply c.in-Apply.line c.in-Apply.block (block_of (tables (take k bs)) x) rest) (sym c.deref-in-Apply.ensures.value))
     (apply_refused c.args.plan.now c.args.self.now.now c.block.result c.in-Apply.line c.in-Apply.block inner c.block.ensures.refused)
+
+pub block-returns-in-Err-clause-limited : goal.block-returns-in-Err-clause-limited
+block-returns-in-Err-clause-limited t c = λ is can.
+    block_limited c.args.plan.now c.args.counters (tables c.args.blocks.now) c.args.statements.now c.loop-statement.statement-index c.statement-item.result c.args.self.now c.loop-statement.self c.loop-statement.goes_on c.statement-item.is c.loop-statement-test.true c.if-not-goes_on.false c.loop-statement.invariant.left (c.in-Err.ensures.limited is) can
+
+pub statement-returns-in-Act-clause-limited : goal.statement-returns-in-Act-clause-limited
+statement-returns-in-Act-clause-limited t c =
+    let table = tables c.args.blocks.now in
+    limited_as c.args.plan.now c.args.counters c.args.self.now c.act.result (λ rest. before table c.args.statement.now rest) (λ rest. basic c.in-Act.line c.in-Act.act rest) (λ rest. is_act table c.args.statement.now c.in-Act.line c.in-Act.act c.in-Act.is rest)
+    (err_each c.act.result (λ y h is rest can. act_limited c.args.plan.now c.args.counters c.in-Act.line c.in-Act.act c.args.self.now (h is) rest can) c.act.ensures.limited)
+
+pub statement-returns-in-Err-clause-limited : goal.statement-returns-in-Err-clause-limited
+statement-returns-in-Err-clause-limited t c = λ is rest can.
+    stop_limited c.args.plan.now c.args.counters c.in-End.line c.args.self.now (c.in-Err.ensures.limited is) rest (subst (λ b. CanLay c.args.plan.now c.args.counters b c.args.self.now) (is_end (tables c.args.blocks.now) c.args.statement.now c.in-End.line c.in-End.is rest) can)
+
+pub statement-returns-in-If-clause-limited : goal.statement-returns-in-If-clause-limited
+statement-returns-in-If-clause-limited t c =
+    let table = tables c.args.blocks.now in
+    limited_as c.args.plan.now c.args.counters c.args.self.now c.when.result (λ rest. before table c.args.statement.now rest) (λ rest. when c.in-If.line c.in-If.contact (block_of table c.deref.result.now) rest) (λ rest. is_if table c.args.statement.now c.in-If.line c.in-If.contact c.in-If.first c.in-If.is rest ∙ ap (λ x. when c.in-If.line c.in-If.contact (block_of table x) rest) (sym c.deref.ensures.value)) c.when.ensures.limited
+
+pub statement-returns-in-IfElse-clause-limited : goal.statement-returns-in-IfElse-clause-limited
+statement-returns-in-IfElse-clause-limited t c =
+    let table = tables c.args.blocks.now in
+    limited_as c.args.plan.now c.args.counters c.args.self.now c.either.result (λ rest. before table c.args.statement.now rest) (λ rest. either c.in-IfElse.line c.in-IfElse.contact (block_of table c.deref-in-IfElse.result.now) (block_of table c.deref-in-IfElse-2.result.now) rest)
+    (λ rest. is_if_else table c.args.statement.now c.in-IfElse.line c.in-IfElse.contact c.in-IfElse.first c.in-IfElse.second c.in-IfElse.is rest ∙ ap (λ x. either c.in-IfElse.line c.in-IfElse.contact (block_of table x) (block_of table c.in-IfElse.second.items) rest) (sym c.deref-in-IfElse.ensures.value) ∙ ap (λ x. either c.in-IfElse.line c.in-IfElse.contact (block_of table c.deref-in-IfElse.result.now) (block_of table x) rest) (sym c.deref-in-IfElse-2.ensures.value)) c.either.ensures.limited
+
+pub statement-returns-in-Repeat-clause-limited : goal.statement-returns-in-Repeat-clause-limited
+statement-returns-in-Repeat-clause-limited t c =
+    let table = tables c.args.blocks.now in
+    limited_as c.args.plan.now c.args.counters c.args.self.now c.repeat.result (λ rest. before table c.args.statement.now rest) (λ rest. repeat c.in-Repeat.line c.in-Repeat.times (block_of table c.deref-in-Repeat.result.now) rest) (λ rest. is_repeat table c.args.statement.now c.in-Repeat.line c.in-Repeat.times c.in-Repeat.body c.in-Repeat.is rest ∙ ap (λ x. repeat c.in-Repeat.line c.in-Repeat.times (block_of table x) rest) (sym c.deref-in-Repeat.ensures.value)) c.repeat.ensures.limited
+
+pub statement-returns-in-Forever-clause-limited : goal.statement-returns-in-Forever-clause-limited
+statement-returns-in-Forever-clause-limited t c =
+    let table = tables c.args.blocks.now in
+    limited_as c.args.plan.now c.args.counters c.args.self.now c.forever.result (λ rest. before table c.args.statement.now rest) (λ rest. forever c.in-Forever.line (block_of table c.deref-in-Forever.result.now) rest) (λ rest. is_forever table c.args.statement.now c.in-Forever.line c.in-Forever.body c.in-Forever.is rest ∙ ap (λ x. forever c.in-Forever.line (block_of table x) rest) (sym c.deref-in-Forever.ensures.value)) c.forever.ensures.limited
+
+pub statement-returns-else-silent-number-clause-limited : goal.statement-returns-else-silent-number-clause-limited
+statement-returns-else-silent-number-clause-limited t c =
+    let bs = c.args.blocks.now in
+    let table = tables bs in
+    let k = c.from-number.result in
+    let lt : k < length bs = omega (arith, c.if-number-blocks.false) in
+    let at = tables_at bs k c.index-blocks-number.result c.index-blocks-number.is lt in
+    let inner = block_of (tables (take k bs)) c.deref-in-Apply.result.now in
+    limited_as c.args.plan.now c.args.counters c.args.self.now c.block.result (λ rest. before table c.args.statement.now rest) (λ rest. apply c.in-Apply.line c.in-Apply.block inner rest)
+    (λ rest. is_apply table c.args.statement.now c.in-Apply.line c.in-Apply.block c.in-Apply.is rest ∙ ap (λ n. apply c.in-Apply.line c.in-Apply.block (named_at table n) rest) (sym (c.from-number.ensures ∙ c.get.ensures.value)) ∙ ap (λ b. apply c.in-Apply.line c.in-Apply.block b rest) at ∙ ap (λ x. apply c.in-Apply.line c.in-Apply.block (block_of (tables (take k bs)) x) rest) (sym c.deref-in-Apply.ensures.value))
+    (apply_limited c.args.plan.now c.args.counters c.args.self.now c.block.result c.in-Apply.line c.in-Apply.block inner c.block.ensures.limited)
+
+pub when-returns-in-Err-clause-limited : goal.when-returns-in-Err-clause-limited
+when-returns-in-Err-clause-limited t c = λ is rest can.
+    let first = block_of (tables c.args.blocks.now) c.args.first.now in
+    when_limited c.args.plan.now c.args.counters c.args.line c.args.contact first c.args.self.now (c.in-Err.ensures.limited is) rest can
+
+pub when-returns-in-Err-block-clause-limited : goal.when-returns-in-Err-block-clause-limited
+when-returns-in-Err-block-clause-limited t c = λ is rest can.
+    let first = block_of (tables c.args.blocks.now) c.args.first.now in
+    c.in-Err-block.ensures.limited is (can_when_first c.args.plan.now c.args.counters c.args.line c.args.contact first rest c.args.self.now c.fork.new.self c.block.new.self true c.in_default.ensures.forks can)
+
+pub when-returns-clause-limited : goal.when-returns-clause-limited
+when-returns-clause-limited t c =
+    let first = block_of (tables c.args.blocks.now) c.args.first.now in
+    err_each c.close_if.result (λ y h is rest can. can_when_closed c.args.plan.now c.args.counters c.args.line c.args.contact first rest c.args.self.now c.fork.new.self c.block.new.self c.in-Ok.falls c.in_default.ensures.forks c.in-Ok.ensures.left (h is) can) c.close_if.ensures.limited
+
+pub either-returns-in-Err-clause-limited : goal.either-returns-in-Err-clause-limited
+either-returns-in-Err-clause-limited t c = λ is rest can.
+    let first = block_of (tables c.args.blocks.now) c.args.first.now in
+    let second = block_of (tables c.args.blocks.now) c.args.second.now in
+    either_limited c.args.plan.now c.args.counters c.args.line c.args.contact first second c.args.self.now (c.in-Err.ensures.limited is) rest can
+
+pub either-returns-in-Err-block-clause-limited : goal.either-returns-in-Err-block-clause-limited
+either-returns-in-Err-block-clause-limited t c = λ is rest can.
+    let first = block_of (tables c.args.blocks.now) c.args.first.now in
+    let second = block_of (tables c.args.blocks.now) c.args.second.now in
+    c.in-Err-block.ensures.limited is (can_either_first c.args.plan.now c.args.counters c.args.line c.args.contact first second rest c.args.self.now c.fork.new.self c.block.new.self c.block.new.self c.block.new.self true true c.in_default.ensures.forks can)
+
+pub either-returns-in-Err-turn-clause-limited : goal.either-returns-in-Err-turn-clause-limited
+either-returns-in-Err-turn-clause-limited t c = λ is rest can.
+    let first = block_of (tables c.args.blocks.now) c.args.first.now in
+    let second = block_of (tables c.args.blocks.now) c.args.second.now in
+    can_either_turned c.args.plan.now c.args.counters c.args.line c.args.contact first second rest c.args.self.now c.fork.new.self c.block.new.self c.turn.new.self c.turn.new.self c.in-Ok.falls true c.in_default.ensures.forks c.in-Ok.ensures.left (c.in-Err-turn.ensures.limited is) can
+
+pub either-returns-in-Err-block-2-clause-limited : goal.either-returns-in-Err-block-2-clause-limited
+either-returns-in-Err-block-2-clause-limited t c = λ is rest can.
+    let first = block_of (tables c.args.blocks.now) c.args.first.now in
+    let second = block_of (tables c.args.blocks.now) c.args.second.now in
+    c.in-Err-block-2.ensures.limited is (can_either_second c.args.plan.now c.args.counters c.args.line c.args.contact first second rest c.args.self.now c.fork.new.self c.block.new.self c.turn.new.self c.turn.new.self c.in-Ok.falls true c.len-at.result c.in_default.ensures.forks c.in-Ok.ensures.left c.in_default-turn.ensures.turns can)
+
+pub either-returns-clause-limited : goal.either-returns-clause-limited
+either-returns-clause-limited t c =
+    let first = block_of (tables c.args.blocks.now) c.args.first.now in
+    let second = block_of (tables c.args.blocks.now) c.args.second.now in
+    err_each c.close_else.result (λ y h is rest can. can_either_closed c.args.plan.now c.args.counters c.args.line c.args.contact first second rest c.args.self.now c.fork.new.self c.block.new.self c.turn.new.self c.block-2.new.self c.in-Ok.falls c.in-Ok-block.falls c.len-at.result c.in_default.ensures.forks c.in-Ok.ensures.left c.in_default-turn.ensures.turns c.in-Ok-block.ensures.left (h is) can) c.close_else.ensures.limited
+
+pub repeat-returns-in-Err-clause-limited : goal.repeat-returns-in-Err-clause-limited
+repeat-returns-in-Err-clause-limited t c = λ is rest can.
+    let body = block_of (tables c.args.blocks.now) c.args.body.now in
+    repeat_limited c.args.plan.now c.args.counters c.args.line c.args.times body c.args.self.now (c.in-Err.ensures.limited is) rest can
+
+pub repeat-returns-in-Err-enter-clause-limited : goal.repeat-returns-in-Err-enter-clause-limited
+repeat-returns-in-Err-enter-clause-limited t c = λ is rest can.
+    let body = block_of (tables c.args.blocks.now) c.args.body.now in
+    can_repeat_entered c.args.plan.now c.args.counters c.args.line c.args.times body rest c.args.self.now c.put.new.self c.enter.new.self c.enter.new.self true c.all_fall.result
+    (let k : c.in-Some.counter ≡ c.args.counters = c.in-Some.ensures.value in subst (λ m. Lays c.args.self.now c.put.new.self (alone c.args.line (Set m c.args.times) c.args.counters c.args.self.now.now)) k c.in_default-put.ensures.lays) c.in_default-put.ensures.now (c.all_fall.ensures (tables c.args.blocks.now) c.requires.known) (c.in-Err-enter.ensures.limited is) can
+
+pub repeat-returns-in-Err-block-clause-limited : goal.repeat-returns-in-Err-block-clause-limited
+repeat-returns-in-Err-block-clause-limited t c = λ is rest can.
+    let body = block_of (tables c.args.blocks.now) c.args.body.now in
+    c.in-Err-block.ensures.limited is (can_repeat_body c.args.plan.now c.args.counters c.args.line c.args.times body rest c.args.self.now c.put.new.self c.enter.new.self c.enter.new.self true c.all_fall.result
+    (let k : c.in-Some.counter ≡ c.args.counters = c.in-Some.ensures.value in subst (λ m. Lays c.args.self.now c.put.new.self (alone c.args.line (Set m c.args.times) c.args.counters c.args.self.now.now)) k c.in_default-put.ensures.lays) c.in_default-put.ensures.now (c.all_fall.ensures (tables c.args.blocks.now) c.requires.known) c.in_default-enter.ensures.lines c.in_default-enter.ensures.marks c.in_default-enter.ensures.now can)
+
+pub repeat-returns-in-Err-go_round-clause-limited : goal.repeat-returns-in-Err-go_round-clause-limited
+repeat-returns-in-Err-go_round-clause-limited t c = λ is rest can.
+    let body = block_of (tables c.args.blocks.now) c.args.body.now in
+    can_repeat_closed c.args.plan.now c.args.counters c.args.line c.args.times body rest c.args.self.now c.put.new.self c.enter.new.self c.block.new.self c.in-Ok.falls c.all_fall.result
+    (let k : c.in-Some.counter ≡ c.args.counters = c.in-Some.ensures.value in subst (λ m. Lays c.args.self.now c.put.new.self (alone c.args.line (Set m c.args.times) c.args.counters c.args.self.now.now)) k c.in_default-put.ensures.lays) c.in_default-put.ensures.now (c.all_fall.ensures (tables c.args.blocks.now) c.requires.known) c.in_default-enter.ensures.lines c.in_default-enter.ensures.marks c.in_default-enter.ensures.now c.in-Ok.ensures.left (c.in-Err-go_round.ensures.limited is) can
+
+pub forever-returns-in-Err-clause-limited : goal.forever-returns-in-Err-clause-limited
+forever-returns-in-Err-clause-limited t c = λ is rest can.
+    let body = block_of (tables c.args.blocks.now) c.args.body.now in
+    can_forever_entered c.args.plan.now c.args.counters c.args.line body rest c.args.self.now c.enter.new.self c.enter.new.self true c.all_fall.result (c.all_fall.ensures (tables c.args.blocks.now) c.requires.known) (c.in-Err.ensures.limited is) can
+
+pub forever-returns-in-Err-block-clause-limited : goal.forever-returns-in-Err-block-clause-limited
+forever-returns-in-Err-block-clause-limited t c = λ is rest can.
+    let body = block_of (tables c.args.blocks.now) c.args.body.now in
+    c.in-Err-block.ensures.limited is (can_forever_body c.args.plan.now c.args.counters c.args.line body rest c.args.self.now c.enter.new.self c.enter.new.self true c.all_fall.result (c.all_fall.ensures (tables c.args.blocks.now) c.requires.known) c.in_default.ensures.lines c.in_default.ensures.marks c.in_default.ensures.now can)
+
+pub forever-returns-in-Err-go_round-clause-limited : goal.forever-returns-in-Err-go_round-clause-limited
+forever-returns-in-Err-go_round-clause-limited t c = λ is rest can.
+    let body = block_of (tables c.args.blocks.now) c.args.body.now in
+    can_forever_closed c.args.plan.now c.args.counters c.args.line body rest c.args.self.now c.enter.new.self c.block.new.self c.in-Ok.falls c.all_fall.result (c.all_fall.ensures (tables c.args.blocks.now) c.requires.known) c.in_default.ensures.lines c.in_default.ensures.marks c.in_default.ensures.now c.in-Ok.ensures.left (c.in-Err-go_round.ensures.limited is) can

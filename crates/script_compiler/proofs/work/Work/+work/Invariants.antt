@@ -3,6 +3,7 @@ use Rattle.script_front.specs.Block.{Block, nothing, when, either, repeat, forev
 use Rattle.plan_code.specs.declared.plan.Plan.{Plan}
 use Rattle.script_compiler.specs.declared.work.Work.{Work}
 use Rattle.script_compiler.specs.Laying.{Left, tables}
+use Rattle.script_compiler.specs.Space.{HasTable}
 use Rattle.script_compiler.proofs.Weight.{weight}
 use Rattle.script_compiler.proofs.work.Work.+work.Given as goal
 
@@ -28,6 +29,7 @@ decreases-forever l = 4 * weight (forever l.line (block_of (tables l.blocks.now)
 pub record Laid (plan : Plan) (r : ℕ) (b : Block) (old new : Work) (goes_on : Bool) (rest : Block) : Type 0 where
   pub left : Left plan r b old new goes_on rest
   pub room : length new.lines.items ≤ 4096
+  pub table : HasTable new
 
 abbrev pub invariant-block-loop-statement : goal.invariant-block-loop-statement
 invariant-block-loop-statement l =

@@ -5,6 +5,7 @@ use Rattle.script_scheme.specs.declared.flow.Flow.{Flow}
 use Rattle.script_scheme.specs.declared.flow.Spot.{Spot}
 use Rattle.script_scheme.specs.Scheme.{known_at, moved, instr_of}
 use Rattle.script_compiler.specs.Laying.{line_at}
+use Rattle.script_compiler.proofs.Spaces.{covered_here}
 use Rattle.script_compiler.proofs.Putting.{put_lays}
 use Rattle.script_compiler.proofs.work.Work.act.Goals as goal
 
@@ -24,3 +25,6 @@ returns-clause-now c =
 
 pub returns-clause-fine : goal.returns-clause-fine
 returns-clause-fine c = subst (λ (s : Spot). IsFine c.args.plan.now (instr_of c.args.act.now) (known_at s.flow)) c.in_default.ensures.now (c.in_default-judge.ensures.fine.0 refl)
+
+pub returns-in-Err-clause-limited : goal.returns-in-Err-clause-limited
+returns-in-Err-clause-limited c = λ is p ps e space. c.in-Err.ensures.limited is (p ∷ ps) (covered_here c.args.self.now.now p ps e) space

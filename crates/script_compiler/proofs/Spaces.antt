@@ -1,0 +1,234 @@
+-- Room for what is still to be laid down.
+use Rattle.std.proofs.Common.{◌≡◌, ℕ, zero, suc, ◌+◌, ◌≤◌, inl, inr, Bool, true, false, if◌then◌else◌, List, [], ◌∷◌, ◌++◌, length, Option, Some, None, is_some, Result, Ok, Err, refl, sym, ap, ◌∙◌, subst, arith, append_assoc, length-append}
+use Rattle.std.specs.Prelude.{slice_get, IfErr}
+use Rattle.mux_config.specs.Configuration.{Configuration}
+use Rattle.plan_code.specs.declared.instr.Instr.{Instr}
+use Rattle.plan_code.specs.declared.instr.Instr.TheVariants.{Jump}
+use Rattle.plan_code.specs.declared.label.Swap.{Swap}
+use Rattle.plan_code.specs.declared.label.Swap.TheVariants.{Idle, Within, Perhaps}
+use Rattle.plan_code.specs.declared.plan.Plan.{Plan}
+use Rattle.script_front.specs.Block.{Block}
+use Rattle.script_scheme.specs.declared.flow.Flow.{Flow}
+use Rattle.script_scheme.specs.declared.flow.Mark.{Mark}
+use Rattle.script_scheme.specs.declared.flow.Spot.{Spot}
+use Rattle.plan_verifier.specs.Typing.{FitsSwap}
+use Rattle.script_scheme.specs.Scheme.{Place, known_at, placed, alone, onward, after, places, mark_of, marks_of}
+use Rattle.script_scheme.specs.Judged.{FitsFlow}
+use Rattle.script_scheme.specs.Compiled.{StandsIn, Added, lines_of}
+use Rattle.script_compiler.specs.declared.work.Work.{Work}
+use Rattle.script_compiler.specs.declared.fault.CompileFault.{CompileFault}
+use Rattle.script_compiler.specs.Laying.{Lays, jumping, way}
+use Rattle.script_compiler.specs.Room.{HasRoomFor, Leaves, named_by}
+use Rattle.script_compiler.specs.Space.{labels_in, names_of, HasSpace, HasTable, IsCovered, Covers}
+use Rattle.script_compiler.proofs.First.{Begins, first_of}
+use Rattle.script_compiler.proofs.Laid.{laid_length, length_lines}
+use Rattle.script_compiler.proofs.Rooms.{stays, room_fewer, room_added, named_both, leaves_mark, leaves_both}
+
+-- ---- labels of places
+
+labels_by : (b : Bool) (k n : ℕ) → (if b then 1 + (k + n) else (k + n)) ≡ (if b then 1 + k else k) + n
+labels_by true k n = omega arith
+labels_by false k n = refl
+
+labels_both : (ps qs : List Place) → labels_in (ps ++ qs) ≡ labels_in ps + labels_in qs
+labels_both [] qs = omega arith
+labels_both (p ∷ ps) qs = ap (λ n. if p.spot.labelled then 1 + n else n) (labels_both ps qs) ∙ labels_by p.spot.labelled (labels_in ps) (labels_in qs)
+
+names_by : (b : Bool) (x y : Configuration) (xs ys : List Configuration) → (if b then x ∷ y ∷ (xs ++ ys) else (xs ++ ys)) ≡ (if b then x ∷ y ∷ xs else xs) ++ ys
+names_by true x y xs ys = refl
+names_by false x y xs ys = refl
+
+names_both : (ps qs : List Place) → names_of (ps ++ qs) ≡ names_of ps ++ names_of qs
+names_both [] qs = refl
+names_both (p ∷ ps) qs =
+    ap (λ xs. if p.spot.labelled then p.spot.flow.current ∷ p.spot.flow.next ∷ xs else xs) (names_both ps qs)
+    ∙ names_by p.spot.labelled p.spot.flow.current p.spot.flow.next (names_of ps) (names_of qs)
+
+count_by : (b : Bool) (m : Mark) (ms : List Mark) (n : ℕ) → length ms ≡ n → length (if b then m ∷ ms else ms) ≡ (if b then 1 + n else n)
+count_by true m ms n e = omega (arith, e)
+count_by false m ms n e = e
+
+pub marks_count : (pc : ℕ) (ps : List Place) → length (marks_of pc ps) ≡ labels_in ps
+marks_count pc [] = refl
+marks_count pc (p ∷ ps) = count_by p.spot.labelled (mark_of pc p) (marks_of (pc + 1) ps) (labels_in ps) (marks_count (pc + 1) ps)
+
+named_if : (b : Bool) (m : Mark) (ms : List Mark) (xs : List Configuration) → named_by ms ≡ xs → named_by (if b then m ∷ ms else ms) ≡ (if b then m.flow.current ∷ m.flow.next ∷ xs else xs)
+named_if true m ms xs e = ap (λ zs. m.flow.current ∷ m.flow.next ∷ zs) e
+named_if false m ms xs e = e
+
+pub marks_named : (pc : ℕ) (ps : List Place) → named_by (marks_of pc ps) ≡ names_of ps
+marks_named pc [] = refl
+marks_named pc (p ∷ ps) = named_if p.spot.labelled (mark_of pc p) (marks_of (pc + 1) ps) (names_of ps) (marks_named (pc + 1) ps)
+
+-- ---- what has been laid down of what there was room for
+
+pub space_from : (v w : Work) (n : ℕ) (ps qs : List Place) → length w.lines.items ≡ length v.lines.items + length ps → w.marks.items ≡ v.marks.items ++ marks_of n ps → HasSpace v (ps ++ qs) → HasSpace w qs
+space_from v w n ps qs lines marks h = record {
+  lines = let k = h.lines in let a = length-append ps qs in omega (arith, k, a, lines);
+  labels = let k = h.labels in let a = labels_both ps qs in let m = ap length marks ∙ length-append v.marks.items (marks_of n ps) in let c = marks_count n ps in omega (arith, k, a, m, c);
+  configurations =
+      let e : named_by v.marks.items ++ names_of (ps ++ qs) ≡ named_by w.marks.items ++ names_of qs =
+      ap (λ xs. named_by v.marks.items ++ xs) (names_both ps qs) ∙ sym (append_assoc (named_by v.marks.items) (names_of ps) (names_of qs))
+      ∙ ap (λ xs. (named_by v.marks.items ++ xs) ++ names_of qs) (sym (marks_named n ps)) ∙ ap (λ xs. xs ++ names_of qs) (sym (named_both v.marks.items (marks_of n ps))) ∙ ap (λ ms. named_by ms ++ names_of qs) (sym marks) in
+      subst (λ cs. HasRoomFor [] cs) e h.configurations;
+}
+
+pub space_after : (v w : Work) (ps qs : List Place) → Lays v w ps → HasSpace v (ps ++ qs) → HasSpace w qs
+space_after v w ps qs l h = space_from v w (length v.lines.items) ps qs (laid_length v w ps l) l.marks h
+
+-- only what is known at a place counts
+pub space_spot : (w : Work) (p q : Place) (ps : List Place) → p.spot ≡ q.spot → HasSpace w (p ∷ ps) → HasSpace w (q ∷ ps)
+space_spot w p q ps e h =
+    let names : names_of (p ∷ ps) ≡ names_of (q ∷ ps) = ap (λ (s : Spot). if s.labelled then s.flow.current ∷ s.flow.next ∷ names_of ps else names_of ps) e in
+    let count : labels_in (p ∷ ps) ≡ labels_in (q ∷ ps) = ap (λ (s : Spot). if s.labelled then 1 + labels_in ps else labels_in ps) e in
+    record {
+      lines = h.lines;
+      labels = let k = h.labels in omega (arith, k, count);
+      configurations = subst (λ cs. HasRoomFor [] (named_by w.marks.items ++ cs)) names h.configurations;
+    }
+
+pub space_one : (v w : Work) (n : ℕ) (line r : ℕ) (i : Instr) (p : Place) (ps : List Place) → p.spot ≡ v.now → length w.lines.items ≡ length v.lines.items + 1 → w.marks.items ≡ v.marks.items ++ marks_of n (alone line i r v.now) → HasSpace v (p ∷ ps) → HasSpace w ps
+space_one v w n line r i p ps e lines marks h = space_from v w n (alone line i r v.now) ps lines marks (space_spot v p (placed line i r v.now) ps e h)
+
+-- the same instructions and labels
+pub space_as : (v w : Work) (ps : List Place) → length w.lines.items ≡ length v.lines.items → w.marks.items ≡ v.marks.items → HasSpace v ps → HasSpace w ps
+space_as v w ps lines marks h = record {
+  lines = let k = h.lines in omega (arith, k, lines);
+  labels = let k = h.labels in let m = ap length marks in omega (arith, k, m);
+  configurations = subst (λ ms. HasRoomFor [] (named_by ms ++ names_of ps)) (sym marks) h.configurations;
+}
+
+pub space_onward : (w : Work) (line line' r r' : ℕ) (i j : Instr) (a : Option Spot) (ps : List Place) → HasSpace w (onward a [] (alone line i r) ++ ps) → HasSpace w (onward a [] (alone line' j r') ++ ps)
+space_onward w line line' r r' i j None ps h = h
+space_onward w line line' r r' i j (Some s) ps h = space_spot w (placed line i r s) (placed line' j r' s) ps refl h
+
+-- ---- labels that are wanted
+
+pub covered_here : (s : Spot) (p : Place) (ps : List Place) → p.spot ≡ s → Covers s (p ∷ ps)
+covered_here s p ps e = λ l. record {
+  place = p;
+  rest = ps;
+  is = refl;
+  labelled = ap (λ (t : Spot). t.labelled) e ∙ l;
+  names = λ c h. subst (λ (t : Spot). StandsIn c (t.flow.current ∷ t.flow.next ∷ [])) (sym e) h;
+}
+
+pub covered_flow : (s : Spot) (t : Flow) (ps : List Place) → s.flow ≡ t → IsCovered s.flow ps → IsCovered t ps
+covered_flow s t ps e h = subst (λ x. IsCovered x ps) e h
+
+some_same : (x y : Configuration) → Some x ≡ Some y → x ≡ y
+some_same x y e = cc
+
+-- a flow that fits another names no other configurations
+two_same : (a b x y : Configuration) → a ≡ x → b ≡ y → (c : Configuration) → StandsIn c (a ∷ b ∷ []) → StandsIn c (x ∷ y ∷ [])
+two_same a b x y e f c h = subst (λ z. StandsIn c (x ∷ z ∷ [])) f (subst (λ z. StandsIn c (z ∷ b ∷ [])) e h)
+
+two_next : (a b x y : Configuration) → a ≡ y → b ≡ y → (c : Configuration) → StandsIn c (a ∷ b ∷ []) → StandsIn c (x ∷ y ∷ [])
+two_next a b x y e f c h = by h.0 h.1
+  where
+    by : (i : ℕ) → slice_get (a ∷ b ∷ []) i ≡ Some c → StandsIn c (x ∷ y ∷ [])
+    by zero k = (1, ap (λ z. Some z) (sym e) ∙ k)
+    by (suc zero) k = (1, ap (λ z. Some z) (sym f) ∙ k)
+    by (suc (suc i)) k = absurd (none_here i k)
+      where
+        none_here : (i : ℕ) → slice_get [] i ≡ Some c → ⊥
+        none_here i k = cc
+
+swap_names : (p q : Swap) (s t : Flow) → FitsSwap p q (known_at s) (known_at t) → (c : Configuration) → StandsIn c (s.current ∷ s.next ∷ []) → StandsIn c (t.current ∷ t.next ∷ [])
+swap_names Idle Idle s t h = two_same s.current s.next t.current t.next h.0 h.1
+swap_names Idle (Within low high) s t h = absurd h
+swap_names Idle (Perhaps high) s t h = two_next s.current s.next t.current t.next h.0 h.1
+swap_names (Within lo hi) Idle s t h = absurd h
+swap_names (Within lo hi) (Within low high) s t h = two_same s.current s.next t.current t.next h.0.0 h.0.1
+swap_names (Within lo hi) (Perhaps high) s t h = two_same s.current s.next t.current t.next h.0.0 h.0.1
+swap_names (Perhaps hi) Idle s t h = absurd h
+swap_names (Perhaps hi) (Within low high) s t h = absurd h
+swap_names (Perhaps hi) (Perhaps high) s t h = two_same s.current s.next t.current t.next h.0.0 h.0.1
+
+pub covered_fits : (s t : Flow) (ps : List Place) → FitsFlow s t → IsCovered t ps → IsCovered s ps
+covered_fits s t ps fits h = record { place = h.place; rest = h.rest; is = h.is; labelled = h.labelled; names = λ c k. h.names c (swap_names s.pending t.pending s t fits c k) }
+
+stands_more : (a b c : Configuration) (more : List Configuration) → StandsIn c (a ∷ b ∷ []) → StandsIn c (a ∷ b ∷ more)
+stands_more a b c more h = (h.0, stays (a ∷ b ∷ []) more h.0 c h.1)
+
+-- a label before a block is that of its first instruction, or of what follows it
+pub covers_block : (plan : Plan) (r pc : ℕ) (b : Block) (s : Spot) (more : List Place) → ((u : Spot) → after plan b s ≡ Some u → Covers u more) → Covers s (places plan r pc b s ++ more)
+covers_block plan r pc b s more onward_to = λ l. elim (first_of plan r pc b s) [
+  | inl none ↦ subst (λ ps. IsCovered s.flow (ps ++ more)) (sym none.0) (onward_to s none.1 l)
+  | inr some ↦ record {
+    place = some.place;
+    rest = some.rest ++ more;
+    is = ap (λ ps. ps ++ more) some.is;
+    labelled = some.labelled l;
+    names = λ c h. subst (λ (t : Flow). StandsIn c (t.current ∷ t.next ∷ [])) (sym some.flow) h;
+  }
+]
+
+-- ---- a label put down
+
+-- a label has room where one is wanted
+pub room_label : (w : Work) (t : Flow) (ps : List Place) → IsCovered t ps → HasSpace w ps → length w.marks.items + 1 ≤ 1024
+room_label w t ps cover h =
+    let k = h.labels in
+    let e : labels_in ps ≡ labels_in (cover.place ∷ cover.rest) = ap labels_in cover.is in
+    let f : labels_in (cover.place ∷ cover.rest) ≡ 1 + labels_in cover.rest = ap (λ (b : Bool). if b then 1 + labels_in cover.rest else labels_in cover.rest) cover.labelled in
+    omega (arith, k, e, f)
+
+-- and so have the configurations that it names
+pub room_names : (w : Work) (t : Flow) (ps : List Place) → HasTable w → IsCovered t ps → HasSpace w ps → HasRoomFor w.configs.items (t.current ∷ t.next ∷ [])
+room_names w t ps table cover h =
+    let p = cover.place in
+    let more = names_of cover.rest in
+    let e : names_of ps ≡ p.spot.flow.current ∷ p.spot.flow.next ∷ more = ap names_of cover.is ∙ ap (λ (b : Bool). if b then p.spot.flow.current ∷ p.spot.flow.next ∷ more else more) cover.labelled in
+    let room : HasRoomFor w.configs.items (p.spot.flow.current ∷ p.spot.flow.next ∷ more) = table.room (p.spot.flow.current ∷ p.spot.flow.next ∷ more) (subst (λ cs. HasRoomFor [] (named_by w.marks.items ++ cs)) e h.configurations) in
+    room_fewer w.configs.items (t.current ∷ t.next ∷ []) (p.spot.flow.current ∷ p.spot.flow.next ∷ more) (λ c k. stands_more p.spot.flow.current p.spot.flow.next c more (cover.names c k)) room
+
+-- the table after a label
+pub table_mark : (v w : Work) (one : List Configuration) (m : Mark) → Added m.flow.current v.configs.items one → Added m.flow.next one w.configs.items → w.marks.items ≡ v.marks.items ++ m ∷ [] → length w.configs.items ≤ 256 → HasTable v → HasTable w
+table_mark v w one m a b e few table = record {
+  few = few;
+  room = subst (λ ms. Leaves [] w.configs.items ms) (sym e) (leaves_both [] v.configs.items w.configs.items v.marks.items (m ∷ []) table.room (leaves_mark m v.configs.items one w.configs.items a b));
+}
+
+pub table_as : (v w : Work) → w.configs ≡ v.configs → w.marks ≡ v.marks → HasTable v → HasTable w
+table_as v w configs marks table = record {
+  few = let e = ap (λ x. length x.items) configs in let k = table.few in omega (arith, e, k);
+  room = subst (λ cs. Leaves [] cs w.marks.items) (sym (ap (λ x. x.items) configs)) (subst (λ ms. Leaves [] v.configs.items ms) (sym (ap (λ x. x.items) marks)) table.room);
+}
+
+-- ---- one of two configurations
+
+pub room_left : (table : List Configuration) (a b : Configuration) → HasRoomFor table (a ∷ b ∷ []) → HasRoomFor table (a ∷ [])
+room_left table a b room = room_fewer table (a ∷ []) (a ∷ b ∷ []) (λ c h. (h.0, stays (a ∷ []) (b ∷ []) h.0 c h.1)) room
+
+pub room_right : (table : List Configuration) (a b : Configuration) → HasRoomFor table (a ∷ b ∷ []) → HasRoomFor table (b ∷ [])
+room_right table a b room = room_fewer table (b ∷ []) (a ∷ b ∷ []) (λ c h. (suc h.0, h.1)) room
+
+pub room_next : (table one : List Configuration) (a b : Configuration) → Added a table one → HasRoomFor table (a ∷ b ∷ []) → HasRoomFor one (b ∷ [])
+room_next table one a b added room = room_right one a b (room_added a table one (a ∷ b ∷ []) added (0, refl) room)
+
+-- ---- a way that goes on
+
+pub err_each : {A : Type 0} (x : Result A CompileFault) {P Q : CompileFault → Type 0} → ((y : CompileFault) → P y → Q y) → IfErr x P → IfErr x Q
+err_each (Ok f) m h = h
+err_each (Err y) m h = m y h
+
+pub space_back : (w : Work) (falls : Bool) (m n : ℕ) (i : Instr) (ps : List Place) → falls ≡ true → HasSpace w (onward (way falls w) [] (alone m i n) ++ ps) → HasSpace w (placed m i n w.now ∷ ps)
+space_back w falls m n i ps e h = subst (λ f. HasSpace w (onward (way f w) [] (alone m i n) ++ ps)) e h
+
+pub space_end : (w : Work) (falls : Bool) (m n : ℕ) (i : Instr) → falls ≡ true → HasSpace w (onward (way falls w) [] (alone m i n)) → HasSpace w (placed m i n w.now ∷ [])
+space_end w falls m n i e h = subst (λ f. HasSpace w (onward (way f w) [] (alone m i n))) e h
+
+-- after the way out of a first branch
+pub space_left : (v w : Work) (falls : Bool) (line r m n : ℕ) (i : Instr) (ps : List Place) → length w.lines.items ≡ length v.lines.items + length (lines_of (jumping falls line r v)) → w.marks.items ≡ v.marks.items ++ marks_of (length v.lines.items) (jumping falls line r v) → HasSpace v (onward (way falls v) [] (alone m i n) ++ ps) → HasSpace w ps
+space_left v w falls line r m n i ps lines marks h =
+    space_from v w (length v.lines.items) (jumping falls line r v) ps (let k = length_lines (jumping falls line r v) in omega (arith, lines, k)) marks (space_onward v m line n r i (Jump 0) (way falls v) ps h)
+
+pub none_of : {A : Type 0} (x : Option A) → is_some x ≡ false → x ≡ None
+none_of None e = refl
+none_of (Some a) e = cc
+
+pub space_restored : (v w : Work) (falls : Bool) (m n : ℕ) (i : Instr) (ps : List Place) → v.lines ≡ w.lines → v.marks ≡ w.marks → v.now ≡ w.now → HasSpace w (onward (way falls w) [] (alone m i n) ++ ps) → HasSpace v (onward (way falls v) [] (alone m i n) ++ ps)
+space_restored v w falls m n i ps lines marks now h =
+    let there = space_as w v (onward (way falls w) [] (alone m i n) ++ ps) (ap (λ x. length x.items) lines) (ap (λ x. x.items) marks) h in
+    subst (λ (s : Spot). HasSpace v (onward (if falls then Some s else None) [] (alone m i n) ++ ps)) (sym now) there

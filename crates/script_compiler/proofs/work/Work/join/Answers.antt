@@ -1,0 +1,23 @@
+use Rattle.std.proofs.Common.{◌≡◌, Some, refl, sym, ap, subst}
+use Rattle.script_scheme.specs.declared.flow.Flow.{Flow}
+use Rattle.script_scheme.specs.Scheme.{at_label, meet, merged}
+use Rattle.script_compiler.specs.Laying.{way}
+use Rattle.script_compiler.specs.Space.{IsCovered}
+use Rattle.script_compiler.proofs.Spaces.{err_each, space_as}
+use Rattle.script_compiler.proofs.work.Work.join.Goals as goal
+
+pub returns-then-not-falls-clause-limited : goal.returns-then-not-falls-clause-limited
+returns-then-not-falls-clause-limited c =
+    let w = c.args.self.now in
+    let t = c.args.other in
+    err_each c.mark.result (λ y h is ps cover space.
+    let met : meet (way c.args.falls w) (Some t) ≡ Some (at_label t.flow) = ap (λ f. meet (way f w) (Some t)) c.if-not-falls.true in
+    h is ps (cover (at_label t.flow) met) (space_as w _ ps refl refl space)) c.mark.ensures.limited
+
+pub returns-clause-limited : goal.returns-clause-limited
+returns-clause-limited c =
+    let w = c.args.self.now in
+    let t = c.args.other in
+    err_each c.mark-2.result (λ y h is ps cover space.
+    let met : meet (way c.args.falls w) (Some t) ≡ Some (at_label (merged w.now.flow t.flow)) = ap (λ f. meet (way f w) (Some t)) c.if-not-falls.false in
+    h is ps (subst (λ (x : Flow). IsCovered x ps) (sym (c.meet.ensures.met c.if-not-meet.false)) (cover (at_label (merged w.now.flow t.flow)) met)) (space_as w _ ps refl refl space)) c.mark-2.ensures.limited
