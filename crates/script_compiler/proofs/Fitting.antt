@@ -8,9 +8,8 @@ use Rattle.plan_code.specs.declared.plan.Plan.{Plan}
 use Rattle.script_front.specs.declared.tree.Act.{Act}
 use Rattle.script_front.specs.declared.tree.Statement.{Statement}
 use Rattle.script_front.specs.Block.{Block, nothing, basic, stop, when, either, repeat, forever, apply, before, block_of}
-use Rattle.script_scheme.specs.declared.flow.Flow.{Flow}
 use Rattle.script_scheme.specs.declared.flow.Spot.{Spot}
-use Rattle.script_scheme.specs.Scheme.{Place, past, at_label, merged, meet, join, onward, head, after, placed, alone, places, all_places, marks_of, instr_of, falls_out}
+use Rattle.script_scheme.specs.Scheme.{Place, past, at_label, merged, meet, join, onward, head, after, placed, alone, places, all_places, instr_of, falls_out}
 use Rattle.script_scheme.specs.Judged.{IsJudged, WaysAgree, BranchesAgree}
 use Rattle.script_scheme.specs.Compiled.{lines_of, nested}
 use Rattle.script_compiler.specs.declared.work.Work.{Work}
@@ -24,7 +23,7 @@ use Rattle.script_compiler.proofs.Trees.{statements_cut}
 use Rattle.script_compiler.proofs.Leading.{after_falls}
 use Rattle.script_compiler.proofs.Laid.{Whole, whole_of, laid_length, length_lines, jump_length}
 use Rattle.script_compiler.proofs.Refusing.{some_is, head_is, when_first, either_first, either_second, repeat_body, forever_body}
-use Rattle.script_compiler.proofs.Spaces.{marks_count, marks_named, space_from, space_after, space_one, space_as, space_left, space_onward, covered_here, covered_fits, covers_block, err_each}
+use Rattle.script_compiler.proofs.Spaces.{marks_count, marks_named, space_from, space_after, space_one, space_as, space_left, covered_here, covered_fits, covers_block, err_each}
 
 -- ---- one statement after another
 

@@ -20,7 +20,7 @@ use Rattle.script_compiler.specs.declared.fault.CompileFault.{CompileFault}
 use Rattle.script_compiler.specs.Laying.{Lays, jumping, way}
 use Rattle.script_compiler.specs.Room.{HasRoomFor, Leaves, named_by}
 use Rattle.script_compiler.specs.Space.{labels_in, names_of, HasSpace, HasTable, IsCovered, Covers}
-use Rattle.script_compiler.proofs.First.{Begins, first_of}
+use Rattle.script_compiler.proofs.First.{first_of}
 use Rattle.script_compiler.proofs.Laid.{laid_length, length_lines}
 use Rattle.script_compiler.proofs.Rooms.{stays, room_fewer, room_added, named_both, leaves_mark, leaves_both}
 

@@ -4,13 +4,10 @@ use Rattle.mux_config.specs.Configuration.{Configuration}
 use Rattle.plan_code.specs.declared.plan.Plan.{Plan}
 use Rattle.script_front.specs.Block.{Block}
 use Rattle.script_scheme.specs.declared.flow.Flow.{Flow}
-use Rattle.script_scheme.specs.declared.flow.Mark.{Mark}
 use Rattle.script_scheme.specs.declared.flow.Spot.{Spot}
 use Rattle.script_scheme.specs.Scheme.{Place, after, places, marks_of}
 use Rattle.script_scheme.specs.Judged.{IsJudged}
-use Rattle.plan_code.specs.Program.{Program, IsProgram}
-use Rattle.script_front.specs.Tree.{Tree}
-use Rattle.script_scheme.specs.Compiled.{StandsIn, nested, IsCodeOf, CostsItsNeeds}
+use Rattle.script_scheme.specs.Compiled.{StandsIn, nested}
 use Rattle.script_compiler.specs.declared.work.Work.{Work}
 use Rattle.script_compiler.specs.Room.{HasRoomFor, Leaves, named_by}
 
@@ -59,7 +56,3 @@ pub record AreFew (ps : List Place) : Type 0 where
   pub instructions : length ps ≤ 4096
   pub labels : length (marks_of 0 ps) ≤ 1024
   pub configurations : HasRoomFor [] (named_by (marks_of 0 ps))
-
--- every code of a script is one whose fields are within their limits
-abbrev pub AreFormed : Tree → Type 0
-AreFormed s = (code : Program) → IsCodeOf s code → CostsItsNeeds code → IsProgram code

@@ -8,8 +8,8 @@ ghost use Rattle.script_scheme.specs.Need.{IsWithin};
 ghost use Rattle.mux_config.specs.Configuration.{nothing};
 ghost use Rattle.mux_config.specs.Sound.{IsSound};
 ghost use Rattle.script_compiler.specs.Laying.{tables, lays_nothing};
-ghost use Rattle.script_compiler.specs.Refusals.{IsRefusal};
-ghost use Rattle.script_compiler.specs.Space.{AreFew, AreFormed};
+ghost use Rattle.script_compiler.specs.Refusals.{IsRefusal, AreFormed};
+ghost use Rattle.script_compiler.specs.Space.{AreFew};
 ghost use Rattle.script_compiler.specs.declared.fault.CompileFault.TheVariants.{Limit, Memory};
 ghost use Rattle.plan_code.specs.Program.{IsProgram};
 ghost use Rattle.plan_verifier.specs.Typing.{IsTyped, pages_alone};
@@ -171,7 +171,8 @@ fn promise(script: &Script, code: &Code)
 /// at the line of `begin`, and of a statement, where `Table` says that it cannot be reached. `Limit` where a limit of
 /// codes would be passed, `Memory` where memory was refused. Costs come last: `Cost` is at the line of the first loop
 /// that can be gone round without a suspension, or else of the first instruction from which more instructions than the
-/// budget can run in one frame. A script that is accepted is never `Refused`.
+/// budget can run in one frame. A script that is accepted is never `Refused`, and `Limit` does not come from it where
+/// the fields of its code are within their ranges.
 pub fn compile(alloc: Global, script: &Script) -> Result<Code, CompileFault>
     ensures code { IfOk result (λ c. IsCodeOf script.now c) }
     ensures costs { IfOk result (λ c. CostsItsNeeds c) }

@@ -9,10 +9,9 @@ use Rattle.script_scheme.specs.Scheme.{all_places, marks_of}
 use Rattle.script_scheme.specs.Need.{IsWithin}
 use Rattle.script_scheme.specs.Compiled.{plan_of, with_items, opening_of, body_of, beginning, places_of, lines_of, instrs_of, AreFine, Tabled, AreLabelsOf, IsCodeOf, CostsItsNeeds, IsAccepted}
 use Rattle.script_compiler.specs.Longest.{longest, Priced}
-use Rattle.script_compiler.specs.Refusals.{IsRefusal}
+use Rattle.script_compiler.specs.Refusals.{IsRefusal, AreFormed}
 use Rattle.script_compiler.proofs.Refusing.{not_memory, over_budget}
 use Rattle.script_compiler.specs.declared.fault.CompileFault.TheVariants.{Limit}
-use Rattle.script_compiler.specs.Space.{AreFormed}
 use Rattle.script_compiler.specs.Room.{HasRoomFor, IsDeepAtMost, named_by}
 use Rattle.script_compiler.proofs.Deep.{accepted_deep, accepted_room}
 use Rattle.script_compiler.proofs.Making.{limit_not_memory, laid_few, laid_judged, Parts, code_from, parts_code, parts_cost, parts_accepted}
