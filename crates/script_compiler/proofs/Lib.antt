@@ -21,3 +21,4 @@ mod Spaces
 mod Fitting
 mod Deep
 mod Making
+mod Bounded
