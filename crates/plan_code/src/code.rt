@@ -2,8 +2,8 @@
 
 ghost use Rattle.std.specs.Prelude.{◌≡◌, ◌≤◌, ◌<◌, ◌↔◌, IsTrue, IsSome, IfSome, length, slice_get, ◌==◌, find};
 ghost use Rattle.std.specs.Option.{option_copied};
-ghost use Rattle.mux_config.specs.Configuration.{Each, IsAscending};
-ghost use Rattle.plan_code.specs.Program.{Program, IsProgram, IsLabel, label_key, label_at, instr_at, line_at};
+ghost use Rattle.mux_config.specs.Configuration.{Each, IsAscending, IsConfiguration};
+ghost use Rattle.plan_code.specs.Program.{Program, IsProgram, IsLabel, IsLine, label_key, label_at, instr_at, line_at};
 
 use crate::instr::{Instr, Line};
 use crate::label::Label;
@@ -92,7 +92,7 @@ fn search(labels: &[Label], pc: u16) -> Option<Label>
 
 impl Code {
     /// The code of these parts; None exactly where a field or a length is outside its limits. The vectors
-    /// are then dropped.
+    /// are then dropped. Configurations and lines are within theirs by their types.
     pub fn new(
         plan: Plan,
         configs: Vec<Config>,
@@ -111,7 +111,11 @@ impl Code {
           labels = labels.items;
           lines = lines.items;
         }) }
+        ensures configurations { Each IsConfiguration configs.items }
+        ensures lines { Each IsLine lines.items }
     {
+        configs_in_range(&configs);
+        lines_in_range(&lines);
         if !plan.is_within_limits() {
             return None;
         }
@@ -127,8 +131,6 @@ impl Code {
         if !are_labels(&labels, configs.len()) {
             return None;
         }
-        configs_in_range(&configs);
-        lines_in_range(&lines);
         Some(Code {
             plan,
             configs,
