@@ -22,3 +22,5 @@ mod Fitting
 mod Deep
 mod Making
 mod Bounded
+mod Ranged
+mod Formed
