@@ -1,5 +1,5 @@
 -- The code that is made of an accepted script has every field within its limits.
-use Rattle.std.proofs.Common.{◌≡◌, ℕ, zero, suc, ◌+◌, ◌≤◌, ◌<◌, Bool, true, false, if◌then◌else◌, List, [], ◌∷◌, ◌++◌, length, get_or, Option, Some, None, refl, sym, ap, ◌∙◌, subst, arith}
+use Rattle.std.proofs.Common.{◌≡◌, ◌≢◌, ℕ, zero, suc, ◌+◌, ◌≤◌, ◌<◌, Bool, true, false, if◌then◌else◌, List, [], ◌∷◌, ◌++◌, length, get_or, Option, Some, None, refl, sym, ap, ◌∙◌, subst, arith}
 use Rattle.std.specs.Prelude.{slice_get, slice_index, Contains}
 use Rattle.std.specs.Option.{option_map}
 use Rattle.std.proofs.lemmas.Option.{slice_get-map, slice_get_within}
@@ -19,7 +19,10 @@ use Rattle.script_scheme.specs.declared.flow.Mark.{Mark}
 use Rattle.script_scheme.specs.declared.flow.Spot.{Spot}
 use Rattle.script_scheme.specs.Scheme.{Place, mark_of, marks_of, after, alone, onward, places}
 use Rattle.script_scheme.specs.Compiled.{plan_of, body_of, beginning, opening_of, places_of, lines_of, instrs_of, first_counters, Tabled, AreLabelsOf, IsAccepted}
+use Rattle.script_compiler.specs.declared.fault.CompileFault.{CompileFault}
+use Rattle.script_compiler.specs.declared.fault.CompileFault.TheVariants.{Refused, Limit, Memory}
 use Rattle.script_compiler.specs.Longest.{longest}
+use Rattle.script_compiler.specs.Refusals.{IsRefusal}
 use Rattle.script_compiler.specs.Room.{IsDeepAtMost}
 use Rattle.script_compiler.proofs.Accepting.{labels_length}
 use Rattle.script_compiler.proofs.Bounded.{IsBounded, AllWay, AllBounded, after_bounded, places_bounded}
@@ -212,3 +215,9 @@ module _ (s : Tree) (plan : Plan) (config : Configuration) (lines : List Line) (
         lines_to = omega (arith, laid, counted, few_lines);
         lines_formed = formed;
       }
+
+-- what comes neither where a script is refused nor where a limit is passed comes for want of memory alone
+pub fault_either : (X : Type 0) (e : CompileFault) → (IsRefusal e → X) → (e ≡ Limit → X) → e ≢ Memory → X
+fault_either X (Refused line cause) r l other = r tt
+fault_either X Limit r l other = l refl
+fault_either X Memory r l other = absurd (other refl)

@@ -1,5 +1,5 @@
 -- What the parts of a code are made of.
-use Rattle.std.proofs.Common.{◌≡◌, ◌≢◌, ℕ, ◌+◌, ◌≤◌, List, [], refl, sym, ap, ◌∙◌, subst, arith}
+use Rattle.std.proofs.Common.{◌≡◌, ℕ, ◌+◌, ◌≤◌, List, [], refl, sym, ap, ◌∙◌, subst, arith}
 use Rattle.std.specs.Prelude.{slice_index}
 use Rattle.mux_config.specs.Configuration.{Configuration, nothing}
 use Rattle.mux_config.specs.Sound.{IsSound}
@@ -14,8 +14,6 @@ use Rattle.script_scheme.specs.Scheme.{all_places, marks_of}
 use Rattle.script_scheme.specs.Judged.{IsJudged}
 use Rattle.script_scheme.specs.Need.{IsWithin}
 use Rattle.script_scheme.specs.Compiled.{plan_of, body_of, beginning, opening_of, places_of, lines_of, instrs_of, nested, AreFine, Tabled, AreLabelsOf, IsCodeOf, CostsItsNeeds, IsAccepted}
-use Rattle.script_compiler.specs.declared.fault.CompileFault.{CompileFault}
-use Rattle.script_compiler.specs.declared.fault.CompileFault.TheVariants.{Limit, Memory}
 use Rattle.script_compiler.specs.Space.{AreFew}
 use Rattle.script_compiler.specs.Longest.{longest, Priced}
 use Rattle.script_compiler.proofs.Deep.{accepted_room}
@@ -67,9 +65,6 @@ module _ (s : Tree) (plan : Plan) (config : Configuration) (lines : List Line) (
 -- a script that is accepted keeps within the limits
 pub accepted_few : (s : Tree) → IsAccepted s → AreFew (places_of s)
 accepted_few s a = record { instructions = a.instructions; labels = a.labels; configurations = accepted_room s a }
-
-pub limit_not_memory : (e : CompileFault) → e ≡ Limit → e ≢ Memory
-limit_not_memory e is same = cc
 
 module _ (s : Tree) (plan : Plan) (config : Configuration) (plan_is : plan ≡ plan_of s) (config_is : config ≡ opening_of s) where
   same_places : places_of s ≡ all_places plan s.last_line (body_of s) (beginning config)

@@ -1,5 +1,5 @@
 -- Why a script is refused.
-use Rattle.std.proofs.Common.{◌≡◌, ◌≢◌, ℕ, ◌+◌, ◌<◌, arith, Result, Ok, Err, Bool, true, false, if◌then◌else◌, List, [], ◌∷◌, ◌++◌, length, Some, is_some, refl, sym, ap, ◌∙◌, subst, get_or, drop}
+use Rattle.std.proofs.Common.{◌≡◌, ℕ, ◌+◌, ◌<◌, arith, Result, Ok, Err, Bool, true, false, if◌then◌else◌, List, [], ◌∷◌, ◌++◌, length, Some, is_some, refl, sym, ap, ◌∙◌, subst, get_or, drop}
 use Rattle.std.specs.Prelude.{IfErr}
 use Rattle.plan_code.specs.declared.instr.Instr.TheVariants.{Test}
 use Rattle.plan_code.specs.declared.plan.Plan.{Plan}
@@ -17,7 +17,6 @@ use Rattle.script_scheme.specs.Compiled.{instrs_of}
 use Rattle.script_scheme.specs.Need.{IsWithin}
 use Rattle.script_compiler.specs.Longest.{longest}
 use Rattle.script_compiler.specs.declared.fault.CompileFault.{CompileFault}
-use Rattle.script_compiler.specs.declared.fault.CompileFault.TheVariants.{Memory}
 use Rattle.script_compiler.proofs.Paths.{need_most}
 use Rattle.script_compiler.specs.Laying.{Left, Forks, Turns, kept, way}
 use Rattle.script_compiler.specs.Refusals.{IsRefusal}
@@ -130,9 +129,6 @@ module _ (plan : Plan) (r : ℕ) (table : List Block) (ss : List Statement) (k :
       not_done table s (block_of table (drop (k + 1) ss)) (subst (λ b. IsDone b) (rest_is is lt) there)
 
 -- ---- a script as a whole
-
-pub not_memory : (e : CompileFault) → IsRefusal e → e ≢ Memory
-not_memory e is same = subst (λ x. IsRefusal x) same is
 
 -- needs that are those of a code that is accepted are within the budget
 pub over_budget : (lines : List Line) (needs : List ℕ) (budget : ℕ) → IsWithin budget (instrs_of lines) → ((pc : ℕ) → get_or needs pc 0 ≡ longest (instrs_of lines) (budget + 1) pc) → (pc : ℕ) → budget < get_or needs pc 0 → ⊥

@@ -1,7 +1,4 @@
--- Which faults refuse a script.
-use Rattle.plan_code.specs.Program.{Program, IsProgram}
-use Rattle.script_front.specs.Tree.{Tree}
-use Rattle.script_scheme.specs.Compiled.{IsCodeOf, CostsItsNeeds}
+-- Which faults refuse a script. No public contract needs this to be believed.
 use Rattle.script_compiler.specs.declared.fault.CompileFault.{CompileFault}
 use Rattle.script_compiler.specs.declared.fault.CompileFault.TheVariants.{Refused, Limit, Memory}
 
@@ -10,7 +7,3 @@ abbrev pub IsRefusal : CompileFault → Type 0
 IsRefusal (Refused line cause) = Unit {0}
 IsRefusal Limit = ⊥
 IsRefusal Memory = ⊥
-
--- every code of a script that costs its needs has its fields within their ranges
-abbrev pub AreFormed : Tree → Type 0
-AreFormed s = (code : Program) → IsCodeOf s code → CostsItsNeeds code → IsProgram code

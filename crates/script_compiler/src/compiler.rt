@@ -8,7 +8,7 @@ ghost use Rattle.script_scheme.specs.Need.{IsWithin};
 ghost use Rattle.mux_config.specs.Configuration.{nothing};
 ghost use Rattle.mux_config.specs.Sound.{IsSound};
 ghost use Rattle.script_compiler.specs.Laying.{tables, lays_nothing};
-ghost use Rattle.script_compiler.specs.Refusals.{IsRefusal, AreFormed};
+ghost use Rattle.script_compiler.specs.Refusals.{IsRefusal};
 ghost use Rattle.script_compiler.specs.Space.{AreFew};
 ghost use Rattle.script_compiler.specs.declared.fault.CompileFault.TheVariants.{Limit, Memory};
 ghost use Rattle.plan_code.specs.Program.{IsProgram};
@@ -168,11 +168,10 @@ fn promise(script: &Script, code: &Code)
 /// # Errors
 ///
 /// `Refused` with the first fault that is found as the code is laid down, in text order: of an item, of the opening
-/// at the line of `begin`, and of a statement, where `Table` says that it cannot be reached. `Limit` where a limit of
-/// codes would be passed, `Memory` where memory was refused. Costs come last: `Cost` is at the line of the first loop
+/// at the line of `begin`, and of a statement, where `Table` says that it cannot be reached. `Limit` only where a limit
+/// of codes would be passed, `Memory` where memory was refused. Costs come last: `Cost` is at the line of the first loop
 /// that can be gone round without a suspension, or else of the first instruction from which more instructions than the
-/// budget can run in one frame. A script that is accepted is never `Refused`, and `Limit` does not come from it where
-/// the fields of its code are within their ranges.
+/// budget can run in one frame. A script that is accepted is refused only for want of memory.
 pub fn compile(alloc: Global, script: &Script) -> Result<Code, CompileFault>
     ensures code { IfOk result (λ c. IsCodeOf script.now c) }
     ensures costs { IfOk result (λ c. CostsItsNeeds c) }
@@ -185,9 +184,7 @@ pub fn compile(alloc: Global, script: &Script) -> Result<Code, CompileFault>
         (instrs_of (lines_of (places_of script.now))) }
     ensures typed { IfOk result (λ c. IsTyped c) }
     ensures plays { IfOk result (λ c. PlaysAsItReads script.now c) }
-    ensures refused { IfErr result (λ e. IsRefusal e → IsAccepted script.now → ⊥) }
-    ensures limited { IfErr result (λ e. e ≡ Limit → IsAccepted script.now → AreFormed script.now
-        → ⊥) }
+    ensures refused { IfErr result (λ e. e ≢ Memory → IsAccepted script.now → ⊥) }
 {
     let plan = plan_of(script);
     let config = built(script.items())?;

@@ -1,4 +1,4 @@
-use Rattle.std.proofs.Common.{false, true, rules, ℕ, ◌<◌, ◌+◌, [], refl, sym, ap, ◌∙◌, ◌≡◌, arith, subst, get_or, List}
+use Rattle.std.proofs.Common.{false, true, rules, ℕ, ◌<◌, ◌+◌, [], refl, sym, ap, ◌∙◌, ◌≡◌, ◌≢◌, arith, subst, get_or, List}
 use Rattle.mux_config.specs.Configuration.{nothing}
 use Rattle.plan_code.specs.declared.instr.Line.{Line}
 use Rattle.plan_code.specs.declared.plan.Plan.{Plan}
@@ -9,12 +9,12 @@ use Rattle.script_scheme.specs.Scheme.{all_places, marks_of}
 use Rattle.script_scheme.specs.Need.{IsWithin}
 use Rattle.script_scheme.specs.Compiled.{plan_of, with_items, opening_of, body_of, beginning, places_of, lines_of, instrs_of, AreFine, Tabled, AreLabelsOf, IsCodeOf, CostsItsNeeds, IsAccepted}
 use Rattle.script_compiler.specs.Longest.{longest, Priced}
-use Rattle.script_compiler.specs.Refusals.{IsRefusal, AreFormed}
-use Rattle.script_compiler.proofs.Refusing.{not_memory, over_budget}
-use Rattle.script_compiler.specs.declared.fault.CompileFault.TheVariants.{Limit}
+use Rattle.script_compiler.specs.declared.fault.CompileFault.TheVariants.{Memory}
+use Rattle.script_compiler.proofs.Refusing.{over_budget}
 use Rattle.script_compiler.specs.Room.{HasRoomFor, IsDeepAtMost, named_by}
 use Rattle.script_compiler.proofs.Deep.{accepted_deep, accepted_room}
-use Rattle.script_compiler.proofs.Making.{limit_not_memory, laid_few, laid_judged, Parts, code_from, parts_code, parts_cost, parts_accepted}
+use Rattle.script_compiler.proofs.Formed.{fault_either, parts_formed}
+use Rattle.script_compiler.proofs.Making.{laid_few, laid_judged, Parts, parts_code, parts_cost, parts_accepted}
 use Rattle.script_compiler.proofs.compiler.compile.Goals as goal
 
 pub returns-in_err-test_costs-clause-refused : goal.returns-in_err-test_costs-clause-refused
@@ -30,9 +30,9 @@ returns-in_err-test_costs-clause-refused c =
     let lines_are : lines ≡ lines_of (places_of s) = c.in_ok-work.ensures.lines ∙ ap lines_of places_are in
     let budget_is : budget ≡ s.header.budget = ap (λ (p : Plan). p.budget) plan_is in
     let each : (pc : ℕ) → get_or needs pc 0 ≡ longest (instrs_of lines) (budget + 1) pc = λ pc. c.in_ok-costs.ensures pc ∙ ap (λ (ls : List Line). longest (instrs_of ls) (budget + 1) pc) c.deref.ensures.value in
-    let h : IsRefusal c.in_err-test_costs.field-0.0 → IsAccepted s → ⊥ = λ is accepted.
+    let h : c.in_err-test_costs.field-0.0 ≢ Memory → IsAccepted s → ⊥ = λ is accepted.
     let within : IsWithin budget (instrs_of lines) = subst (λ b. IsWithin b (instrs_of lines)) (sym budget_is) (subst (λ (ls : List Line). IsWithin s.header.budget (instrs_of ls)) (sym lines_are) accepted.within) in
-    let over = c.in_err-test_costs.ensures.refused (not_memory c.in_err-test_costs.field-0.0 is) in
+    let over = c.in_err-test_costs.ensures.refused is in
     let more : budget < get_or needs over.0 0 = let x = ap (λ xs. get_or xs over.0 0) c.deref-3.ensures.value in let y = over.1 in omega (arith, x, y) in
     over_budget lines needs budget within each over.0 more in
     search (rules, h)
@@ -69,50 +69,34 @@ promise-requires c =
       accepted = accepted;
     }
 
-pub returns-in_err-test_costs-clause-limited : goal.returns-in_err-test_costs-clause-limited
-returns-in_err-test_costs-clause-limited c =
-    let s = c.args.script.now in
-    let lines = c.in_ok-work.work.lines.items in
-    let needs = c.in_ok-costs.costs.items in
-    let budget = c.plan_of-plan.result.budget in
-    let config = c.in_ok-config.config in
-    let plan_is : c.plan_of-plan.result ≡ plan_of s = c.plan_of-plan.ensures in
-    let config_is : config ≡ opening_of s = c.in_ok-config.ensures.made ∙ ap (λ xs. with_items xs nothing) c.items.ensures.value in
-    let places_are = ap (λ (p : Plan). all_places p s.last_line (body_of s) (beginning config)) plan_is ∙ ap (λ x. all_places (plan_of s) s.last_line (body_of s) (beginning x)) config_is in
-    let lines_are : lines ≡ lines_of (places_of s) = c.in_ok-work.ensures.lines ∙ ap lines_of places_are in
-    let budget_is : budget ≡ s.header.budget = ap (λ (p : Plan). p.budget) plan_is in
-    let each : (pc : ℕ) → get_or needs pc 0 ≡ longest (instrs_of lines) (budget + 1) pc = λ pc. c.in_ok-costs.ensures pc ∙ ap (λ (ls : List Line). longest (instrs_of ls) (budget + 1) pc) c.deref.ensures.value in
-    let h : c.in_err-test_costs.field-0.0 ≡ Limit → IsAccepted s → AreFormed s → ⊥ = λ is accepted formed.
-    let within : IsWithin budget (instrs_of lines) = subst (λ b. IsWithin b (instrs_of lines)) (sym budget_is) (subst (λ (ls : List Line). IsWithin s.header.budget (instrs_of ls)) (sym lines_are) accepted.within) in
-    let over = c.in_err-test_costs.ensures.refused (limit_not_memory c.in_err-test_costs.field-0.0 is) in
-    let more : budget < get_or needs over.0 0 = let x = ap (λ xs. get_or xs over.0 0) c.deref-3.ensures.value in let y = over.1 in omega (arith, x, y) in
-    over_budget lines needs budget within each over.0 more in
-    search (rules, h)
-
-pub returns-in_err-work-clause-limited : goal.returns-in_err-work-clause-limited
-returns-in_err-work-clause-limited c =
+pub returns-in_err-work-clause-refused : goal.returns-in_err-work-clause-refused
+returns-in_err-work-clause-refused c =
     let s = c.args.script.now in
     let plan = c.plan_of-plan.result in
     let config = c.in_ok-config.config in
     let config_is : config ≡ opening_of s = c.in_ok-config.ensures.made ∙ ap (λ xs. with_items xs nothing) c.items.ensures.value in
-    let h : c.in_err-work.field-0.0 ≡ Limit → IsAccepted s → AreFormed s → ⊥ = λ is accepted formed.
-    c.in_err-work.ensures.limited is (laid_judged s plan config c.plan_of-plan.ensures config_is accepted) accepted.repeats (laid_few s plan config c.plan_of-plan.ensures config_is accepted) in
+    let h : c.in_err-work.field-0.0 ≢ Memory → IsAccepted s → ⊥ = λ is accepted.
+    let judged = laid_judged s plan config c.plan_of-plan.ensures config_is accepted in
+    let few = laid_few s plan config c.plan_of-plan.ensures config_is accepted in
+    fault_either ⊥ c.in_err-work.field-0.0 (λ r. c.in_err-work.ensures.refused r judged) (λ l. c.in_err-work.ensures.limited l judged accepted.repeats few) is in
     search (rules, h)
 
-pub returns-in_err-made-clause-limited : goal.returns-in_err-made-clause-limited
-returns-in_err-made-clause-limited c =
+pub returns-in_err-made-clause-refused : goal.returns-in_err-made-clause-refused
+returns-in_err-made-clause-refused c =
     let s = c.args.script.now in
     let plan = c.plan_of-plan.result in
     let config = c.in_ok-config.config in
     let config_is : config ≡ opening_of s = c.in_ok-config.ensures.made ∙ ap (λ xs. with_items xs nothing) c.items.ensures.value in
     let places_are = ap (λ (p : Plan). all_places p s.last_line (body_of s) (beginning config)) c.plan_of-plan.ensures ∙ ap (λ x. all_places (plan_of s) s.last_line (body_of s) (beginning x)) config_is in
     let marks_are : c.deref-4.result.now ≡ marks_of 0 (places_of s) = c.deref-4.ensures.value ∙ c.in_ok-work.ensures.marks ∙ ap (λ ps. marks_of 0 ps) places_are in
-    let h : c.in_err-made.field-0.0 ≡ Limit → IsAccepted s → AreFormed s → ⊥ = λ is accepted formed.
-    c.in_err-made.ensures.limited is (subst (λ (ms : List Mark). IsDeepAtMost 8 ms) (sym marks_are) (accepted_deep s accepted)) (subst (λ (ms : List Mark). HasRoomFor [] (named_by ms)) (sym marks_are) (accepted_room s accepted)) in
+    let h : c.in_err-made.field-0.0 ≢ Memory → IsAccepted s → ⊥ = λ is accepted.
+    let deep = subst (λ (ms : List Mark). IsDeepAtMost 8 ms) (sym marks_are) (accepted_deep s accepted) in
+    let room = subst (λ (ms : List Mark). HasRoomFor [] (named_by ms)) (sym marks_are) (accepted_room s accepted) in
+    fault_either ⊥ c.in_err-made.field-0.0 (λ r. c.in_err-made.ensures.refused r) (λ l. c.in_err-made.ensures.limited l deep room) is in
     search (rules, h)
 
-pub returns-clause-limited : goal.returns-clause-limited
-returns-clause-limited c =
+pub returns-clause-refused : goal.returns-clause-refused
+returns-clause-refused c =
     let s = c.args.script.now in
     let plan = c.plan_of-plan.result in
     let config = c.in_ok-config.config in
@@ -132,5 +116,6 @@ returns-clause-limited c =
       labelled = subst (λ (ms : List Mark). AreLabelsOf configs ms labels) c.deref-4.ensures.value c.in_ok-made.ensures.labels;
       priced = subst (λ xs. Priced xs labels) c.deref-5.ensures.value c.in_ok-made.ensures.costs;
     } in
-    λ is accepted formed.
-    let no : false ≡ true = c.in-None.ensures.within.1 (formed (code_from plan configs labels lines) (parts_code s plan config lines marks needs configs labels parts) (parts_cost s plan config lines marks needs configs labels parts)) in cc
+    λ is accepted.
+    let formed = parts_formed s plan config lines marks needs configs labels parts c.items.ensures.formed accepted c.in-None.ensures.configurations c.in-None.ensures.lines in
+    let no : false ≡ true = c.in-None.ensures.within.1 formed in cc
