@@ -28,6 +28,3 @@ fn words(rt: &HostRuntime) -> io::Result<Vec<String>> {
     }
     Ok(words)
 }
-
-#[cfg(test)]
-mod tests;

@@ -15,6 +15,3 @@ pub use announcement::Announcement;
 pub use debugger::Debugger;
 pub use plan_events::Command;
 pub use report::Report;
-
-#[cfg(test)]
-mod tests;

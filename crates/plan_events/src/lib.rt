@@ -18,6 +18,3 @@ pub use commands::read_commands;
 pub use fault::EventFault;
 pub use reading::read_events;
 pub use step::Step;
-
-#[cfg(test)]
-mod tests;

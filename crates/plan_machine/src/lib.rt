@@ -21,6 +21,3 @@ pub use instruction::carry_out;
 pub use machine::Machine;
 pub use opening::{begin, is_due};
 pub use sending::{begin_notice, ensemble, is_first_noticed, is_noticed, next_sent, rounds};
-
-#[cfg(test)]
-mod tests;

@@ -15,6 +15,3 @@ pub use code_file::typed_code;
 pub use fault::RunFault;
 pub use into_writer::run_into;
 pub use playback::run;
-
-#[cfg(test)]
-mod tests;

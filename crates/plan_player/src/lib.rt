@@ -19,6 +19,3 @@ pub use fault::{PlayFault, StartFault};
 pub use plan_runs::{Event, Start};
 pub use player::Player;
 pub use sink::{Sink, Writer};
-
-#[cfg(test)]
-mod tests;

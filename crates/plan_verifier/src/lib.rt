@@ -17,6 +17,3 @@ mod walk;
 
 pub use cause::Cause;
 pub use verified::{Refused, Verified, verify};
-
-#[cfg(test)]
-mod tests;
