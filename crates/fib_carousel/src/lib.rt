@@ -19,6 +19,3 @@ mod to_entries;
 pub use carousel::{page, pages};
 pub use kept_page::KeptPage;
 pub use page_cursor::Cursor;
-
-#[cfg(test)]
-mod tests;

@@ -26,6 +26,3 @@ pub use mux_config::{
     Sid, SubEntry, SubId,
 };
 pub use write::entry_len;
-
-#[cfg(test)]
-mod tests;

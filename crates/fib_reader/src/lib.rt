@@ -21,6 +21,3 @@ pub use fault::{FibFault, ListenFault};
 pub use figs::{Fig, Figs};
 pub use listener::Listener;
 pub use picture::{Picture, PictureEntries};
-
-#[cfg(test)]
-mod tests;

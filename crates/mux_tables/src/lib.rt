@@ -13,6 +13,3 @@ mod tables;
 mod unit_map;
 
 pub use tables::Tables;
-
-#[cfg(test)]
-mod tests;

@@ -1,6 +1,6 @@
 //! Transmission modes and the frames that they have.
 
-use crate::{Fib, FibFrame, Mode};
+use fib_codec::{Fib, FibFrame, Mode};
 
 #[test]
 fn fibs_and_steps_of_the_modes(rt: HostRuntime) {

@@ -1,7 +1,7 @@
 //! Each kind of entry at its least and greatest field values, as the standard lays it out.
 
 use super::begins;
-use crate::{
+use fib_codec::{
     Bits, ComponentEntry, Ensemble, Entry, Few, Fib, Head, PacketEntry, ScId, ScTy, ServiceEntry,
     ShortEntry, Sid, SubEntry, SubId, entry_len,
 };

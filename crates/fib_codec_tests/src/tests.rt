@@ -1,4 +1,4 @@
-use crate::{Fib, crc16, crc16_by_bits, is_checked};
+use fib_codec::{Fib, crc16, crc16_by_bits, is_checked};
 use std::test::Fail;
 
 mod entries;

@@ -3,8 +3,8 @@
 ghost use Rattle.std.specs.Prelude.{◌<◌};
 
 use super::parts::{packet, sc_id, sound, sub, sub_id};
-use crate::Tables;
 use mux_config::{Carrier, Config, Edit, NewSub, Sid, Start, Store, soundness};
+use mux_tables::Tables;
 use std::process::Abort;
 use std::test::Fail;
 

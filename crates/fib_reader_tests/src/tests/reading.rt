@@ -1,7 +1,7 @@
 //! FIBs checked and read.
 
 use super::fib_of;
-use crate::{FibFault, check};
+use fib_reader::{FibFault, check};
 use mux_config::{ComponentEntry, Entry, Sid};
 use std::test::Fail;
 

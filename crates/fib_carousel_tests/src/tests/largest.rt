@@ -3,7 +3,7 @@
 ghost use Rattle.std.specs.Prelude.{◌<◌, ◌≤◌};
 
 use crate::tests::fixtures::{put_packet, put_service, put_sub};
-use crate::{page, pages};
+use fib_carousel::{page, pages};
 use fib_codec::Mode;
 use mux_config::{Config, Sid};
 use std::test::Fail;

@@ -1,8 +1,8 @@
 //! FIBs heard.
 
 use super::fib_of;
-use crate::{FibFault, ListenFault, Listener, Picture};
 use fib_codec::{Fib, Head};
+use fib_reader::{FibFault, ListenFault, Listener, Picture};
 use mux_config::{Bits, Component, Ensemble, Entry, ScTy, Service, Sub, SubEntry, SubId};
 use mux_eep::EepSet;
 use std::test::Fail;

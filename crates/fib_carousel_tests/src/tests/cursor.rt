@@ -2,7 +2,7 @@
 
 use crate::tests::fixtures::{one_programme, put_service, put_sub, row_of_subs};
 use crate::tests::largest::largest;
-use crate::{Cursor, page, pages};
+use fib_carousel::{Cursor, page, pages};
 use fib_codec::{FibFrame, Mode};
 use mux_config::{Config, Ensemble, Sid};
 use std::process::Abort;

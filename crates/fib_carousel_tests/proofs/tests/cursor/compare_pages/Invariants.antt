@@ -1,7 +1,7 @@
 use Rattle.std.proofs.Common.{◌<◌, Some}
 use Rattle.fib_carousel.specs.Pages.{page_set, rounds}
 use Rattle.fib_carousel.specs.Walk.{Stands}
-use Rattle.fib_carousel.proofs.tests.cursor.compare_pages.Given as goal
+use Rattle.fib_carousel_tests.proofs.tests.cursor.compare_pages.Given as goal
 
 abbrev pub invariant-loop-turn : goal.invariant-loop-turn
 invariant-loop-turn g l = record {

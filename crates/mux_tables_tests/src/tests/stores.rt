@@ -1,8 +1,8 @@
 //! `Tables` passes what every store has to pass, beside a `Config` that does.
 
-use crate::Tables;
 use mux_config::Config;
 use mux_config::conformance::{edits, items, soundness};
+use mux_tables::Tables;
 use std::test::Fail;
 
 #[test]

@@ -1,7 +1,7 @@
 //! Pages byte by byte.
 
 use crate::tests::fixtures::{one_programme, put_service, row_of_subs};
-use crate::{page, pages};
+use fib_carousel::{page, pages};
 use fib_codec::Mode;
 use mux_config::{Config, Ensemble, Sid};
 use std::test::Fail;

@@ -1,8 +1,8 @@
 //! Sub-channels that share capacity units, over configurations in tables and over counted ones.
 
 use super::parts::{sub, sub_id};
-use crate::Tables;
 use mux_config::{Config, ConfigFault, Store, Sub, soundness};
+use mux_tables::Tables;
 use std::process::Abort;
 use std::test::Fail;
 

@@ -1,7 +1,7 @@
 //! FIBs that are known from outside, built FIG by FIG.
 
 use super::begins;
-use crate::{
+use fib_codec::{
     Bits, ComponentEntry, Ensemble, Entry, Few, Fib, FibFrame, Head, Mode, PacketEntry, ScId, ScTy,
     ServiceEntry, Sid, SubEntry, SubId,
 };
