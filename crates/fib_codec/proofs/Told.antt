@@ -51,7 +51,7 @@ same_occurrence None (Some p) h = cc
 same_occurrence (Some o) None h = cc
 same_occurrence (Some o) (Some p) h = let e : o ≡ p = cc in ap (λ n. Some n) e
 
-ensemble_told : (e f : EnsembleInformation) → IsEnsembleInformation e → IsEnsembleInformation f → ensemble_bytes e ≡ ensemble_bytes f → e ≡ f
+pub ensemble_told : (e f : EnsembleInformation) → IsEnsembleInformation e → IsEnsembleInformation f → ensemble_bytes e ≡ ensemble_bytes f → e ≡ f
 ensemble_told e f h k same =
     let x = e.change * 64 + bit_of e.al * 32 + e.count / 250 in
     let y = f.change * 64 + bit_of f.al * 32 + f.count / 250 in
@@ -68,7 +68,7 @@ ensemble_told e f h k same =
     λ i. record { eid = eid i; change = change i; al = al i; count = count i; occurrence = occurrence i }
 
 -- ---- sub-channels
-sub_told : (s t : SubEntry) → IsSubEntry s → IsSubEntry t → sub_bytes s ≡ sub_bytes t → s ≡ t
+pub sub_told : (s t : SubEntry) → IsSubEntry s → IsSubEntry t → sub_bytes s ≡ sub_bytes t → s ≡ t
 sub_told s t h k same =
     let front = word_front (s.id * 1024 + s.start) (t.id * 1024 + t.start) (big_bytes 2 (32768 + s.option * 4096 + s.level * 1024 + s.size)) (big_bytes 2 (32768 + t.option * 4096 + t.level * 1024 + t.size)) (omega (arith, h.id, h.start)) (omega (arith, k.id, k.start)) same in
     let back = word_front (32768 + s.option * 4096 + s.level * 1024 + s.size) (32768 + t.option * 4096 + t.level * 1024 + t.size) [] [] (omega (arith, h.option, h.level, h.size)) (omega (arith, k.option, k.level, k.size)) front.1 in
@@ -79,7 +79,7 @@ sub_told s t h k same =
     let size : s.size ≡ t.size = omega (arith, back.0, h.level, h.size, k.level, k.size) in
     λ i. record { id = id i; start = start i; option = option i; level = level i; size = size i }
 
-short_told : (s t : ShortEntry) → IsShortEntry s → IsShortEntry t → short_bytes s ≡ short_bytes t → s ≡ t
+pub short_told : (s t : ShortEntry) → IsShortEntry s → IsShortEntry t → short_bytes s ≡ short_bytes t → s ≡ t
 short_told s t h k same =
     let x = bit_of s.switch * 64 + s.table in
     let y = bit_of t.switch * 64 + t.table in
@@ -158,7 +158,7 @@ components_told (c ∷ cs) (d ∷ ds) h k same =
     let both = word_front (component_word c) (component_word d) (components_bytes cs) (components_bytes ds) (component_below c h.0) (component_below d k.0) same in
     ap₂ (λ x xs. x ∷ xs) (component_told c d h.0 k.0 both.0) (components_told cs ds h.1 k.1 both.1)
 
-service_told : (s t : ServiceEntry) → IsServiceEntry s → IsServiceEntry t → is_long_sid s.sid ≡ is_long_sid t.sid → service_bytes s ≡ service_bytes t → s ≡ t
+pub service_told : (s t : ServiceEntry) → IsServiceEntry s → IsServiceEntry t → is_long_sid s.sid ≡ is_long_sid t.sid → service_bytes s ≡ service_bytes t → s ≡ t
 service_told s t h k long same =
     let x = bit_of s.rfa * 128 + s.ca_id * 16 + length s.components in
     let y = bit_of t.rfa * 128 + t.ca_id * 16 + length t.components in
@@ -181,7 +181,7 @@ same_ca_org None (Some p) h k same = cc
 same_ca_org (Some o) None h k same = cc
 same_ca_org (Some o) (Some p) h k same = let both = word_front o p [] [] h k same in ap (λ n. Some n) both.0
 
-packet_told : (p q : PacketEntry) → IsPacketEntry p → IsPacketEntry q → packet_bytes p ≡ packet_bytes q → p ≡ q
+pub packet_told : (p q : PacketEntry) → IsPacketEntry p → IsPacketEntry q → packet_bytes p ≡ packet_bytes q → p ≡ q
 packet_told p q h k same =
     let a = bit_small (is_some p.ca_org) in
     let b = bit_small (is_some q.ca_org) in

@@ -1,6 +1,7 @@
 //! The data bytes of a FIB that is being written.
 
 ghost use Rattle.std.specs.Prelude.{◌≡◌, ◌+◌, ◌<◌, ◌≤◌, ◌++◌, ◌∷◌, [], length, take, slice_index_or, slice_set};
+ghost use Rattle.byteorder.specs.Endian.{big_bytes};
 ghost use Rattle.fib_codec.specs.Spelling.{filled, checked};
 
 use crate::crc::crc16;
@@ -83,6 +84,27 @@ impl Data {
         self.bytes[at + 1] = second;
         self.bytes[at + 2] = 0xff;
         self.len = at + 2;
+    }
+
+    /// Appends a number of 16 bits, its high byte first.
+    pub(crate) fn push_u16(&mut self, number: u16)
+        requires { length self.old + 2 ≤ 30 }
+        ensures { self.new ≡ self.old ++ big_bytes 2 number }
+    {
+        let mut bytes = [0u8; 2];
+        BigEndian::write_u16(&mut bytes, number);
+        self.push_two(bytes[0], bytes[1]);
+    }
+
+    /// Appends a number of 32 bits, its highest byte first.
+    pub(crate) fn push_u32(&mut self, number: u32)
+        requires { length self.old + 4 ≤ 30 }
+        ensures { self.new ≡ self.old ++ big_bytes 4 number }
+    {
+        let mut bytes = [0u8; 4];
+        BigEndian::write_u32(&mut bytes, number);
+        self.push_two(bytes[0], bytes[1]);
+        self.push_two(bytes[2], bytes[3]);
     }
 
     /// Adds to the byte at a place.

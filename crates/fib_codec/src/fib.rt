@@ -8,8 +8,9 @@ ghost use Rattle.fib_codec.specs.Spelling.{head_byte as byte_of_head, bit_of, si
 ghost use Rattle.fib_codec.specs.Grammar.{HoldsFigsOf, IsValidOf};
 
 use crate::data::Data;
+use crate::entry_writer::{entry_len, put_entry};
 use crate::head::Head;
-use crate::write::{entry_len, put_component, put_entry, put_packet, put_service_head, put_sub};
+use crate::{fig0_1, fig0_2, fig0_3};
 use mux_config::{Bits, ComponentEntry, Entry, PacketEntry, Sid, SubEntry};
 use std::marker::Model;
 
@@ -182,7 +183,7 @@ impl Fib {
         ensures { self.new ≡ self.old ++ sid_bytes sid
             ++ (bit_of rfa * 128 + ca_id * 16 + count) ∷ [] }
     {
-        put_service_head(&mut self.bytes, sid, rfa, ca_id, count);
+        fig0_2::encode_head(&mut self.bytes, sid, rfa, ca_id, count);
     }
 
     /// Appends the two bytes of a component to the entry of a service that was begun, which has room for it.
@@ -190,7 +191,7 @@ impl Fib {
         requires { length self.old + 2 ≤ 30 }
         ensures { self.new ≡ self.old ++ big_bytes 2 (component_word component) }
     {
-        put_component(&mut self.bytes, component);
+        fig0_2::encode_component(&mut self.bytes, component);
     }
 
     /// Appends the entry of a sub-channel in the long form to the FIG that was begun, which has room for it.
@@ -198,7 +199,7 @@ impl Fib {
         requires { length self.old + 4 ≤ 30 }
         ensures { self.new ≡ self.old ++ sub_bytes sub }
     {
-        put_sub(&mut self.bytes, sub);
+        fig0_1::encode_long(&mut self.bytes, sub);
     }
 
     /// Appends the entry of a packet component to the FIG that was begun, which has room for it.
@@ -206,7 +207,7 @@ impl Fib {
         requires { length self.old + length (packet_bytes packet) ≤ 30 }
         ensures { self.new ≡ self.old ++ packet_bytes packet }
     {
-        put_packet(&mut self.bytes, packet);
+        fig0_3::encode(&mut self.bytes, packet);
     }
 
     /// The data bytes so far: those of the FIGs that were appended.

@@ -1,22 +1,31 @@
 //! Fast Information Blocks as they go on air (EN 300 401 clauses 5.2.1 and 5.2.2): entries of FIG 0/0 to
 //! 0/3 are put into FIGs, FIGs into a FIB of 32 bytes, and its check word closes it.
 //!
+//! Each FIG's entries have their layout in one file, `fig0_0` to `fig0_3`: their length, how they are encoded
+//! and decoded, and as the contract of `decode` the law that these agree. Readers call the same functions.
+//!
 //! The definitions that contracts cite stand in `specs/`: `Spelling` says how entries and FIGs are
 //! written, `Grammar` which FIGs 32 bytes hold, `Crc` what the check word is, apart from any table, and
 //! `Heard` which entries a receiver hears in a FIB.
 #![tactic(auto)]
 
+pub mod bytes;
 pub mod crc;
 mod crc_tables;
 mod data;
+pub mod entry_writer;
 pub mod fib;
 pub mod fib_frame;
+pub mod fig0_0;
+pub mod fig0_1;
+pub mod fig0_2;
+pub mod fig0_3;
 pub mod head;
 pub mod laws;
 pub mod modes;
-pub mod write;
 
 pub use crc::{crc16, crc16_by_bits, is_checked};
+pub use entry_writer::entry_len;
 pub use fib::Fib;
 pub use fib_frame::FibFrame;
 pub use head::Head;
@@ -25,4 +34,3 @@ pub use mux_config::{
     Bits, ComponentEntry, Ensemble, Entry, Few, PacketEntry, ScId, ScTy, ServiceEntry, ShortEntry,
     Sid, SubEntry, SubId,
 };
-pub use write::entry_len;

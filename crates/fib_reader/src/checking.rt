@@ -5,9 +5,10 @@ ghost use Rattle.fib_codec.specs.Grammar.{Fig, IsFib};
 ghost use Rattle.fib_reader.specs.Faults.{IsFault};
 ghost use Rattle.fib_reader.specs.FirstFault.{entries_fault, ensemble_fault, body_fault, fig_fault, figs_fault};
 
-use crate::bytes::{byte_at, entry_len_of, is_long_of, is_open_of};
+use crate::bytes::{entry_len_of, is_long_of, is_open_of};
 use crate::fault::FibFault;
 use crate::figs::Figs;
+use fib_codec::bytes::byte_at;
 use fib_codec::is_checked;
 
 /// The place of the first entry that isn't whole.

@@ -4,10 +4,13 @@ ghost use Rattle.std.specs.Prelude.{◌≡◌, ◌<◌, ◌≤◌, [], ◌∷◌
 ghost use Rattle.fib_codec.specs.Grammar.{entry_len};
 ghost use Rattle.fib_reader.specs.Walk.{entries_of};
 
-use crate::bytes::{byte_at, entry_len_of, is_long_of, word_at};
-use crate::value::{ensemble_of, packet_of, service_of, short_of, sub_of};
+use crate::bytes::{entry_len_of, is_long_of};
+use fib_codec::{fig0_0, fig0_1, fig0_2, fig0_3};
 use mux_config::{Ensemble, Entry};
 use std::marker::Model;
+
+/// How many SIds of 16 bits there are; those of 32 bits come after them.
+const SHORT_SIDS: u64 = 1 << 16;
 
 /// An entry of FIG 0/0 to 0/3 as it is sent. It lends its bytes.
 #[derive(Drop)]
@@ -49,16 +52,16 @@ impl<'a> RawEntry<'a> {
         ensures in_range { self.now.ext < 4 }
     {
         match self.ext {
-            0 => word_at(self.bytes, 0),
-            1 => u64::from(byte_at(self.bytes, 0) / 4),
+            0 => u64::from(fig0_0::eid_at(self.bytes)),
+            1 => u64::from(fig0_1::sub_id_at(self.bytes)),
             2 => {
                 if self.long {
-                    65_536 + (word_at(self.bytes, 0) * 65_536 + word_at(self.bytes, 2))
+                    SHORT_SIDS + u64::from(fig0_2::long_sid_at(self.bytes))
                 } else {
-                    word_at(self.bytes, 0)
+                    u64::from(fig0_2::short_sid_at(self.bytes))
                 }
             }
-            _ => word_at(self.bytes, 0) / 16,
+            _ => u64::from(fig0_3::scid_at(self.bytes)),
         }
     }
 
@@ -91,7 +94,7 @@ impl<'a> RawEntry<'a> {
         requires { self.now.ext ≡ 0 }
         ensures { result ≡ ensemble_in self.now }
     {
-        ensemble_of(self.bytes)
+        fig0_0::decode(self.bytes)
     }
 
     /// Its value: the entry that is sent so (EN 300 401 clauses 6.2.1, 6.3.1, 6.3.2 and 6.4).
@@ -101,16 +104,16 @@ impl<'a> RawEntry<'a> {
         ensures { IsValue self.now result }
     {
         match self.ext {
-            0 => Entry::Ensemble(ensemble_of(self.bytes)),
+            0 => Entry::Ensemble(fig0_0::decode(self.bytes)),
             1 => {
-                if byte_at(self.bytes, 2) >= 128 {
-                    Entry::Sub(sub_of(self.bytes))
+                if fig0_1::is_long_form(self.bytes) {
+                    Entry::Sub(fig0_1::decode_long(self.bytes))
                 } else {
-                    Entry::Short(short_of(self.bytes))
+                    Entry::Short(fig0_1::decode_short(self.bytes))
                 }
             }
-            2 => Entry::Service(service_of(self.long, self.bytes)),
-            _ => Entry::Packet(packet_of(self.bytes)),
+            2 => Entry::Service(fig0_2::decode(self.long, self.bytes)),
+            _ => Entry::Packet(fig0_3::decode(self.bytes)),
         }
     }
 }

@@ -4,9 +4,10 @@ ghost use Rattle.std.specs.Prelude.{◌≡◌, ◌≤◌, ◌%◌, [], ◌∷◌
 ghost use Rattle.fib_codec.specs.Grammar.{Open, Other, is_long};
 ghost use Rattle.fib_reader.specs.Walk.{fig_of, entries_of, pieces_of};
 
-use crate::bytes::{byte_at, is_long_of, is_open_of};
+use crate::bytes::{is_long_of, is_open_of};
 use crate::entries::Entries;
 use fib_codec::Head;
+use fib_codec::bytes::byte_at;
 use std::marker::Model;
 
 /// A FIG, which lends its bytes. Contracts see it as the grammar does: of extension 0 to 3 and of this

@@ -2,7 +2,7 @@ use Rattle.std.proofs.Common.{◌≡◌, ◌+◌, ◌*◌, ◌++◌, length}
 use Rattle.mux_config.specs.Configuration.{Each}
 use Rattle.fib_codec.specs.Ranges.{IsComponentEntry}
 use Rattle.fib_codec.specs.Spelling.{components_bytes}
-use Rattle.fib_reader.proofs.value.put_components.Given as goal
+use Rattle.fib_codec.proofs.fig0_2.decode_components.Given as goal
 
 abbrev pub invariant-loop-rest : goal.invariant-loop-rest
 invariant-loop-rest l = record {

@@ -2,7 +2,7 @@ use Rattle.std.proofs.Common.{◌≡◌, ◌++◌, take}
 use Rattle.mux_config.specs.Configuration.{Each}
 use Rattle.fib_codec.specs.Ranges.{IsComponentEntry}
 use Rattle.fib_codec.specs.Spelling.{components_bytes}
-use Rattle.fib_codec.proofs.write.put_components.Given as goal
+use Rattle.fib_codec.proofs.fig0_2.encode_components.Given as goal
 
 abbrev pub invariant-loop-component : goal.invariant-loop-component
 invariant-loop-component l = record {

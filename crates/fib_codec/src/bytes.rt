@@ -1,0 +1,35 @@
+//! Single bytes and numbers of two bytes, as entries of FIGs have them.
+
+ghost use Rattle.std.specs.Prelude.{◌≡◌, ◌+◌, ◌*◌, ◌<◌, get_or};
+
+/// The byte at an offset, or 0 past the end.
+pub fn byte_at(bytes: &[u8], offset: usize) -> u8
+    ensures { result ≡ get_or bytes.now offset 0 }
+{
+    match bytes.get(offset) {
+        Some(byte) => *byte,
+        None => 0,
+    }
+}
+
+/// The number that two bytes are, the higher one first.
+pub(crate) fn u16_of(high: u8, low: u8) -> u16
+    ensures { result ≡ high * 256 + low }
+{
+    u16::from_be_bytes([high, low])
+}
+
+/// The number that the two bytes from an offset on are, the first one higher; a byte past the end is 0.
+pub(crate) fn u16_at(bytes: &[u8], offset: usize) -> u16
+    requires { offset < 8 }
+    ensures { result ≡ get_or bytes.now offset 0 * 256 + get_or bytes.now (offset + 1) 0 }
+{
+    u16_of(byte_at(bytes, offset), byte_at(bytes, offset + 1))
+}
+
+/// The number that two of 16 bits are, the higher one first.
+pub(crate) fn u32_of(high: u16, low: u16) -> u32
+    ensures { result ≡ high * 65536 + low }
+{
+    (u32::from(high) << u16::BITS) | u32::from(low)
+}

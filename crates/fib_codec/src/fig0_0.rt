@@ -1,0 +1,93 @@
+//! FIG 0/0, ensemble information (EN 300 401 clause 6.4): the layout of its entry.
+//!
+//! EId 16, change flags 2, Al 1, CIF count high part 5 and low part 8, and where a change flag is set the
+//! occurrence change 8.
+
+ghost use Rattle.std.specs.Prelude.{◌≡◌, ◌+◌, ◌*◌, ◌≤◌, ◌++◌, if◌then◌else◌, length, get_or};
+ghost use Rattle.fib_codec.specs.Grammar.{ensemble_len, IsCounted};
+ghost use Rattle.fib_codec.specs.Ranges.{IsEnsembleInformation};
+ghost use Rattle.fib_codec.specs.Spelling.{ensemble_bytes};
+ghost use Rattle.mux_config.specs.Entries.{EnsembleInformation};
+
+use crate::bytes::{byte_at, u16_at, u16_of};
+use crate::data::Data;
+use mux_config::Ensemble;
+
+/// The bytes without an occurrence change.
+const PLAIN_LEN: usize = 4;
+
+/// The bytes with an occurrence change.
+const FLAGGED_LEN: usize = 5;
+
+const CHANGE_SHIFT: u32 = 6;
+
+const AL_SHIFT: u32 = 5;
+
+const AL_MASK: u8 = 0x01;
+
+const COUNT_HIGH_MASK: u8 = 0x1f;
+
+/// The CIF count's low part runs modulo this.
+const COUNT_LOW_RANGE: u16 = 250;
+
+/// How many bytes the entry takes, with a change flag set or without.
+pub fn len(flagged: bool) -> usize
+    ensures { result ≡ (if flagged then 5 else 4) }
+{
+    if flagged { FLAGGED_LEN } else { PLAIN_LEN }
+}
+
+/// How long the entry is that begins here, as its change flags say.
+pub fn len_at(bytes: &[u8]) -> usize
+    ensures { result ≡ ensemble_len bytes.now }
+{
+    len(byte_at(bytes, 2) >> CHANGE_SHIFT != 0)
+}
+
+/// The EId of the entry that begins here.
+pub fn eid_at(bytes: &[u8]) -> u16
+    ensures { result ≡ get_or bytes.now 0 0 * 256 + get_or bytes.now 1 0 }
+{
+    u16_at(bytes, 0)
+}
+
+/// Appends the entry.
+pub(crate) fn encode(out: &mut Data, ensemble: Ensemble)
+    requires { length out.old + length (ensemble_bytes ensemble) ≤ 30 }
+    ensures written { out.new ≡ out.old ++ ensemble_bytes ensemble }
+    ensures within { IsEnsembleInformation ensemble }
+{
+    out.push_u16(ensemble.eid());
+    let count = ensemble.count();
+    let high = (count / COUNT_LOW_RANGE) as u8;
+    let al = (u8::from(ensemble.al()) << AL_SHIFT) | high;
+    out.push((ensemble.change() << CHANGE_SHIFT) | al);
+    out.push((count % COUNT_LOW_RANGE) as u8);
+    match ensemble.occurrence() {
+        Some(low) => out.push(low),
+        None => {}
+    }
+}
+
+/// The ensemble information that these bytes are: the one that is encoded so.
+pub fn decode(bytes: &[u8]) -> Ensemble
+    requires whole { length bytes.now ≡ ensemble_len bytes.now }
+    requires counted { IsCounted bytes.now }
+    ensures spelled { bytes.now ≡ ensemble_bytes result }
+    ensures within { IsEnsembleInformation result }
+    ensures only { (e : EnsembleInformation) → IsEnsembleInformation e
+        → bytes.now ≡ ensemble_bytes e → result ≡ e }
+{
+    let flags = bytes[2];
+    let change = flags >> CHANGE_SHIFT;
+    let high = u16::from(flags & COUNT_HIGH_MASK);
+    let occurrence = if change > 0 { Some(bytes[4]) } else { None };
+    Ensemble::new(
+        u16_of(bytes[0], bytes[1]),
+        change,
+        (flags >> AL_SHIFT) & AL_MASK == 1,
+        high * COUNT_LOW_RANGE + u16::from(bytes[3]),
+        occurrence,
+    )
+    .unwrap()
+}
