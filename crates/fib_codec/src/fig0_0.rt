@@ -1,7 +1,8 @@
 //! FIG 0/0, ensemble information (EN 300 401 clause 6.4): the layout of its entry.
 //!
 //! EId 16, change flags 2, Al 1, CIF count high part 5 and low part 8, and where a change flag is set the
-//! occurrence change 8.
+//! occurrence change 8. That `encode` and `decode` agree is the contract of `decode`: what it gives is encoded as
+//! these bytes, and is the only one that is.
 
 ghost use Rattle.std.specs.Prelude.{◌≡◌, ◌+◌, ◌*◌, ◌≤◌, ◌++◌, if◌then◌else◌, length, get_or};
 ghost use Rattle.fib_codec.specs.Grammar.{ensemble_len, IsCounted};
@@ -19,6 +20,7 @@ const PLAIN_LEN: usize = 4;
 /// The bytes with an occurrence change.
 const FLAGGED_LEN: usize = 5;
 
+/// The third byte: the change flags, Al, and the CIF count's high part.
 const CHANGE_SHIFT: u32 = 6;
 
 const AL_SHIFT: u32 = 5;
@@ -69,7 +71,7 @@ pub(crate) fn encode(out: &mut Data, ensemble: Ensemble)
     }
 }
 
-/// The ensemble information that these bytes are: the one that is encoded so.
+/// The ensemble information that these bytes are: it is encoded so, and no other one is.
 pub fn decode(bytes: &[u8]) -> Ensemble
     requires whole { length bytes.now ≡ ensemble_len bytes.now }
     requires counted { IsCounted bytes.now }

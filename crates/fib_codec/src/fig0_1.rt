@@ -1,7 +1,8 @@
 //! FIG 0/1, sub-channels (EN 300 401 clause 6.2.1): the layout of its entries in both forms.
 //!
 //! An entry begins with 16 bits: SubChId 6, start address 10. Long form: 1, option 3, protection level 2,
-//! size 10. Short form: 0, table switch 1, table index 6.
+//! size 10. Short form: 0, table switch 1, table index 6. That encoding and decoding agree is the contract of
+//! `decode_long` and `decode_short`: what they give is encoded as these bytes, and is the only one that is.
 
 ghost use Rattle.std.specs.Prelude.{◌≡◌, ◌+◌, ◌<◌, ◌≤◌, ◌↔◌, ◌/◌, ◌==◌, ◌++◌, IsTrue, if◌then◌else◌, length, get_or};
 ghost use Rattle.fib_codec.specs.Grammar.{sub_len};
@@ -23,10 +24,12 @@ const SHORT_LEN: usize = 3;
 /// The form bit, the highest one of the third byte: 1 in the long form.
 const LONG_FORM: u8 = 0x80;
 
+/// The 16 bits that an entry of either form begins with.
 const SUB_ID_SHIFT: u32 = 10;
 
 const START_MASK: u16 = 0x03ff;
 
+/// The 16 bits that follow in the long form, after the form bit.
 const OPTION_SHIFT: u32 = 12;
 
 const OPTION_MASK: u16 = 0x0007;
@@ -37,6 +40,7 @@ const LEVEL_MASK: u16 = 0x0003;
 
 const SIZE_MASK: u16 = 0x03ff;
 
+/// The byte that follows in the short form.
 const SWITCH_SHIFT: u32 = 6;
 
 const TABLE_MASK: u8 = 0x3f;
@@ -93,7 +97,7 @@ pub(crate) fn encode_short(out: &mut Data, short: ShortEntry)
     out.push((u8::from(short.switch) << SWITCH_SHIFT) | short.table.get() as u8);
 }
 
-/// The sub-channel of the long form that these bytes are: the one that is encoded so.
+/// The sub-channel of the long form that these bytes are: it is encoded so, and no other one is.
 pub fn decode_long(bytes: &[u8]) -> SubEntry
     requires whole { length bytes.now ≡ 4 }
     requires long { 128 ≤ get_or bytes.now 2 0 }
@@ -112,7 +116,7 @@ pub fn decode_long(bytes: &[u8]) -> SubEntry
     }
 }
 
-/// The sub-channel of the short form that these bytes are: the one that is encoded so.
+/// The sub-channel of the short form that these bytes are: it is encoded so, and no other one is.
 pub fn decode_short(bytes: &[u8]) -> ShortEntry
     requires whole { length bytes.now ≡ 3 }
     requires short { get_or bytes.now 2 0 < 128 }

@@ -1,7 +1,8 @@
 //! FIG 0/2, services and their components (EN 300 401 clause 6.3.1): the layout of its entries.
 //!
 //! SId 16 or 32 as the P/D flag says, Rfa 1, CAId 3, number of components 4, then 16 bits a component:
-//! TMId 2, ASCTy or DSCTy 6 and SubChId 6, or SCId 12, then P/S 1 and CA 1.
+//! TMId 2, ASCTy or DSCTy 6 and SubChId 6, or SCId 12, then P/S 1 and CA 1. That `encode` and `decode` agree
+//! is the contract of `decode`: what it gives is encoded as these bytes, and is the only one that is.
 
 ghost use Rattle.std.specs.Prelude.{◌≡◌, ◌+◌, ◌*◌, ◌%◌, ◌≤◌, ◌<◌, ◌++◌, ◌∷◌, [], if◌then◌else◌, length, get_or};
 ghost use Rattle.byteorder.specs.Endian.{big_bytes};
@@ -24,6 +25,7 @@ const LONG_HEAD_LEN: usize = 5;
 /// The bytes of a component.
 const COMPONENT_LEN: usize = 2;
 
+/// The byte before the components: Rfa, CAId and their number.
 const RFA_SHIFT: u32 = 7;
 
 const CA_ID_SHIFT: u32 = 4;
@@ -46,6 +48,7 @@ const TM_ID_PACKET: u16 = 3;
 /// The fourteen bits after the TMId.
 const OTHER_MASK: u16 = 0x3fff;
 
+/// The bits after the TMId: the type and the SubChId, or the SCId, and the two flags.
 const TY_SHIFT: u32 = 6;
 
 const TY_MASK: u8 = 0x3f;
@@ -119,8 +122,7 @@ pub(crate) fn encode_head(out: &mut Data, sid: Sid, rfa: bool, ca_id: Bits<3>, c
     out.push((u8::from(rfa) << RFA_SHIFT) | counted);
 }
 
-/// The 16 bits of a component by its TMId, the fourteen bits that follow it without the two lowest, and these:
-/// the P/S flag and the CA flag.
+/// The 16 bits of a component: its TMId, the twelve bits that follow, the P/S flag and the CA flag.
 fn component_word_of(tm_id: u16, field: u16, primary: bool, ca: bool) -> u16
     requires tm_id { tm_id < 4 }
     requires field { field < 4096 }
@@ -244,7 +246,7 @@ fn decode_components(components: &mut Few<ComponentEntry, 15>, bytes: &[u8])
     }
 }
 
-/// The service that these bytes are under this P/D flag: the one that is encoded so.
+/// The service that these bytes are under this P/D flag: it is encoded so, and no other one is.
 pub fn decode(long: bool, bytes: &[u8]) -> ServiceEntry
     requires { length bytes.now ≡ service_len long bytes.now }
     ensures spelled { bytes.now ≡ service_bytes result }

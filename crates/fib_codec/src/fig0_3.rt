@@ -1,7 +1,8 @@
 //! FIG 0/3, packet components (EN 300 401 clause 6.3.2): the layout of its entries.
 //!
 //! SCId 12, Rfa 3, CAOrg flag 1, DG flag 1, Rfu 1, DSCTy 6, SubChId 6, packet address 10, and where the CAOrg
-//! flag is set the CAOrg 16.
+//! flag is set the CAOrg 16. That `encode` and `decode` agree is the contract of `decode`: what it gives is
+//! encoded as these bytes, and is the only one that is.
 
 ghost use Rattle.std.specs.Prelude.{◌≡◌, ◌+◌, ◌*◌, ◌/◌, ◌≤◌, ◌++◌, if◌then◌else◌, length, get_or};
 ghost use Rattle.fib_codec.specs.Grammar.{packet_len};
@@ -19,6 +20,7 @@ const PLAIN_LEN: usize = 5;
 /// The bytes of an entry with a CAOrg.
 const CA_ORG_LEN: usize = 7;
 
+/// The first 16 bits: the SCId, Rfa and the CAOrg flag.
 const SCID_SHIFT: u32 = 4;
 
 const RFA_SHIFT: u32 = 1;
@@ -27,6 +29,7 @@ const RFA_MASK: u16 = 0x0007;
 
 const CA_ORG_FLAG: u8 = 0x01;
 
+/// The third byte: the DG flag, Rfu and the DSCTy.
 const DG_SHIFT: u32 = 7;
 
 const RFU_SHIFT: u32 = 6;
@@ -35,6 +38,7 @@ const RFU_MASK: u8 = 0x01;
 
 const TY_MASK: u8 = 0x3f;
 
+/// The next 16 bits: the SubChId and the packet address.
 const SUB_ID_SHIFT: u32 = 10;
 
 const ADDRESS_MASK: u16 = 0x03ff;
@@ -78,7 +82,7 @@ pub(crate) fn encode(out: &mut Data, packet: PacketEntry)
     }
 }
 
-/// The packet component that these bytes are: the one that is encoded so.
+/// The packet component that these bytes are: it is encoded so, and no other one is.
 pub fn decode(bytes: &[u8]) -> PacketEntry
     requires { length bytes.now ≡ packet_len bytes.now }
     ensures spelled { bytes.now ≡ packet_bytes result }
