@@ -3,7 +3,7 @@ use Rattle.std.proofs.Common.{◌≡◌, ℕ, ◌+◌, ◌*◌, ◌<◌, ◌≤�
 use Rattle.std.proofs.lemmas.List.{take_more, length-append, length-take-le, map-append}
 use Rattle.std.proofs.lemmas.Bool.{ne_eqb}
 use Rattle.byteorder.specs.Endian.{big_bytes}
-use Rattle.mux_config.specs.declared.parts.Component.{Component}
+use Rattle.mux_types.specs.declared.parts.Component.{Component}
 use Rattle.mux_config.specs.declared.entry.ComponentEntry.{ComponentEntry}
 use Rattle.mux_config.specs.Facts.{component_entry, component_entries}
 use Rattle.fib_codec.specs.Spelling.{component_word, components_bytes}

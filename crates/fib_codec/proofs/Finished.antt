@@ -5,8 +5,8 @@ use Rattle.std.proofs.lemmas.List.{length-replicate}
 use Rattle.std.proofs.lemmas.Bool.{and_from, and_left, and_right, cases_lt, cond-true, cond-false, cond_both, ltb-true, ltb-false}
 use Rattle.mux_config.specs.Configuration.{Each}
 use Rattle.mux_config.specs.Entries.{EnsembleInformation}
-use Rattle.mux_config.specs.declared.numbers.Sid.{Sid}
-use Rattle.mux_config.specs.declared.numbers.Sid.TheVariants.{Short, Long}
+use Rattle.mux_types.specs.declared.numbers.Sid.{Sid}
+use Rattle.mux_types.specs.declared.numbers.Sid.TheVariants.{Short, Long}
 use Rattle.mux_config.specs.declared.entry.Entry.{Entry}
 use Rattle.mux_config.specs.declared.entry.Entry.TheVariants.{Ensemble as EnsembleOf, Sub as SubOf, Short as ShortOf, Service as ServiceOf, Packet as PacketOf}
 use Rattle.mux_config.specs.declared.entry.SubEntry.{SubEntry}

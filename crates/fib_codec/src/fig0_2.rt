@@ -14,7 +14,7 @@ ghost use Rattle.mux_config.specs.declared.entry.ServiceEntry.{ServiceEntry as E
 
 use crate::bytes::{byte_at, u16_at, u16_of, u32_of};
 use crate::data::Data;
-use mux_config::{Bits, ComponentEntry, Few, ScId, ScTy, ServiceEntry, Sid, SubId};
+use mux_config::{Bits, BoundedVec, ComponentEntry, ScId, ScTy, ServiceEntry, Sid, SubId};
 
 /// The bytes before the components where the SId is of 16 bits.
 const SHORT_HEAD_LEN: usize = 3;
@@ -230,7 +230,7 @@ fn decode_component(high: u8, low: u8) -> ComponentEntry
 }
 
 /// Appends the components that these bytes are to an empty list.
-fn decode_components(components: &mut Few<ComponentEntry, 15>, bytes: &[u8])
+fn decode_components(components: &mut BoundedVec<ComponentEntry, 15>, bytes: &[u8])
     requires none { components.old ≡ [] }
     requires few { length bytes.now ≤ 30 }
     requires even { length bytes.now % 2 ≡ 0 }
@@ -266,7 +266,7 @@ pub fn decode(long: bool, bytes: &[u8]) -> ServiceEntry
         sid,
         rfa: counted >> RFA_SHIFT == 1,
         ca_id: Bits::new(u16::from((counted >> CA_ID_SHIFT) & CA_ID_MASK)).unwrap(),
-        components: Few::new(),
+        components: BoundedVec::new(),
     };
     decode_components(&mut service.components, components);
     service

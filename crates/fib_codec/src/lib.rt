@@ -31,6 +31,6 @@ pub use fib_frame::FibFrame;
 pub use head::Head;
 pub use modes::Mode;
 pub use mux_config::{
-    Bits, ComponentEntry, Ensemble, Entry, Few, PacketEntry, ScId, ScTy, ServiceEntry, ShortEntry,
-    Sid, SubEntry, SubId,
+    Bits, BoundedVec, ComponentEntry, Ensemble, Entry, PacketEntry, ScId, ScTy, ServiceEntry,
+    ShortEntry, Sid, SubEntry, SubId,
 };

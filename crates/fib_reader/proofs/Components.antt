@@ -4,14 +4,14 @@ use Rattle.std.specs.Prelude.{◌||◌}
 use Rattle.std.specs.List.{list_any}
 use Rattle.std.proofs.lemmas.List.{take-map, length-map, get_or-map}
 use Rattle.std.proofs.lemmas.Bool.{eqb-true, eq-eqb, ne_eqb}
-use Rattle.mux_config.specs.declared.parts.Component.{Component}
-use Rattle.mux_config.specs.declared.parts.Component.TheVariants.{Sound, Stream, Packet}
-use Rattle.mux_config.specs.declared.parts.Carrier.{Carrier}
-use Rattle.mux_config.specs.declared.parts.Carrier.TheVariants.{Sub as BySub, Packet as ByPacket}
+use Rattle.mux_types.specs.declared.parts.Component.{Component}
+use Rattle.mux_types.specs.declared.parts.Component.TheVariants.{Sound, Stream, Packet}
+use Rattle.mux_types.specs.declared.parts.Carrier.{Carrier}
+use Rattle.mux_types.specs.declared.parts.Carrier.TheVariants.{Sub as BySub, Packet as ByPacket}
 use Rattle.mux_config.specs.declared.entry.ComponentEntry.{ComponentEntry}
 use Rattle.mux_config.specs.declared.entry.ComponentEntry.TheVariants.{Sound as SoundOf, Stream as StreamOf, Other, Packet as PacketsOf}
 use Rattle.mux_config.specs.Configuration.{Each, AreDifferent, carrier_of, IsComponent}
-use Rattle.mux_config.specs.Edits.{names, is_same_carrier}
+use Rattle.mux_config.specs.Sameness.{names, is_same_carrier}
 use Rattle.mux_config.specs.Facts.{component_entry, component_entries}
 
 -- one component more

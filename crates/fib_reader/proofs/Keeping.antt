@@ -3,8 +3,7 @@ use Rattle.std.proofs.Common.{◌≡◌, ◌≢◌, ℕ, zero, suc, ◌+◌, ◌
 use Rattle.std.specs.Prelude.{◌||◌}
 use Rattle.std.proofs.lemmas.Bool.{cases_lt, eq-eqb, ne_eqb}
 use Rattle.mux_config.specs.Configuration.{Each, IsAscending}
-use Rattle.mux_config.specs.Tables.{entry_at, with_entry, with_entry_changed}
-use Rattle.mux_config.specs.Edits.{has_entry}
+use Rattle.mux_config.specs.Tables.{entry_at, with_entry, with_entry_changed, has_entry}
 use Rattle.std.specs.Prelude.{slice_get, IfSome, IfNone}
 use Rattle.std.proofs.Common.{take}
 use Rattle.std.proofs.Math.Seq.{take-append_seam}

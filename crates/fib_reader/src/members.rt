@@ -7,7 +7,7 @@ ghost use Rattle.fib_reader.specs.Listening.{identifier_of};
 
 use crate::kept::Kept;
 use crate::said::{packet_said, service_said, sub_said};
-use mux_config::{Entry, Keyed, Packet, Service, Sub, Table};
+use mux_config::{Entry, Keyed, Packet, Service, SortedTable, Sub};
 
 /// A member of a configuration that an entry can say: a sub-channel, a service or a packet component.
 pub(crate) trait Said: Keyed {
@@ -93,7 +93,7 @@ impl Said for Packet {
 }
 
 /// The set of members that entries say, which stand in ascending order; None where one of them says none.
-pub(crate) fn members<T: Said>(kept: &[Kept]) -> Option<Table<T, 64>>
+pub(crate) fn members<T: Said>(kept: &[Kept]) -> Option<SortedTable<T, 64>>
     requires ascending { IsAscending identifier_of kept.now }
     requires few { length kept.now ≤ 64 }
     ensures said { IfSome result (λ xs. map (λ x. raw_entry (T.entry_of x)) xs ≡ kept.now) }
@@ -103,7 +103,7 @@ pub(crate) fn members<T: Said>(kept: &[Kept]) -> Option<Table<T, 64>>
 {
     fib_codec::laws::spelling();
     T::laws();
-    let mut table = Table::new();
+    let mut table = SortedTable::new();
     for entry in kept {
         let Some(member) = T::said(&entry.lent().value()) else {
             return None;

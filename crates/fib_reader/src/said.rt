@@ -4,14 +4,14 @@ ghost use Rattle.std.specs.Prelude.{◌≡◌, ◌≤◌, Bool, IfSome, IfNone, 
 ghost use Rattle.mux_config.specs.Configuration.{Each, IsAscending, IsPlaced, IsService, IsAddressed, AreDifferent, IsComponent};
 ghost use Rattle.mux_config.specs.Facts.{sub_entry, service_entry, packet_entry, component_entry, component_entries};
 ghost use Rattle.fib_codec.specs.Ranges.{IsSubEntry, IsServiceEntry, IsPacketEntry, IsComponentEntry};
-ghost use Rattle.mux_config.specs.declared.parts.Sub.{Sub};
-ghost use Rattle.mux_config.specs.declared.parts.Service.{Service};
-ghost use Rattle.mux_config.specs.declared.parts.Packet.{Packet};
-ghost use Rattle.mux_config.specs.declared.parts.Component.{Component};
+ghost use Rattle.mux_types.specs.declared.parts.Sub.{Sub};
+ghost use Rattle.mux_types.specs.declared.parts.Service.{Service};
+ghost use Rattle.mux_types.specs.declared.parts.Packet.{Packet};
+ghost use Rattle.mux_types.specs.declared.parts.Component.{Component};
 ghost use Rattle.mux_config.specs.declared.entry.Entry.TheVariants.{Sub as SubOf, Service as ServiceOf, Packet as PacketOf};
 
 use mux_config::{
-    Component, ComponentEntry, Entry, Few, Packet, PacketEntry, Service, ServiceEntry, Sub,
+    BoundedVec, Component, ComponentEntry, Entry, Packet, PacketEntry, Service, ServiceEntry, Sub,
     SubEntry,
 };
 use mux_eep::{EepSet, Protection, rate_of};
@@ -106,7 +106,7 @@ fn component_said(primary: bool, entry: &ComponentEntry) -> Option<Component>
 
 /// The components that their entries say; None where one says none, or one of a P/S flag that a component in
 /// its place doesn't have, or two have one carrier.
-fn components_said(entries: &[ComponentEntry]) -> Option<Few<Component, 12>>
+fn components_said(entries: &[ComponentEntry]) -> Option<BoundedVec<Component, 12>>
     requires within { Each IsComponentEntry entries.now }
     requires few { length entries.now ≤ 12 }
     ensures members { IfSome result (Each IsComponent) }
@@ -115,7 +115,7 @@ fn components_said(entries: &[ComponentEntry]) -> Option<Few<Component, 12>>
     ensures none { IfNone result ((cs : List Component) → AreDifferent cs
         → component_entries cs ≡ entries.now → ⊥) }
 {
-    let mut components = Few::new();
+    let mut components = BoundedVec::new();
     for place in 0..entries.len() {
         let Some(component) = component_said(place == 0, &entries[place]) else {
             return None;

@@ -7,13 +7,13 @@ ghost use Rattle.fib_reader.specs.Listening.{has_room, is_known, kept, identifie
 
 use crate::entries::RawEntry;
 use crate::kept::Kept;
-use mux_config::{Keyed, Table};
+use mux_config::{Keyed, SortedTable};
 use std::marker::Model;
 
 /// At most 64 entries of one extension. Contracts see them as a list in ascending order of identifiers.
 #[derive(Drop)]
 pub(crate) struct Shelf {
-    table: Table<Kept, 64>,
+    table: SortedTable<Kept, 64>,
     /// Where an entry was found the last time, by a hash of its identifier. Entries are heard over and over, so
     /// most are found here at once. Nothing rests on it: the place may have another entry by now.
     hints: [u8; 256],
@@ -39,7 +39,7 @@ impl Shelf {
         ensures { result ≡ [] }
     {
         Shelf {
-            table: Table::new(),
+            table: SortedTable::new(),
             hints: [0; 256],
         }
     }

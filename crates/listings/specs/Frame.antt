@@ -2,7 +2,8 @@
 use Rattle.std.specs.Prelude.{ℕ, ◌%◌, ◌==◌, nat_lt, if◌then◌else◌, List, length, Option, Some, None, Result, Ok, Err}
 use Rattle.mux_config.specs.Configuration.{Configuration}
 use Rattle.mux_config.specs.Entries.{EnsembleInformation}
-use Rattle.mux_config.specs.Reading.{Reads, config_at}
+use Rattle.mux_config.specs.FieldReading.{Reads}
+use Rattle.mux_config.specs.Reading.{config_at}
 use Rattle.mux_config.specs.Sound.{sound_or_fault}
 use Rattle.mux_config.specs.declared.fault.ConfigFault.{ConfigFault}
 use Rattle.fib_codec.specs.Modes.{count_step}

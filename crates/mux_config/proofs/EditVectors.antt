@@ -2,17 +2,17 @@
 use Rattle.std.proofs.Common.{◌≡◌, ℕ, false, List, [], ◌∷◌, map, Ok, Err, Some, None, refl}
 use Rattle.std.specs.List.{range_with_len}
 use Rattle.mux_eep.specs.declared.sizes.EepSet.TheVariants.{A}
-use Rattle.mux_config.specs.declared.parts.Sub.{Sub}
-use Rattle.mux_config.specs.declared.parts.Service.{Service}
-use Rattle.mux_config.specs.declared.parts.Component.{Component}
-use Rattle.mux_config.specs.declared.parts.Component.TheVariants.{Sound, Packet as InPackets}
-use Rattle.mux_config.specs.declared.parts.Carrier.TheVariants.{Sub as BySub}
-use Rattle.mux_config.specs.declared.parts.Packet.{Packet}
-use Rattle.mux_config.specs.declared.numbers.Sid.TheVariants.{Short as ShortSid, Long as LongSid}
+use Rattle.mux_types.specs.declared.parts.Sub.{Sub}
+use Rattle.mux_types.specs.declared.parts.Service.{Service}
+use Rattle.mux_types.specs.declared.parts.Component.{Component}
+use Rattle.mux_types.specs.declared.parts.Component.TheVariants.{Sound, Packet as InPackets}
+use Rattle.mux_types.specs.declared.parts.Carrier.TheVariants.{Sub as BySub}
+use Rattle.mux_types.specs.declared.parts.Packet.{Packet}
+use Rattle.mux_types.specs.declared.numbers.Sid.TheVariants.{Short as ShortSid, Long as LongSid}
 use Rattle.mux_config.specs.declared.fault.EditFault.TheVariants.{IdUsed, IdAbsent, TooManyComponents, TableFull, PastEnd, BadRate, BadAddress}
 use Rattle.mux_config.specs.declared.fault.ConfigFault.TheVariants.{Overlap, Orphan, AddressUsed, EmptyService}
 use Rattle.mux_config.specs.declared.edit.Edit.TheVariants.{AddSub, MoveSub, RateSub, AddService, DropService, AddComponent, DropComponent, AddPacket}
-use Rattle.mux_config.specs.Configuration.{Configuration, nothing}
+use Rattle.mux_types.specs.Configuration.{Configuration, nothing}
 use Rattle.mux_config.specs.Edits.{edited}
 use Rattle.mux_config.specs.Sound.{first_fault}
 use Rattle.mux_config.specs.Change.{change_of, bits_of}

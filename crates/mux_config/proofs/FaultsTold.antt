@@ -2,13 +2,14 @@
 use Rattle.std.proofs.Common.{◌≡◌, ℕ, ◌<◌, ◌≤◌, Bool, true, false, cond, List, [], ◌∷◌, Contains, Option, Some, None, Err, refl, sym, ap, ◌∙◌, subst, ◌⊎◌, inl, inr, arith}
 use Rattle.std.specs.List.{list_any}
 use Rattle.std.proofs.lemmas.Bool.{false≢true}
-use Rattle.mux_config.specs.declared.parts.Sub.{Sub}
+use Rattle.mux_types.specs.declared.parts.Sub.{Sub}
 use Rattle.mux_config.specs.declared.fault.ConfigFault.{ConfigFault}
 use Rattle.mux_config.specs.declared.fault.ConfigFault.TheVariants.{Overlap, Orphan, AddressUsed, EmptyService}
-use Rattle.mux_config.specs.Configuration.{Configuration, IsConfiguration, Each, IsAscending, IsPlaced, sub_key}
+use Rattle.mux_types.specs.Configuration.{Configuration, IsConfiguration, Each, IsAscending, IsPlaced, sub_key}
 use Rattle.mux_config.specs.Sound.{IsUnitOf, IsSound, overlaps, overlap_with, first_of_two, first_overlap, has_orphan, has_address_twice, is_empty_service, other_fault, first_fault, sound_unless, sound_or_fault}
 use Rattle.mux_config.specs.SoundFaults.{AreApart, AreCarried, AreAddressed, IsFirstOverlap, IsFault, FaultsTell}
-use Rattle.mux_config.proofs.Sounding.{contains_cases, contains_first, contains_later, each_contains, apart_told, with_told, overlaps_told, overlaps_found, orphans_told, orphans_found, twice_told, twice_none, filled_found, sound_told}
+use Rattle.mux_types.proofs.Elements.{contains_cases, contains_first, contains_later, each_contains}
+use Rattle.mux_config.proofs.Sounding.{apart_told, with_told, overlaps_told, overlaps_found, orphans_told, orphans_found, twice_told, twice_none, filled_found, sound_told}
 
 -- ---- the first two that share a capacity unit
 

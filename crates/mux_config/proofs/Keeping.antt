@@ -7,21 +7,22 @@ use Rattle.std.proofs.lemmas.List.{length-map}
 use Rattle.std.proofs.lemmas.Option.{slice_get_cases}
 use Rattle.mux_eep.specs.Sizes.{Profile, IsSize, size_or_fault, table_size, rate_step}
 use Rattle.mux_eep.specs.declared.fault.EepFault.TheVariants.{NotMultiple, ZeroRate, PastMultiplex}
-use Rattle.mux_config.specs.declared.parts.Sub.{Sub}
-use Rattle.mux_config.specs.declared.parts.Service.{Service}
-use Rattle.mux_config.specs.declared.parts.Component.{Component}
-use Rattle.mux_config.specs.declared.parts.Carrier.{Carrier}
-use Rattle.mux_config.specs.declared.parts.Carrier.TheVariants.{Sub as BySub, Packet as ByPacket}
-use Rattle.mux_config.specs.declared.parts.Packet.{Packet}
-use Rattle.mux_config.specs.declared.numbers.Sid.{Sid}
+use Rattle.mux_types.specs.declared.parts.Sub.{Sub}
+use Rattle.mux_types.specs.declared.parts.Service.{Service}
+use Rattle.mux_types.specs.declared.parts.Component.{Component}
+use Rattle.mux_types.specs.declared.parts.Carrier.{Carrier}
+use Rattle.mux_types.specs.declared.parts.Carrier.TheVariants.{Sub as BySub, Packet as ByPacket}
+use Rattle.mux_types.specs.declared.parts.Packet.{Packet}
+use Rattle.mux_types.specs.declared.numbers.Sid.{Sid}
 use Rattle.mux_config.specs.declared.fault.EditFault.{EditFault}
 use Rattle.mux_config.specs.declared.fault.EditFault.TheVariants.{IdUsed, IdAbsent, TooManyComponents, TableFull, PastEnd, BadRate, BadAddress}
 use Rattle.mux_config.specs.declared.edit.Edit.TheVariants.{AddSub, DropSub, MoveSub, RateSub, AddService, DropService, AddComponent, DropComponent, AddPacket, DropPacket}
-use Rattle.mux_config.specs.Configuration.{Configuration, IsConfiguration, Each, IsAscending, IsPlaced, IsService, IsAddressed, IsSid, IsComponent, AreDifferent, size_of_sub, sub_key, sid_key, service_key, packet_key, carrier_of, component_limit}
-use Rattle.mux_config.specs.Tables.{entry_at, with_entry, without_entry, with_entry_changed}
-use Rattle.mux_config.specs.Edits.{has_entry, changed_at, absent_or, sub_at, service_at, at_start, at_rate, has_bad_rate, is_past_end, placing_fault, names, is_same_carrier, component_fault, with_component, without_carrier, has_bad_address, add_sub_fault, sub_added, sub_dropped, move_sub_fault, sub_moved, rate_sub_fault, sub_rated, add_service_fault, service_added, service_dropped, add_component_fault, component_added, drop_component_fault, component_dropped, add_packet_fault, packet_added, packet_dropped, EditsKeep}
-use Rattle.mux_config.proofs.Walking.{each_at}
-use Rattle.mux_config.proofs.Tables.{each_weaker, each_pushed, each_with, each_without, each_changed, ascends_with, ascends_without, ascends_changed}
+use Rattle.mux_types.specs.Configuration.{Configuration, IsConfiguration, Each, IsAscending, IsPlaced, IsService, IsAddressed, IsSid, IsComponent, AreDifferent, size_of_sub, sub_key, sid_key, service_key, packet_key, carrier_of, component_limit}
+use Rattle.mux_types.specs.Tables.{entry_at, with_entry, without_entry, with_entry_changed, has_entry, changed_at}
+use Rattle.mux_config.specs.Edits.{absent_or, sub_at, service_at, at_start, at_rate, has_bad_rate, is_past_end, placing_fault, component_fault, with_component, without_carrier, has_bad_address, add_sub_fault, sub_added, sub_dropped, move_sub_fault, sub_moved, rate_sub_fault, sub_rated, add_service_fault, service_added, service_dropped, add_component_fault, component_added, drop_component_fault, component_dropped, add_packet_fault, packet_added, packet_dropped, EditsKeep}
+use Rattle.mux_types.specs.Sameness.{names, is_same_carrier}
+use Rattle.mux_types.proofs.Walking.{each_at}
+use Rattle.mux_types.proofs.Tables.{each_weaker, each_pushed, each_with, each_without, each_changed, ascends_with, ascends_without, ascends_changed}
 
 -- ---- tests
 

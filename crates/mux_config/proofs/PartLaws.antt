@@ -11,19 +11,21 @@ use Rattle.mux_eep.specs.declared.fault.EepFault.{EepFault}
 use Rattle.mux_eep.specs.declared.fault.EepFault.TheVariants.{NotMultiple, ZeroRate, PastMultiplex}
 use Rattle.mux_eep.specs.declared.sizes.EepSet.{EepSet}
 use Rattle.mux_eep.specs.declared.sizes.EepSet.TheVariants.{A, B}
-use Rattle.mux_config.specs.declared.parts.Sub.{Sub}
-use Rattle.mux_config.specs.declared.parts.Service.{Service}
-use Rattle.mux_config.specs.declared.parts.Component.{Component}
-use Rattle.mux_config.specs.declared.parts.Carrier.{Carrier}
-use Rattle.mux_config.specs.declared.parts.Carrier.TheVariants.{Sub as BySub, Packet as ByPacket}
-use Rattle.mux_config.specs.declared.parts.Packet.{Packet}
-use Rattle.mux_config.specs.declared.record.RecordFault.TheVariants.{Order}
-use Rattle.mux_config.specs.Configuration.{Each, IsPlaced, IsComponent, IsService, IsAddressed, AreDifferent, carrier_of, component_limit, sid_key}
-use Rattle.mux_config.specs.Edits.{is_same_carrier, names}
-use Rattle.mux_config.specs.Spelling.{word_bytes, protection_bytes, sub_bytes, sid_bytes, component_bytes, service_bytes, flag_byte, packet_bytes}
-use Rattle.mux_config.specs.Reading.{place, byte_within, word_within, number_at, flag_at, protection_at, size_or_field, sub_at, sid_at, component_at, components_at, service_at, packet_at}
-use Rattle.mux_config.proofs.Tables.{each_pushed}
-use Rattle.mux_config.proofs.FieldLaws.{IsBytes, Front, front_then, bind_ok, refuse_ok, ok_is, word_front, word_again, byte_within_front, byte_within_again, word_within_front, word_within_again, flag_front, flag_again, protection_front, protection_again, sid_front, sid_again, component_front, component_again}
+use Rattle.mux_types.specs.declared.parts.Sub.{Sub}
+use Rattle.mux_types.specs.declared.parts.Service.{Service}
+use Rattle.mux_types.specs.declared.parts.Component.{Component}
+use Rattle.mux_types.specs.declared.parts.Carrier.{Carrier}
+use Rattle.mux_types.specs.declared.parts.Carrier.TheVariants.{Sub as BySub, Packet as ByPacket}
+use Rattle.mux_types.specs.declared.parts.Packet.{Packet}
+use Rattle.byte_fields.specs.declared.record.RecordFault.TheVariants.{Order}
+use Rattle.mux_types.specs.Configuration.{Each, IsPlaced, IsComponent, IsService, IsAddressed, AreDifferent, carrier_of, component_limit, sid_key}
+use Rattle.mux_types.specs.Sameness.{is_same_carrier, names}
+use Rattle.byte_fields.specs.FieldSpelling.{word_bytes, protection_bytes, sid_bytes, component_bytes, flag_byte}
+use Rattle.mux_config.specs.Spelling.{sub_bytes, service_bytes, packet_bytes}
+use Rattle.byte_fields.specs.FieldReading.{place, byte_within, word_within, number_at, flag_at, protection_at, sid_at, component_at}
+use Rattle.mux_config.specs.Reading.{size_or_field, sub_at, components_at, service_at, packet_at}
+use Rattle.mux_types.proofs.Tables.{each_pushed}
+use Rattle.byte_fields.proofs.FieldLaws.{IsBytes, Front, front_then, bind_ok, refuse_ok, ok_is, word_front, word_again, byte_within_front, byte_within_again, word_within_front, word_within_again, flag_front, flag_again, protection_front, protection_again, sid_front, sid_again, component_front, component_again}
 
 -- ---- sizes
 

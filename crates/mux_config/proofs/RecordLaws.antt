@@ -3,12 +3,13 @@
 use Rattle.std.proofs.Common.{◌≡◌, ℕ, zero, suc, ◌+◌, ◌-◌, ◌<◌, ◌≤◌, List, [], ◌∷◌, ◌++◌, length, drop, Result, Ok, Err, IfOk, IfErr, refl, sym, ap, subst, ◌∙◌, append_assoc, arith}
 use Rattle.std.specs.List.{flat_map}
 use Rattle.std.proofs.lemmas.List.{append-nil, length-append, drop_at}
-use Rattle.mux_config.specs.declared.record.RecordFault.{RecordFault}
-use Rattle.mux_config.specs.Configuration.{Configuration, Each, IsAscending, IsPlaced, IsService, IsAddressed, IsConfiguration, sub_key, service_key, packet_key}
+use Rattle.byte_fields.specs.declared.record.RecordFault.{RecordFault}
+use Rattle.mux_types.specs.Configuration.{Configuration, Each, IsAscending, IsPlaced, IsService, IsAddressed, IsConfiguration, sub_key, service_key, packet_key}
 use Rattle.mux_config.specs.Spelling.{sub_bytes, service_bytes, packet_bytes, config_bytes}
-use Rattle.mux_config.specs.Reading.{Reads, byte_within, sub_at, service_at, packet_at, members_at, record_at, config_at}
-use Rattle.mux_config.proofs.Tables.{each_weaker, each_pushed, ascends_pushed}
-use Rattle.mux_config.proofs.FieldLaws.{IsBytes, Front, front_then, bind_ok, ok_is, byte_within_front, byte_within_again}
+use Rattle.byte_fields.specs.FieldReading.{Reads, byte_within}
+use Rattle.mux_config.specs.Reading.{sub_at, service_at, packet_at, members_at, record_at, config_at}
+use Rattle.mux_types.proofs.Tables.{each_weaker, each_pushed, ascends_pushed}
+use Rattle.byte_fields.proofs.FieldLaws.{IsBytes, Front, front_then, bind_ok, ok_is, byte_within_front, byte_within_again}
 use Rattle.mux_config.proofs.PartLaws.{flat_pushed, sub_front, sub_again, service_front, service_again, packet_front, packet_again}
 
 -- ---- the members of a set

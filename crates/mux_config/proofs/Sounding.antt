@@ -1,44 +1,27 @@
-use Rattle.std.proofs.Common.{◌≡◌, ◌≢◌, ℕ, zero, suc, ◌+◌, ◌/◌, ◌%◌, ◌<◌, ◌==◌, Bool, true, false, not, cond, ◌&&◌, ◌||◌, ltb, List, [], ◌∷◌, length, Contains, Option, Some, None, is_some, refl, sym, ap, ◌∙◌, subst, ◌⊎◌, inl, inr, arith}
+-- That a configuration is sound exactly where no fault is found.
+use Rattle.std.proofs.Common.{◌≡◌, ◌≢◌, ℕ, ◌+◌, ◌/◌, ◌%◌, ◌<◌, ◌==◌, Bool, true, false, not, cond, ◌&&◌, ◌||◌, ltb, List, [], ◌∷◌, length, Contains, Option, Some, None, is_some, refl, sym, ap, ◌∙◌, subst, ◌⊎◌, inl, inr, arith}
 use Rattle.std.specs.List.{list_any}
 use Rattle.std.proofs.lemmas.Bool.{false≢true, eqb-true, eq-eqb, ne_eqb, ltb-true, lt-ltb, cases_lt}
 use Rattle.std.proofs.Math.Nat.{le-mul_of_pos_right}
 use Rattle.mux_eep.specs.Sizes.{rate_step, units_of_step}
 use Rattle.mux_eep.specs.declared.sizes.EepSet.{EepSet}
 use Rattle.mux_eep.specs.declared.sizes.EepSet.TheVariants.{A, B}
-use Rattle.mux_config.specs.declared.parts.Sub.{Sub}
-use Rattle.mux_config.specs.declared.parts.Service.{Service}
-use Rattle.mux_config.specs.declared.parts.Component.{Component}
-use Rattle.mux_config.specs.declared.parts.Carrier.{Carrier}
-use Rattle.mux_config.specs.declared.parts.Carrier.TheVariants.{Sub as BySub, Packet as ByPacket}
-use Rattle.mux_config.specs.declared.parts.Packet.{Packet}
+use Rattle.mux_types.specs.declared.parts.Sub.{Sub}
+use Rattle.mux_types.specs.declared.parts.Service.{Service}
+use Rattle.mux_types.specs.declared.parts.Component.{Component}
+use Rattle.mux_types.specs.declared.parts.Carrier.{Carrier}
+use Rattle.mux_types.specs.declared.parts.Carrier.TheVariants.{Sub as BySub, Packet as ByPacket}
+use Rattle.mux_types.specs.declared.parts.Packet.{Packet}
 use Rattle.mux_config.specs.declared.fault.ConfigFault.{ConfigFault}
 use Rattle.mux_config.specs.declared.fault.ConfigFault.TheVariants.{Overlap, Orphan, AddressUsed, EmptyService}
-use Rattle.mux_config.specs.Configuration.{Configuration, IsConfiguration, Each, IsAscending, IsPlaced, size_of_sub, sub_key, packet_key, carrier_of}
-use Rattle.mux_config.specs.Edits.{has_entry}
-use Rattle.mux_config.specs.Tables.{entry_at}
+use Rattle.mux_types.specs.Configuration.{Configuration, IsConfiguration, Each, IsAscending, IsPlaced, size_of_sub, sub_key, packet_key, carrier_of}
+use Rattle.mux_types.specs.Tables.{has_entry, entry_at}
 use Rattle.mux_config.specs.Sound.{IsUnitOf, IsThere, IsSound, IsCrowded, overlaps, overlap_with, first_of_two, first_overlap, is_crowded, is_missing, has_orphan, has_same_address, has_address_twice, is_empty_service, other_fault, first_fault}
 use Rattle.mux_config.specs.SoundFaults.{AreCarried, AreFilled}
 use Rattle.mux_config.proofs.Rates.{units_positive}
+use Rattle.mux_types.proofs.Elements.{contains_cases, contains_first, contains_later, contains_none, each_contains}
 
 -- ---- members of a list
-
-pub contains_cases : {T : Type 0} (y : T) (ys : List T) (x : T) → Contains (y ∷ ys) x → (y ≡ x) ⊎ Contains ys x
-contains_cases y ys x (zero, within, at) = inl at
-contains_cases y ys x (suc k, within, at) = inr (k, omega arith, at)
-
-pub contains_first : {T : Type 0} (y : T) (ys : List T) → Contains (y ∷ ys) y
-contains_first y ys = (0, omega arith, refl)
-
-pub contains_later : {T : Type 0} (y : T) (ys : List T) (x : T) → Contains ys x → Contains (y ∷ ys) x
-contains_later y ys x (k, within, at) = (suc k, omega arith, at)
-
-pub contains_none : {T : Type 0} (x : T) → Contains [] x → ⊥
-contains_none x (k, within, at) = omega arith
-
-pub each_contains : {T : Type 0} (P : T → Type 0) (xs : List T) (x : T) → Each P xs → Contains xs x → P x
-each_contains P [] x h there = absurd (contains_none x there)
-each_contains P (y ∷ ys) x h there =
-    elim (contains_cases y ys x there) [ inl e ↦ subst P e h.0 | inr later ↦ each_contains P ys x h.1 later ]
 
 either : (a b : Bool) → (a || b) ≡ false → (a ≡ false) × (b ≡ false)
 either true b e = absurd (false≢true (sym e))

@@ -3,17 +3,17 @@ use Rattle.std.proofs.lemmas.Bool.{false≢true}
 use Rattle.mux_eep.specs.declared.sizes.EepSet.{EepSet}
 use Rattle.mux_eep.specs.declared.sizes.EepSet.TheVariants.{A, B}
 use Rattle.mux_eep.specs.Sizes.{Profile, OneRate, IsSize}
-use Rattle.mux_config.specs.declared.parts.Sub.{Sub}
-use Rattle.mux_config.specs.declared.parts.Service.{Service}
-use Rattle.mux_config.specs.declared.parts.Component.{Component}
-use Rattle.mux_config.specs.declared.parts.Component.TheVariants.{Sound, Stream, Packet as InPackets}
-use Rattle.mux_config.specs.declared.parts.Packet.{Packet}
+use Rattle.mux_types.specs.declared.parts.Sub.{Sub}
+use Rattle.mux_types.specs.declared.parts.Service.{Service}
+use Rattle.mux_types.specs.declared.parts.Component.{Component}
+use Rattle.mux_types.specs.declared.parts.Component.TheVariants.{Sound, Stream, Packet as InPackets}
+use Rattle.mux_types.specs.declared.parts.Packet.{Packet}
 use Rattle.mux_config.specs.declared.entry.Entry.{Entry}
 use Rattle.mux_config.specs.declared.entry.Entry.TheVariants.{Sub as SubOf, Service as ServiceOf, Packet as PacketOf}
 use Rattle.mux_config.specs.declared.entry.SubEntry.{SubEntry}
 use Rattle.mux_config.specs.declared.entry.ServiceEntry.{ServiceEntry}
 use Rattle.mux_config.specs.declared.entry.PacketEntry.{PacketEntry}
-use Rattle.mux_config.specs.Configuration.{Configuration, IsConfiguration, Each, IsPlaced, size_of_sub}
+use Rattle.mux_types.specs.Configuration.{Configuration, IsConfiguration, Each, IsPlaced, size_of_sub}
 use Rattle.mux_config.specs.Facts.{Marked, marked, option_of, sub_entry, component_entry, component_entries, service_entry, packet_entry, sub_entries, service_entries, FactsTell}
 
 -- ---- lists

@@ -1,28 +1,20 @@
 -- The ten edits of a configuration: what each changes, and why each is refused, in the order tested.
-use Rattle.std.specs.Prelude.{◌≡◌, ℕ, ◌+◌, ◌<◌, ◌≤◌, ◌==◌, ◌||◌, Bool, false, not, if◌then◌else◌, nat_lt, nat_le, List, [], ◌∷◌, ◌++◌, length, map, filter, Option, Some, None, Result, Ok, Err, is_err}
+use Rattle.std.specs.Prelude.{◌≡◌, ℕ, ◌+◌, ◌<◌, ◌≤◌, ◌==◌, ◌||◌, Bool, not, if◌then◌else◌, nat_lt, nat_le, [], ◌∷◌, ◌++◌, length, filter, Option, Some, None, Result, Ok, Err, is_err}
 use Rattle.std.specs.List.{list_any}
-use Rattle.mux_config.specs.declared.parts.Sub.{Sub}
-use Rattle.mux_config.specs.declared.parts.Service.{Service}
-use Rattle.mux_config.specs.declared.parts.Component.{Component}
-use Rattle.mux_config.specs.declared.parts.Carrier.{Carrier}
-use Rattle.mux_config.specs.declared.parts.Carrier.TheVariants.{Sub as BySub, Packet as ByPacket}
-use Rattle.mux_config.specs.declared.parts.Packet.{Packet}
+use Rattle.mux_types.specs.declared.parts.Sub.{Sub}
+use Rattle.mux_types.specs.declared.parts.Service.{Service}
+use Rattle.mux_types.specs.declared.parts.Component.{Component}
+use Rattle.mux_types.specs.declared.parts.Carrier.{Carrier}
+use Rattle.mux_types.specs.declared.parts.Packet.{Packet}
 use Rattle.mux_config.specs.declared.edit.Edit.{Edit}
 use Rattle.mux_config.specs.declared.edit.Edit.TheVariants.{AddSub, DropSub, MoveSub, RateSub, AddService, DropService, AddComponent, DropComponent, AddPacket, DropPacket}
-use Rattle.mux_config.specs.declared.numbers.Sid.{Sid}
+use Rattle.mux_types.specs.declared.numbers.Sid.{Sid}
 use Rattle.mux_config.specs.declared.fault.EditFault.{EditFault}
 use Rattle.mux_config.specs.declared.fault.EditFault.TheVariants.{IdUsed, IdAbsent, TooManyComponents, TableFull, PastEnd, BadRate, BadAddress}
-use Rattle.mux_config.specs.Configuration.{Configuration, IsConfiguration, IsSid, IsComponent, sub_key, sid_key, service_key, packet_key, size_of_sub, carrier_of, component_limit}
-use Rattle.mux_config.specs.Tables.{entry_at, with_entry, without_entry}
+use Rattle.mux_types.specs.Configuration.{Configuration, IsConfiguration, IsSid, IsComponent, sub_key, sid_key, service_key, packet_key, size_of_sub, carrier_of, component_limit}
+use Rattle.mux_types.specs.Tables.{entry_at, with_entry, without_entry, has_entry, changed_at}
+use Rattle.mux_types.specs.Sameness.{names}
 use Rattle.mux_eep.specs.Sizes.{size_or_fault}
-
--- whether a set has a member of this key
-abbrev pub has_entry : {T : Type 0} → (T → ℕ) → ℕ → List T → Bool
-has_entry key k xs = list_any (λ x. key x == k) xs
-
--- the set with the member of this key changed, and each other one as it was
-abbrev pub changed_at : {T : Type 0} → (T → ℕ) → ℕ → (T → T) → List T → List T
-changed_at key k change xs = map (λ x. if key x == k then change x else x) xs
 
 -- the members that an edit names
 abbrev pub sub_at : ℕ → Configuration → Option Sub
@@ -129,15 +121,6 @@ abbrev pub drop_service : Sid → Configuration → Result Configuration EditFau
 drop_service sid c = outcome (drop_service_fault sid c) (service_dropped sid c)
 
 -- ---- components of a service
-
-abbrev pub is_same_carrier : Carrier → Carrier → Bool
-is_same_carrier (BySub a) (BySub b) = a == b
-is_same_carrier (BySub a) (ByPacket b) = false
-is_same_carrier (ByPacket a) (BySub b) = false
-is_same_carrier (ByPacket a) (ByPacket b) = a == b
-
-abbrev pub names : Carrier → Component → Bool
-names carrier m = is_same_carrier (carrier_of m) carrier
 
 abbrev pub with_component : Component → Service → Service
 with_component m s = record s { components = s.components ++ m ∷ [] }

@@ -2,16 +2,16 @@
 use Rattle.std.specs.Prelude.{◌≡◌, ℕ, ◌-◌, ◌↔◌, Bool, true, false, List, [], ◌∷◌, ◌++◌, map, None, Contains}
 use Rattle.mux_eep.specs.declared.sizes.EepSet.{EepSet}
 use Rattle.mux_eep.specs.declared.sizes.EepSet.TheVariants.{A, B}
-use Rattle.mux_config.specs.declared.parts.Sub.{Sub}
-use Rattle.mux_config.specs.declared.parts.Service.{Service}
-use Rattle.mux_config.specs.declared.parts.Component.{Component}
-use Rattle.mux_config.specs.declared.parts.Component.TheVariants.{Sound, Stream, Packet as InPackets}
-use Rattle.mux_config.specs.declared.parts.Packet.{Packet}
+use Rattle.mux_types.specs.declared.parts.Sub.{Sub}
+use Rattle.mux_types.specs.declared.parts.Service.{Service}
+use Rattle.mux_types.specs.declared.parts.Component.{Component}
+use Rattle.mux_types.specs.declared.parts.Component.TheVariants.{Sound, Stream, Packet as InPackets}
+use Rattle.mux_types.specs.declared.parts.Packet.{Packet}
 use Rattle.mux_config.specs.declared.entry.Entry.{Entry}
 use Rattle.mux_config.specs.declared.entry.Entry.TheVariants.{Sub as SubOf, Service as ServiceOf, Packet as PacketOf}
 use Rattle.mux_config.specs.declared.entry.ComponentEntry.{ComponentEntry}
 use Rattle.mux_config.specs.declared.entry.ComponentEntry.TheVariants.{Sound as SoundOf, Stream as StreamOf, Packet as PacketsOf}
-use Rattle.mux_config.specs.Configuration.{Configuration, IsConfiguration, size_of_sub}
+use Rattle.mux_types.specs.Configuration.{Configuration, IsConfiguration, size_of_sub}
 
 -- an entry with its C/N flag, which is true where it speaks of the next configuration (clause 5.2.2.1)
 pub record Marked : Type 0 where

@@ -1,77 +1,20 @@
 -- Reading a configuration record from left to right, with the first fault that is met.
-use Rattle.std.specs.Prelude.{◌≡◌, ℕ, zero, suc, ◌+◌, ◌-◌, ◌==◌, nat_lt, if◌then◌else◌, Bool, List, [], ◌∷◌, ◌++◌, length, take, drop, Result, Ok, Err}
+use Rattle.std.specs.Prelude.{ℕ, zero, suc, ◌+◌, nat_lt, List, [], ◌∷◌, ◌++◌, length, Result, Ok, Err}
 use Rattle.std.specs.List.{list_any}
-use Rattle.std.specs.Int.{Width, w16, w32, byte_len, from_be_bytes}
-use Rattle.mux_eep.specs.Sizes.{Profile, size_or_fault}
+use Rattle.std.specs.Int.{w16}
+use Rattle.mux_eep.specs.Sizes.{size_or_fault}
 use Rattle.mux_eep.specs.declared.fault.EepFault.{EepFault}
-use Rattle.mux_eep.specs.declared.sizes.EepSet.{EepSet}
-use Rattle.mux_eep.specs.declared.sizes.EepSet.TheVariants.{A, B}
-use Rattle.mux_config.specs.declared.parts.Sub.{Sub}
-use Rattle.mux_config.specs.declared.parts.Service.{Service}
-use Rattle.mux_config.specs.declared.parts.Component.{Component}
-use Rattle.mux_config.specs.declared.parts.Component.TheVariants.{Sound, Stream, Packet as InPackets}
-use Rattle.mux_config.specs.declared.parts.Packet.{Packet}
-use Rattle.mux_config.specs.declared.numbers.Sid.{Sid}
-use Rattle.mux_config.specs.declared.numbers.Sid.TheVariants.{Short as ShortSid, Long as LongSid}
-use Rattle.mux_config.specs.declared.record.RecordFault.{RecordFault}
-use Rattle.mux_config.specs.declared.record.RecordFault.TheVariants.{Short, Field, Order}
-use Rattle.mux_config.specs.Configuration.{Configuration, sub_key, sid_key, service_key, packet_key, carrier_of, component_limit}
-use Rattle.mux_config.specs.Edits.{names}
-
--- what is read, and the bytes after it; or the first fault
-abbrev pub Reads : Type 0 → Type 0
-Reads T = Result (T × List ℕ) RecordFault
-
--- one reading after the other
-infixl 10 ◌>>=◌
-abbrev pub ◌>>=◌ : {A B : Type 0} → Result A RecordFault → (A → Result B RecordFault) → Result B RecordFault
-(Ok x) >>= f = f x
-(Err e) >>= f = Err e
-
--- a fault where the test holds
-abbrev pub refuse : Bool → RecordFault → Result (Unit {0}) RecordFault
-refuse test fault = if test then Err fault else Ok tt
-
--- the number, from the first byte of all, of the byte that is next, where `bytes` are left of `total`
-abbrev pub place : (total : ℕ) → (bytes : List ℕ) → ℕ
-place total bytes = total - length bytes
-
--- ---- numbers
-
-abbrev pub byte_at : List ℕ → Reads ℕ
-byte_at [] = Err Short
-byte_at (b ∷ rest) = Ok (b, rest)
-
-abbrev pub number_at : Width → List ℕ → Reads ℕ
-number_at w bytes =
-    if nat_lt (length bytes) (byte_len w) then Err Short
-    else Ok (from_be_bytes w (take (byte_len w) bytes), drop (byte_len w) bytes)
-
--- a number outside `low` to `high` is at fault at its first byte
-abbrev pub judged : (at low high : ℕ) → ℕ × List ℕ → Reads ℕ
-judged at low high n =
-    if nat_lt n.0 low then Err (Field at) else if nat_lt high n.0 then Err (Field at) else Ok n
-
-abbrev pub byte_within : (total low high : ℕ) → List ℕ → Reads ℕ
-byte_within total low high bytes = byte_at bytes >>= judged (place total bytes) low high
-
-abbrev pub word_within : (total low high : ℕ) → List ℕ → Reads ℕ
-word_within total low high bytes = number_at w16 bytes >>= judged (place total bytes) low high
-
-abbrev pub flag_at : (total : ℕ) → List ℕ → Reads Bool
-flag_at total bytes = byte_within total 0 1 bytes >>= λ n. Ok (n.0 == 1, n.1)
+use Rattle.mux_types.specs.declared.parts.Sub.{Sub}
+use Rattle.mux_types.specs.declared.parts.Service.{Service}
+use Rattle.mux_types.specs.declared.parts.Component.{Component}
+use Rattle.mux_types.specs.declared.parts.Packet.{Packet}
+use Rattle.byte_fields.specs.declared.record.RecordFault.{RecordFault}
+use Rattle.byte_fields.specs.declared.record.RecordFault.TheVariants.{Field, Order}
+use Rattle.byte_fields.specs.FieldReading.{Reads, ◌>>=◌, refuse, place, number_at, byte_within, word_within, flag_at, protection_at, sid_at, component_at}
+use Rattle.mux_types.specs.Configuration.{Configuration, sub_key, sid_key, service_key, packet_key, carrier_of, component_limit}
+use Rattle.mux_types.specs.Sameness.{names}
 
 -- ---- sub-channels
-
-abbrev pub set_of : ℕ → EepSet
-set_of zero = A
-set_of (suc n) = B
-
-unfoldable pub protection_at : (total : ℕ) → List ℕ → Reads Profile
-protection_at total bytes = do
-  set ← byte_within total 0 1 bytes
-  level ← byte_within total 1 4 set.1
-  Ok (record { set = set_of set.0; level = level.0 }, level.1)
 
 -- a rate that has no size is at fault where it stands
 abbrev pub size_or_field : ℕ → Result ℕ EepFault → Result ℕ RecordFault
@@ -91,36 +34,6 @@ sub_at total low bytes = do
   Ok (record { id = id.0; start = start.0; protection = protection.0; kbits = kbits.0 }, kbits.1)
 
 -- ---- services
-
-abbrev pub sid_of_kind : ℕ → List ℕ → Reads Sid
-sid_of_kind zero bytes = number_at w16 bytes >>= λ n. Ok (ShortSid n.0, n.1)
-sid_of_kind (suc k) bytes = number_at w32 bytes >>= λ n. Ok (LongSid n.0, n.1)
-
-unfoldable pub sid_at : (total : ℕ) → List ℕ → Reads Sid
-sid_at total bytes = do
-  kind ← byte_within total 0 1 bytes
-  sid_of_kind kind.0 kind.1
-
--- a component of a TMId, of which `bytes` are left; the TMId itself stands at `at`
-unfoldable pub component_of : (total at tmid : ℕ) → List ℕ → Reads Component
-component_of total at zero bytes = do
-  ty ← byte_within total 0 63 bytes
-  sub ← byte_within total 0 63 ty.1
-  Ok (Sound ty.0 sub.0, sub.1)
-component_of total at (suc zero) bytes = do
-  ty ← byte_within total 0 63 bytes
-  sub ← byte_within total 0 63 ty.1
-  Ok (Stream ty.0 sub.0, sub.1)
-component_of total at (suc (suc zero)) bytes = Err (Field at)
-component_of total at (suc (suc (suc zero))) bytes = do
-  scid ← word_within total 0 4095 bytes
-  Ok (InPackets scid.0, scid.1)
-component_of total at (suc (suc (suc (suc k)))) bytes = Err (Field at)
-
-unfoldable pub component_at : (total : ℕ) → List ℕ → Reads Component
-component_at total bytes = do
-  tmid ← byte_at bytes
-  component_of total (place total bytes) tmid.0 tmid.1
 
 -- `count` components after those that were read before; a carrier that stands twice is at fault at its component
 unfoldable pub components_at : (total : ℕ) → (before : List Component) → (count : ℕ) → List ℕ → Reads (List Component)
@@ -173,15 +86,3 @@ record_at total bytes = do
 -- the record at the front of these bytes; places are counted from their first byte
 abbrev pub config_at : List ℕ → Reads Configuration
 config_at bytes = record_at (length bytes) bytes
-
--- ---- a reader
-
--- what a reader holds: how many bytes there were in all, and those that are left
-pub record Unread : Type 0 where
-  pub total : ℕ
-  pub rest : List ℕ
-
--- a call that reads: it answers what the reading gives, and leaves what the reading leaves
-abbrev pub Takes : {T : Type 0} → Reads T → Result T RecordFault → Unread → Type 0
-Takes read (Ok x) left = read ≡ Ok (x, left.rest)
-Takes read (Err e) left = read ≡ Err e

@@ -1,14 +1,14 @@
 -- What each fault of an unsound configuration says, in the words of the sets, and which one is told: the first of four
 -- conditions that fails.
 use Rattle.std.specs.Prelude.{◌≡◌, ◌≢◌, ℕ, ◌<◌, ◌≤◌, ◌⊎◌, ◌↔◌, [], Contains, Err}
-use Rattle.mux_config.specs.declared.parts.Sub.{Sub}
-use Rattle.mux_config.specs.declared.parts.Service.{Service}
-use Rattle.mux_config.specs.declared.parts.Component.{Component}
-use Rattle.mux_config.specs.declared.parts.Carrier.TheVariants.{Sub as BySub}
-use Rattle.mux_config.specs.declared.parts.Packet.{Packet}
+use Rattle.mux_types.specs.declared.parts.Sub.{Sub}
+use Rattle.mux_types.specs.declared.parts.Service.{Service}
+use Rattle.mux_types.specs.declared.parts.Component.{Component}
+use Rattle.mux_types.specs.declared.parts.Carrier.TheVariants.{Sub as BySub}
+use Rattle.mux_types.specs.declared.parts.Packet.{Packet}
 use Rattle.mux_config.specs.declared.fault.ConfigFault.{ConfigFault}
 use Rattle.mux_config.specs.declared.fault.ConfigFault.TheVariants.{Overlap, Orphan, AddressUsed, EmptyService}
-use Rattle.mux_config.specs.Configuration.{Configuration, IsConfiguration, carrier_of}
+use Rattle.mux_types.specs.Configuration.{Configuration, IsConfiguration, carrier_of}
 use Rattle.mux_config.specs.Sound.{IsUnitOf, IsThere, sound_or_fault}
 
 -- no two sub-channels share a capacity unit

@@ -1,23 +1,22 @@
 //! A configuration held in three tables.
 
 ghost use Rattle.std.specs.Prelude.{◌≡◌, ◌≤◌, length};
-ghost use Rattle.mux_config.specs.Configuration.{Configuration, IsConfiguration, nothing};
+ghost use Rattle.mux_types.specs.Configuration.{Configuration, IsConfiguration, nothing};
 
-use crate::parts::{Packet, Service, Sub};
-use crate::table::Table;
+use mux_types::{Packet, Service, SortedTable, Sub};
 use std::marker::Model;
 
 /// A configuration of the multiplex: at most 64 sub-channels, services and packet components
 /// (EN 300 401 clauses 6.1 to 6.3). Contracts see it as the three lists in ascending order.
 #[derive(Drop)]
 pub struct Config {
-    pub(crate) subs: Table<Sub, 64>,
-    pub(crate) services: Table<Service, 64>,
-    pub(crate) packets: Table<Packet, 64>,
+    pub(crate) subs: SortedTable<Sub, 64>,
+    pub(crate) services: SortedTable<Service, 64>,
+    pub(crate) packets: SortedTable<Packet, 64>,
 }
 
 impl Model for Config {
-    ghost use Rattle.mux_config.specs.Configuration.{Configuration, IsConfiguration};
+    ghost use Rattle.mux_types.specs.Configuration.{Configuration, IsConfiguration};
 
     ghost Value = { Configuration };
 
@@ -34,17 +33,17 @@ impl Config {
         ensures configuration { IsConfiguration result }
     {
         Config {
-            subs: Table::new(),
-            services: Table::new(),
-            packets: Table::new(),
+            subs: SortedTable::new(),
+            services: SortedTable::new(),
+            packets: SortedTable::new(),
         }
     }
 
     /// The configuration of these three sets, which must be one.
     pub fn of(
-        subs: Table<Sub, 64>,
-        services: Table<Service, 64>,
-        packets: Table<Packet, 64>,
+        subs: SortedTable<Sub, 64>,
+        services: SortedTable<Service, 64>,
+        packets: SortedTable<Packet, 64>,
     ) -> Config
         requires { IsConfiguration (record {
           subs = subs;

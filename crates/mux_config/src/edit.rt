@@ -2,9 +2,8 @@
 
 ghost use Rattle.std.specs.Prelude.{◌≡◌, ◌<◌, ◌↔◌, IsSome, IfSome};
 
-use crate::numbers::{ScId, Sid, SubId};
-use crate::parts::{Carrier, Component, Packet, Sub};
 use mux_eep::Protection;
+use mux_types::{Carrier, Component, Packet, ScId, Sid, Sub, SubId};
 use std::marker::Model;
 
 /// A start address as FIG 0/1 can carry it, in capacity units: 10 bits, 0 to 1023 (EN 300 401 clause
@@ -57,7 +56,7 @@ pub struct NewSub {
 
 impl Model for NewSub {
     ghost use Rattle.std.specs.Prelude.{◌<◌};
-    ghost use Rattle.mux_config.specs.declared.parts.Sub.{Sub};
+    ghost use Rattle.mux_types.specs.declared.parts.Sub.{Sub};
 
     ghost Value = { Sub };
 

@@ -2,20 +2,20 @@
 
 ghost use Rattle.std.specs.Prelude.{◌≡◌, ◌<◌, if◌then◌else◌, not, length, filter, Some, None, IfSome, IfNone, option_copied};
 ghost use Rattle.std.specs.List.{remove};
-ghost use Rattle.mux_config.specs.Configuration.{IsConfiguration, IsPlaced, IsService, AreDifferent};
-ghost use Rattle.mux_config.specs.Edits.{has_entry, sub_at, service_at, at_start, names, without_carrier, placing_fault, component_fault, is_past_end, add_sub_fault, drop_sub_fault, move_sub_fault, rate_sub_fault, add_service_fault, drop_service_fault, add_component_fault, drop_component_fault, add_packet_fault, drop_packet_fault};
+ghost use Rattle.mux_types.specs.Configuration.{IsConfiguration, IsPlaced, IsService, AreDifferent};
+ghost use Rattle.mux_types.specs.Tables.{has_entry};
+ghost use Rattle.mux_config.specs.Edits.{sub_at, service_at, at_start, without_carrier, placing_fault, component_fault, is_past_end, add_sub_fault, drop_sub_fault, move_sub_fault, rate_sub_fault, add_service_fault, drop_service_fault, add_component_fault, drop_component_fault, add_packet_fault, drop_packet_fault};
+ghost use Rattle.mux_types.specs.Sameness.{names};
 ghost use Rattle.mux_config.specs.declared.fault.EditFault.TheVariants.{PastEnd};
 
 use crate::config::Config;
 use crate::fault::EditFault;
-use crate::keys::sid_key;
-use crate::numbers::{ScId, Sid, SubId};
 use crate::overlap::is_crowded;
-use crate::parts::{Carrier, Component, Packet, Service, Sub};
-use crate::sameness::{has_same_packets, has_same_services, has_same_subs};
 use crate::store::Store;
-use crate::table::{Keyed, Table};
 use mux_eep::size_of;
+use mux_types::keys::sid_key;
+use mux_types::sameness::{has_same_packets, has_same_services, has_same_subs};
+use mux_types::{Carrier, Component, Keyed, Packet, ScId, Service, Sid, SortedTable, Sub, SubId};
 
 /// The capacity units of a multiplex (EN 300 401 clause 5.1).
 const CAPACITY_UNITS: u32 = 864;
@@ -24,7 +24,7 @@ const CAPACITY_UNITS: u32 = 864;
 const LAST_ADDRESS: u16 = 1023;
 
 /// Whether a set has a member of a key.
-fn has<T: Keyed, const CAP: usize>(set: &Table<T, CAP>, key: u64) -> bool
+fn has<T: Keyed, const CAP: usize>(set: &SortedTable<T, CAP>, key: u64) -> bool
     ensures { result ≡ has_entry T.key key set.now }
 {
     set.place(key).is_some()

@@ -3,8 +3,7 @@
 
 ghost use Rattle.std.specs.Prelude.{◌≡◌, ◌≢◌, ◌<◌, ◌≤◌, ◌↔◌, IsSome, IfSome};
 
-use crate::few::Few;
-use crate::numbers::{Bits, ScId, ScTy, Sid, SubId};
+use mux_types::{Bits, BoundedVec, ScId, ScTy, Sid, SubId};
 use std::marker::Model;
 
 /// One entry of FIG 0/0 to 0/3.
@@ -230,7 +229,7 @@ pub struct ServiceEntry {
     /// CAId.
     pub ca_id: Bits<3>,
     /// The components in order.
-    pub components: Few<ComponentEntry, 15>,
+    pub components: BoundedVec<ComponentEntry, 15>,
 }
 
 /// A service component in packet mode, FIG 0/3 (EN 300 401 clause 6.3.2).

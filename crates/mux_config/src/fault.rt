@@ -1,6 +1,6 @@
 //! Why an edit is refused, and what makes a configuration unsound.
 
-use crate::numbers::SubId;
+use mux_types::SubId;
 use thiserror::Error;
 
 /// Why an edit of a configuration is refused.

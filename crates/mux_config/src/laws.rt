@@ -5,9 +5,8 @@ ghost use Rattle.mux_config.specs.Edits.{EditsKeep, RefusalsChangeNothing};
 ghost use Rattle.mux_config.specs.Facts.{FactsTell, FactSetsTell};
 ghost use Rattle.mux_config.specs.SoundFaults.{FaultsTell};
 ghost use Rattle.mux_config.specs.RecordFaults.{CutsAreShort, FaultsStay, FaultsAreFirst, ShortBeforePlaces};
-ghost use Rattle.mux_config.specs.Sets.{HasOneList, WithAdds, WithoutTakes, ChangedReplaces};
 
-use crate::table::Keyed;
+pub use mux_types::laws::sets;
 
 /// The law of facts: the entries of FIG 0/1 to 0/3 tell configurations apart, so that what is heard of
 /// one names it (EN 300 401 clauses 6.2.1, 6.3.1 and 6.3.2). The function does nothing; its contract is
@@ -61,14 +60,4 @@ pub fn record_faults()
     ensures stays { FaultsStay }
     ensures first { FaultsAreFirst }
     ensures places { ShortBeforePlaces }
-{}
-
-/// The laws of sets: a list in ascending order of its keys is a finite set, and the words in which edits are
-/// defined add a member to it, take one away and replace one. The function does nothing; its contract is the
-/// laws.
-pub fn sets<T: Keyed>()
-    ensures one_list { HasOneList T.key }
-    ensures adds { WithAdds T.key }
-    ensures takes { WithoutTakes T.key }
-    ensures replaces { ChangedReplaces T.key }
 {}

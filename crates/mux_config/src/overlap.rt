@@ -2,11 +2,11 @@
 
 ghost use Rattle.std.specs.Prelude.{◌≡◌, ◌≤◌};
 ghost use Rattle.std.specs.List.{list_any};
-ghost use Rattle.mux_config.specs.Configuration.{Each, IsPlaced, size_of_sub};
+ghost use Rattle.mux_types.specs.Configuration.{Each, IsPlaced, size_of_sub};
 ghost use Rattle.mux_config.specs.Sound.{overlaps, is_crowded};
 
-use crate::parts::Sub;
 use mux_eep::size_of;
+use mux_types::Sub;
 
 /// Whether two of these sub-channels share a capacity unit.
 pub(crate) fn is_crowded(subs: &[Sub]) -> bool

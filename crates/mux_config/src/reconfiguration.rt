@@ -1,12 +1,13 @@
 //! Which of the two organizations the step from one configuration to the next changes.
 
 ghost use Rattle.std.specs.Prelude.{◌≡◌};
-ghost use Rattle.mux_config.specs.Configuration.{IsConfiguration};
-ghost use Rattle.mux_config.specs.Change.{IsChange, change_of, is_same_service, is_same_packet, is_same_list, has_same_subs, has_same_services};
+ghost use Rattle.mux_types.specs.Configuration.{IsConfiguration};
+ghost use Rattle.mux_config.specs.Change.{IsChange, change_of, has_same_subs, has_same_services};
+ghost use Rattle.mux_types.specs.Sameness.{is_same_service, is_same_packet, is_same_list};
 
 use crate::flags::Change;
-use crate::sameness::{is_same_packet, is_same_service, is_same_sub};
 use crate::store::Store;
+use mux_types::sameness::{is_same_packet, is_same_service, is_same_sub};
 
 /// What the step from one configuration to the next changes: the sub-channel organization where their entries
 /// of FIG 0/1 differ, the service organization where those of FIG 0/2 or 0/3 differ (EN 300 401 clauses 6.4

@@ -1,18 +1,16 @@
 //! Reading a configuration record.
 
 ghost use Rattle.std.specs.Prelude.{◌≡◌, ℕ, ◌<◌, ◌≤◌, ◌^◌, ◌++◌, [], List, length, take, drop, Ok, Err, IfOk, IfErr};
-ghost use Rattle.mux_config.specs.Configuration.{Configuration, IsConfiguration, sid_key, component_limit};
+ghost use Rattle.mux_types.specs.Configuration.{Configuration, IsConfiguration, sid_key, component_limit};
 ghost use Rattle.mux_config.specs.Spelling.{config_bytes};
-ghost use Rattle.mux_config.specs.Reading.{Reads, Takes, sub_at, components_at, service_at, packet_at, members_at, record_at, config_at};
+ghost use Rattle.byte_fields.specs.FieldReading.{Reads, Takes};
+ghost use Rattle.mux_config.specs.Reading.{sub_at, components_at, service_at, packet_at, members_at, record_at, config_at};
 
 use crate::config::Config;
-use crate::few::Few;
-use crate::keys::sid_key;
-use crate::parts::{Component, Packet, Service, Sub};
-use crate::reader::Reader;
-use crate::record::RecordFault;
-use crate::table::{Keyed, Table};
+use byte_fields::{Reader, RecordFault};
 use mux_eep::size_of;
+use mux_types::keys::sid_key;
+use mux_types::{BoundedVec, Component, Keyed, Packet, Service, SortedTable, Sub};
 
 /// The capacity units of a multiplex, numbered 0 to 863 (EN 300 401 clause 5.1).
 const CAPACITY_UNITS: u32 = 864;
@@ -23,7 +21,7 @@ const MEMBERS: u8 = 64;
 /// A member of a set, as a record has it.
 trait Member: Keyed {
     ghost use Rattle.std.specs.Prelude.{ℕ, List};
-    ghost use Rattle.mux_config.specs.Reading.{Reads};
+    ghost use Rattle.byte_fields.specs.FieldReading.{Reads};
 
     ghost member_at: { ℕ → ℕ → List ℕ → Reads Self };
 
@@ -66,13 +64,13 @@ impl Member for Sub {
 }
 
 /// Reads that many components of one service.
-fn components(reader: &mut Reader, count: u8) -> Result<Few<Component, 12>, RecordFault>
+fn components(reader: &mut Reader, count: u8) -> Result<BoundedVec<Component, 12>, RecordFault>
     requires { count ≤ 12 }
     ensures read { Takes (components_at reader.old.total [] count reader.old.rest) result
         reader.new }
     ensures total { reader.new.total ≡ reader.old.total }
 {
-    let mut components = Few::new();
+    let mut components = BoundedVec::new();
     for _ in 0..count {
         let place = reader.place();
         let component = reader.component()?;
@@ -123,13 +121,13 @@ impl Member for Packet {
 }
 
 /// Reads that many members of a set, each with an identifier above that of the one before it.
-fn members<T: Member>(reader: &mut Reader, count: u8) -> Result<Table<T, 64>, RecordFault>
+fn members<T: Member>(reader: &mut Reader, count: u8) -> Result<SortedTable<T, 64>, RecordFault>
     requires { count ≤ 64 }
     ensures read { let members = members_at T.key (T.member_at reader.old.total) 0 [] count in
         Takes (members reader.old.rest) result reader.new }
     ensures total { reader.new.total ≡ reader.old.total }
 {
-    let mut members = Table::new();
+    let mut members = SortedTable::new();
     let mut low = 0;
     for _ in 0..count {
         let member = T::read(reader, low)?;

@@ -1,63 +1,16 @@
 //! Writing a configuration record.
 
 ghost use Rattle.std.specs.Prelude.{◌≡◌, ℕ, ◌++◌, ◌∷◌, [], List, length, Ok, OnOk, IfOk};
-ghost use Rattle.std.specs.Int.{w32, to_be_bytes};
 ghost use Rattle.std.specs.List.{flat_map};
-ghost use Rattle.mux_config.specs.Configuration.{IsConfiguration};
-ghost use Rattle.mux_config.specs.Spelling.{word_bytes, flag_byte, set_byte, protection_bytes, sub_bytes, sid_bytes, component_bytes, service_bytes, packet_bytes, config_bytes};
+ghost use Rattle.mux_types.specs.Configuration.{IsConfiguration};
+ghost use Rattle.byte_fields.specs.FieldSpelling.{word_bytes, flag_byte, protection_bytes, sid_bytes, component_bytes};
+ghost use Rattle.mux_config.specs.Spelling.{sub_bytes, service_bytes, packet_bytes, config_bytes};
 ghost use Rattle.mux_config.specs.Reading.{config_at};
 
 use crate::config::Config;
-use crate::numbers::Sid;
-use crate::parts::{Component, Packet, Service, Sub};
-use byteorder::{BigEndian, ByteOrder};
-use mux_eep::{EepSet, Protection};
+use byte_fields::{put_component, put_protection, put_sid, put_word};
+use mux_types::{Component, Packet, Service, Sub};
 use std::alloc::{AllocError, Global};
-
-/// Writes a number of two bytes.
-pub fn put_word(out: &mut Vec<u8>, number: u16) -> Result<(), AllocError>
-    ensures { OnOk result (out.new.items ≡ out.old.items ++ word_bytes number) }
-{
-    let mut bytes = [0; 2];
-    BigEndian::write_u16(&mut bytes, number);
-    out.extend_from_slice(&bytes)
-}
-
-/// Writes a number of four bytes.
-pub fn put_long(out: &mut Vec<u8>, number: u32) -> Result<(), AllocError>
-    ensures { OnOk result (out.new.items ≡ out.old.items ++ to_be_bytes w32 number) }
-{
-    let mut bytes = [0; 4];
-    BigEndian::write_u32(&mut bytes, number);
-    out.extend_from_slice(&bytes)
-}
-
-/// Writes a protection profile: its set, 0 for A and 1 for B, and its level.
-pub fn put_protection(out: &mut Vec<u8>, protection: Protection) -> Result<(), AllocError>
-    ensures { OnOk result (out.new.items ≡ out.old.items ++ protection_bytes protection) }
-{
-    let set = match protection.set() {
-        EepSet::A => 0,
-        EepSet::B => 1,
-    };
-    out.extend_from_slice(&[set, protection.level()])
-}
-
-/// Writes an SId: its kind, 0 for 16 bits and 1 for 32, and its number.
-pub fn put_sid(out: &mut Vec<u8>, sid: Sid) -> Result<(), AllocError>
-    ensures { OnOk result (out.new.items ≡ out.old.items ++ sid_bytes sid) }
-{
-    match sid {
-        Sid::Short(id) => {
-            out.push(0)?;
-            put_word(out, id)
-        }
-        Sid::Long(id) => {
-            out.push(1)?;
-            put_long(out, id)
-        }
-    }
-}
 
 /// What has bytes of its own in a record.
 trait Spelled {
@@ -85,14 +38,7 @@ impl Spelled for Component {
     ghost text = { component_bytes };
 
     fn put(&self, out: &mut Vec<u8>) -> Result<(), AllocError> {
-        match *self {
-            Component::Sound { ty, sub } => out.extend_from_slice(&[0, ty.get(), sub.get()]),
-            Component::Stream { ty, sub } => out.extend_from_slice(&[1, ty.get(), sub.get()]),
-            Component::Packet { scid } => {
-                out.push(3)?;
-                put_word(out, scid.get())
-            }
-        }
+        put_component(out, self)
     }
 }
 
@@ -124,13 +70,6 @@ fn put_all<T: Spelled>(out: &mut Vec<u8>, items: &[T]) -> Result<(), AllocError>
         item.put(out)?;
     }
     Ok(())
-}
-
-/// Writes a component: its TMId, and what carries it.
-pub fn put_component(out: &mut Vec<u8>, component: &Component) -> Result<(), AllocError>
-    ensures { OnOk result (out.new.items ≡ out.old.items ++ component_bytes component.now) }
-{
-    component.put(out)
 }
 
 /// Writes the record of a configuration after what stands in `out`.

@@ -2,16 +2,16 @@
 
 ghost use Rattle.std.specs.Prelude.{◌≡◌, ◌≤◌, ◌↔◌, if◌then◌else◌, length, drop, Some, None, IsOk};
 ghost use Rattle.std.specs.List.{list_any};
-ghost use Rattle.mux_config.specs.Configuration.{IsConfiguration, IsPlaced, sub_key, packet_key, size_of_sub, carrier_of};
-ghost use Rattle.mux_config.specs.Edits.{has_entry};
+ghost use Rattle.mux_types.specs.Configuration.{IsConfiguration, IsPlaced, sub_key, packet_key, size_of_sub, carrier_of};
+ghost use Rattle.mux_types.specs.Tables.{has_entry};
 ghost use Rattle.mux_config.specs.Sound.{IsSound, sound_or_fault, first_fault, other_fault, first_overlap, overlap_with, has_orphan, is_missing, has_address_twice, has_same_address, is_empty_service};
 ghost use Rattle.mux_config.specs.declared.fault.ConfigFault.TheVariants.{Overlap};
-ghost use Rattle.mux_config.specs.declared.parts.Carrier.TheVariants.{Sub as BySub};
+ghost use Rattle.mux_types.specs.declared.parts.Carrier.TheVariants.{Sub as BySub};
 
 use crate::fault::ConfigFault;
 use crate::overlap::overlaps;
-use crate::parts::{Carrier, Component, Packet, Sub};
 use crate::store::Store;
+use mux_types::{Carrier, Component, Packet, Sub};
 
 /// Whether a configuration is sound: no two sub-channels share a capacity unit, what each component and each
 /// packet component names is there, no two packet components of a sub-channel have one address, and each
@@ -96,7 +96,8 @@ fn has_orphan<S: Store>(store: &S) -> bool
 /// Whether a component of a service names something that is not there.
 fn has_orphan_component<S: Store>(store: &S) -> bool
     ensures { let c = S.content store.now in
-        result ≡ list_any (λ s. list_any (λ m. is_missing c (carrier_of m)) s.components) c.services }
+        result ≡ list_any (λ s. list_any (λ m. is_missing c (carrier_of m)) s.components)
+        c.services }
 {
     for place in 0..store.service_count() {
         if names_missing(store, store.service_at(place).components.as_slice()) {

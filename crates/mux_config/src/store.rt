@@ -1,14 +1,13 @@
 //! What holds a configuration, however it holds it.
 
 ghost use Rattle.std.specs.Prelude.{◌≡◌, ◌<◌, ◌↔◌, IsTrue, length, option_copied, slice_get, Some, None};
-ghost use Rattle.mux_config.specs.Configuration.{Configuration, IsConfiguration, nothing};
+ghost use Rattle.mux_types.specs.Configuration.{Configuration, IsConfiguration, nothing};
 ghost use Rattle.mux_config.specs.Sound.{IsCrowded};
 ghost use Rattle.mux_config.specs.Edits.{Edits, sub_at, service_at, packet_at, add_sub, add_sub_fault, sub_added, drop_sub, drop_sub_fault, sub_dropped, move_sub, move_sub_fault, sub_moved, rate_sub, rate_sub_fault, sub_rated, add_service, add_service_fault, service_added, drop_service, drop_service_fault, service_dropped, add_component, add_component_fault, component_added, drop_component, drop_component_fault, component_dropped, add_packet, add_packet_fault, packet_added, drop_packet, drop_packet_fault, packet_dropped};
 
 use crate::config::Config;
 use crate::fault::EditFault;
-use crate::numbers::{ScId, Sid, SubId};
-use crate::parts::{Carrier, Component, Packet, Service, Sub};
+use mux_types::{Carrier, Component, Packet, ScId, Service, Sid, Sub, SubId};
 
 /// A holder of one configuration: its three sets, in ascending order, and the ten edits (EN 300 401 clauses
 /// 6.1 to 6.3). All contracts speak of the configuration that it stands for. No call takes memory.
@@ -16,7 +15,7 @@ use crate::parts::{Carrier, Component, Packet, Service, Sub};
 /// Each edit answers the first of its faults, in the order in which its documentation names them, and changes
 /// nothing then. Its twin whose name ends in `known` is for a caller who knows that no fault holds.
 pub trait Store: Drop {
-    ghost use Rattle.mux_config.specs.Configuration.{Configuration};
+    ghost use Rattle.mux_types.specs.Configuration.{Configuration};
 
     /// The configuration that it stands for.
     ghost content: { Self → Configuration };

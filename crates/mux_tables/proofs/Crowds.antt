@@ -3,7 +3,7 @@ use Rattle.std.proofs.Common.{◌≡◌, ℕ, ◌<◌, ◌≤◌, List, Bool, tr
 use Rattle.std.proofs.lemmas.Bool.{false≢true}
 use Rattle.mux_config.specs.Configuration.{Configuration, IsConfiguration, IsPlaced}
 use Rattle.mux_config.specs.Sound.{IsCrowded}
-use Rattle.mux_config.proofs.Sounding.{each_contains}
+use Rattle.mux_types.proofs.Elements.{each_contains}
 use Rattle.mux_tables.specs.declared.unit_map.Block.{Block}
 use Rattle.mux_tables.specs.Units.{users, Counts}
 use Rattle.mux_tables.proofs.Users.{sharing_told, two_found}

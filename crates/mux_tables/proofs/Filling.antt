@@ -1,13 +1,13 @@
 -- Sub-channels are taken in one after another, and out again.
 use Rattle.std.proofs.Common.{◌≡◌, ℕ, zero, suc, ◌+◌, ◌%◌, ◌<◌, ◌==◌, true, false, ltb, List, [], ◌∷◌, take, drop, length, Option, Some, None, IfSome, slice_get, get_or, refl, sym, ap, ◌∙◌, subst, add-one, arith}
 use Rattle.std.proofs.lemmas.Bool.{le-ltb, ne_eqb, eq-eqb}
-use Rattle.mux_config.specs.declared.parts.Sub.{Sub}
+use Rattle.mux_types.specs.declared.parts.Sub.{Sub}
 use Rattle.mux_config.specs.Configuration.{Configuration, Each, IsAscending, IsPlaced, sub_key, size_of_sub}
 use Rattle.mux_eep.specs.Sizes.{rate_step}
 use Rattle.mux_config.specs.Tables.{entry_at, with_entry, without_entry}
 use Rattle.mux_config.specs.Edits.{placing_fault, add_sub_fault, sub_added, sub_dropped}
 use Rattle.mux_config.proofs.Keeping.{entry_holds, absent_found}
-use Rattle.mux_config.proofs.Walking.{cut}
+use Rattle.mux_types.proofs.Walking.{cut}
 use Rattle.mux_tables.proofs.Members.{without_below}
 
 pub placed_if : (id : ℕ) (xs : List Sub) (o : Option Sub) → Each IsPlaced xs → o ≡ entry_at sub_key id xs → IfSome o (λ s. IsPlaced s)

@@ -1,9 +1,9 @@
 -- A placed sub-channel in place of another keeps a configuration one.
 use Rattle.std.proofs.lemmas.List.{length-map}
-use Rattle.mux_config.specs.declared.parts.Sub.{Sub}
+use Rattle.mux_types.specs.declared.parts.Sub.{Sub}
 use Rattle.mux_config.specs.Configuration.{Configuration, IsConfiguration, IsPlaced, sub_key}
 use Rattle.mux_config.specs.Tables.{with_entry_changed}
-use Rattle.mux_config.proofs.Tables.{each_changed, ascends_changed}
+use Rattle.mux_types.proofs.Tables.{each_changed, ascends_changed}
 use Rattle.mux_config.proofs.Keeping.{subs_keep}
 
 pub replaced_keeps : (y : Sub) (c : Configuration) → IsConfiguration c → IsPlaced y → IsConfiguration (record c { subs = with_entry_changed sub_key y c.subs })

@@ -1,7 +1,7 @@
 -- A table of sub-channels and the list of their identifiers stay in step.
 use Rattle.std.proofs.Common.{◌≡◌, ℕ, zero, suc, ◌<◌, List, [], ◌∷◌, map, length, get_or, set, Option, Some, None, slice_get, refl, sym, ap, ◌∙◌, arith}
 use Rattle.std.proofs.lemmas.List.{length-map}
-use Rattle.mux_config.specs.declared.parts.Sub.{Sub}
+use Rattle.mux_types.specs.declared.parts.Sub.{Sub}
 use Rattle.mux_config.specs.Configuration.{sub_key}
 use Rattle.mux_config.specs.Tables.{entry_at, with_entry, without_entry, with_entry_changed}
 use Rattle.mux_tables.specs.declared.sub_table.ListedId.{ListedId}

@@ -2,11 +2,11 @@
 use Rattle.std.proofs.Common.{◌≡◌, ◌≢◌, ℕ, ◌+◌, ◌*◌, ◌<◌, ◌≤◌, ◌==◌, Bool, true, false, not, cond, ltb, List, [], ◌∷◌, length, filter, Contains, Option, Some, refl, sym, ap, ◌∙◌, subst, inl, inr, arith}
 use Rattle.std.proofs.lemmas.Bool.{cases_lt, eqb-true}
 use Rattle.std.proofs.lemmas.Bool.Decides.{nat_tests}
-use Rattle.mux_config.specs.declared.parts.Sub.{Sub}
+use Rattle.mux_types.specs.declared.parts.Sub.{Sub}
 use Rattle.mux_config.specs.Configuration.{Each, IsAscending, sub_key}
 use Rattle.mux_config.specs.Tables.{entry_at, with_entry, without_entry, with_entry_changed}
 use Rattle.mux_config.specs.Sound.{IsUnitOf}
-use Rattle.mux_config.proofs.Sounding.{contains_cases, contains_first, contains_later, contains_none, each_contains}
+use Rattle.mux_types.proofs.Elements.{contains_cases, contains_first, contains_later, contains_none, each_contains}
 use Rattle.mux_tables.specs.declared.span.Span.{Span}
 use Rattle.mux_tables.specs.declared.unit_map.Block.{Block}
 use Rattle.mux_tables.specs.Units.{span_of, has_unit, share, users, Counts, CountsIn, CountsOut}

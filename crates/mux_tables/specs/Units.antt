@@ -1,7 +1,7 @@
 -- How many sub-channels have each capacity unit, and the lanes that hold these numbers.
 use Rattle.std.specs.Prelude.{◌≡◌, ℕ, ◌+◌, ◌-◌, ◌*◌, ◌<◌, ◌≤◌, ◌&&◌, Bool, if◌then◌else◌, nat_lt, nat_le, List, [], map, length, filter, slice_index_or}
 use Rattle.std.specs.List.{range_with_len}
-use Rattle.mux_config.specs.declared.parts.Sub.{Sub}
+use Rattle.mux_types.specs.declared.parts.Sub.{Sub}
 use Rattle.mux_config.specs.Configuration.{Configuration, IsConfiguration, size_of_sub}
 use Rattle.mux_tables.specs.declared.span.Span.{Span}
 use Rattle.mux_tables.specs.declared.unit_map.Block.{Block}

@@ -5,7 +5,7 @@ ghost use Rattle.mux_config.specs.Configuration.{IsAscending, sub_key};
 ghost use Rattle.mux_config.specs.Tables.{entry_at, with_entry, without_entry, with_entry_changed};
 ghost use Rattle.mux_tables.specs.Members.{members, InPlace};
 
-use mux_config::{Keyed, Sub, SubId, Table};
+use mux_config::{Keyed, SortedTable, Sub, SubId};
 use std::marker::Model;
 
 /// The identifier of a sub-channel that is there.
@@ -40,12 +40,12 @@ impl Keyed for ListedId {
 #[derive(Drop)]
 pub(crate) struct SubTable {
     by_id: [Option<Sub>; 64],
-    ids: Table<ListedId, 64>,
+    ids: SortedTable<ListedId, 64>,
 }
 
 impl Model for SubTable {
     ghost use Rattle.std.specs.Prelude.{◌≡◌, List, map};
-    ghost use Rattle.mux_config.specs.declared.parts.Sub.{Sub};
+    ghost use Rattle.mux_types.specs.declared.parts.Sub.{Sub};
     ghost use Rattle.mux_config.specs.Configuration.{sub_key};
     ghost use Rattle.mux_tables.specs.Members.{members, InPlace};
     ghost use Rattle.mux_tables.specs.Listed.{listed};
@@ -64,7 +64,7 @@ impl SubTable {
     {
         SubTable {
             by_id: [None; 64],
-            ids: Table::new(),
+            ids: SortedTable::new(),
         }
     }
 

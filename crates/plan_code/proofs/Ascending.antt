@@ -4,7 +4,7 @@ use Rattle.std.specs.List.{find}
 use Rattle.std.proofs.lemmas.Bool.{cases_lt, eq-eqb, ne_eqb}
 use Rattle.std.proofs.lemmas.List.{get_or_default, drop_more}
 use Rattle.mux_config.specs.Configuration.{Each, IsAscending}
-use Rattle.mux_config.proofs.Tables.{each_weaker}
+use Rattle.mux_types.proofs.Tables.{each_weaker}
 use Rattle.plan_code.specs.declared.label.Label.{Label}
 use Rattle.plan_code.specs.Program.{IsLabel, label_key}
 

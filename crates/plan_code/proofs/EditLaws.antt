@@ -3,9 +3,10 @@ use Rattle.std.proofs.Common.{◌≡◌, ℕ, ◌<◌, List, ◌∷◌, ◌++◌
 use Rattle.mux_config.specs.declared.edit.Edit.{Edit}
 use Rattle.mux_config.specs.declared.edit.Edit.TheVariants.{AddSub, DropSub, MoveSub, RateSub, AddService, DropService, AddComponent, DropComponent, AddPacket, DropPacket}
 use Rattle.mux_config.specs.Configuration.{IsSid, IsComponent}
-use Rattle.mux_config.specs.Spelling.{word_bytes, sid_bytes, component_bytes, sub_bytes, packet_bytes}
-use Rattle.mux_config.specs.Reading.{sid_at, component_at}
-use Rattle.mux_config.proofs.FieldLaws.{IsBytes, Front}
+use Rattle.mux_config.specs.FieldSpelling.{word_bytes, sid_bytes, component_bytes}
+use Rattle.mux_config.specs.Spelling.{sub_bytes, packet_bytes}
+use Rattle.mux_config.specs.FieldReading.{sid_at, component_at}
+use Rattle.byte_fields.proofs.FieldLaws.{IsBytes, Front}
 use Rattle.plan_code.specs.declared.instr.Instr.TheVariants.{Edit as Edits}
 use Rattle.plan_code.specs.declared.opcode.Opcode.{Opcode}
 use Rattle.plan_code.specs.Opcodes.{opcode_byte, opcode_of}

@@ -1,9 +1,9 @@
 -- Bytes have one fault at most, and one exactly where they are the file of no code; none is want of memory.
 use Rattle.std.proofs.Common.{◌≡◌, ℕ, zero, suc, Bool, true, false, cond, eqb, ltb, not, List, [], ◌∷◌, ◌++◌, length, Result, Ok, Err, refl, sym, ap, subst, ◌∙◌}
 use Rattle.std.specs.Int.{w16, w32}
-use Rattle.mux_config.specs.declared.record.RecordFault.{RecordFault}
-use Rattle.mux_config.specs.declared.record.RecordFault.TheVariants.{Short, Field as FieldOfRecord, Order}
-use Rattle.mux_config.specs.Reading.{place, byte_at, number_at, byte_within}
+use Rattle.byte_fields.specs.declared.record.RecordFault.{RecordFault}
+use Rattle.byte_fields.specs.declared.record.RecordFault.TheVariants.{Short, Field as FieldOfRecord, Order}
+use Rattle.mux_config.specs.FieldReading.{place, byte_at, number_at, byte_within}
 use Rattle.plan_code.specs.declared.fault.CodeFault.{CodeFault}
 use Rattle.plan_code.specs.declared.fault.CodeFault.TheVariants.{Magic, Version, Truncated, Field, Limit, Trailing, Memory}
 use Rattle.plan_code.specs.Program.{Program}

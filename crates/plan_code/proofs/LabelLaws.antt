@@ -1,8 +1,8 @@
 -- A label that is read is spelled so; and what is spelled is read again.
 use Rattle.std.proofs.Common.{◌≡◌, ℕ, zero, suc, ◌-◌, ◌<◌, ◌≤◌, List, [], ◌∷◌, ◌++◌, Ok, refl, sym, ap, subst, ◌∙◌, append_assoc, arith}
-use Rattle.mux_config.specs.Spelling.{word_bytes}
-use Rattle.mux_config.specs.Reading.{byte_at, byte_within, word_within}
-use Rattle.mux_config.proofs.FieldLaws.{IsBytes, Front, front_then, bind_ok, ok_is, byte_front}
+use Rattle.mux_config.specs.FieldSpelling.{word_bytes}
+use Rattle.mux_config.specs.FieldReading.{byte_at, byte_within, word_within}
+use Rattle.byte_fields.proofs.FieldLaws.{IsBytes, Front, front_then, bind_ok, ok_is, byte_front}
 use Rattle.plan_code.specs.declared.flags.Counters.{Counters}
 use Rattle.plan_code.specs.declared.label.Label.{Label}
 use Rattle.plan_code.specs.declared.label.Swap.{Swap}

@@ -2,7 +2,7 @@
 use Rattle.std.proofs.Common.{◌≡◌, ℕ, eqb, List, [], ◌∷◌, Option, Some, None, Ok, refl, subst, inl, inr}
 use Rattle.std.specs.Prelude.{find, ok_or}
 use Rattle.std.proofs.lemmas.Bool.{cases_eq, eq-eqb, ne_eqb}
-use Rattle.mux_config.specs.Reading.{Reads}
+use Rattle.mux_config.specs.FieldReading.{Reads}
 use Rattle.plan_code.specs.declared.opcode.Opcode.{Opcode}
 use Rattle.plan_code.specs.Opcodes.{opcode_byte, opcodes, opcode_of, OpcodesAgree}
 

@@ -3,9 +3,10 @@ use Rattle.std.proofs.Common.{◌≡◌, ◌≢◌, ℕ, zero, suc, ◌+◌, ◌
 use Rattle.std.specs.Int.{w16, w32}
 use Rattle.std.proofs.lemmas.Bool.{ne_eqb}
 use Rattle.std.proofs.lemmas.List.{length-append, take-append-drop, append-nil, length-take-le}
-use Rattle.mux_config.specs.declared.record.RecordFault.TheVariants.{Short, Field as FieldOfRecord, Order}
-use Rattle.mux_config.specs.Reading.{Reads}
-use Rattle.mux_config.proofs.Steady.{Goes, place_same, goes_byte, goes_number, goes_byte_within, goes_config, goes_members}
+use Rattle.byte_fields.specs.declared.record.RecordFault.TheVariants.{Short, Field as FieldOfRecord, Order}
+use Rattle.mux_config.specs.FieldReading.{Reads}
+use Rattle.byte_fields.proofs.SteadyFields.{Goes, place_same, goes_byte, goes_number, goes_byte_within}
+use Rattle.mux_config.proofs.Steady.{goes_config, goes_members}
 use Rattle.plan_code.specs.declared.fault.CodeFault.{CodeFault}
 use Rattle.plan_code.specs.declared.fault.CodeFault.TheVariants.{Magic, Version, Truncated, Field, Limit, Trailing, Memory}
 use Rattle.plan_code.specs.Program.{Program, IsProgram, label_key}

@@ -2,8 +2,8 @@
 use Rattle.std.proofs.Common.{◌≡◌, ℕ, ◌+◌, ◌%◌, ◌≤◌, false, [], ◌∷◌, Option, Some, None, refl, arith}
 use Rattle.std.proofs.lemmas.Bool.{false≢true}
 use Rattle.mux_eep.specs.declared.sizes.EepSet.TheVariants.{A}
-use Rattle.mux_config.specs.declared.parts.Sub.{Sub}
-use Rattle.mux_config.specs.declared.numbers.Sid.TheVariants.{Short}
+use Rattle.mux_types.specs.declared.parts.Sub.{Sub}
+use Rattle.mux_types.specs.declared.numbers.Sid.TheVariants.{Short}
 use Rattle.mux_config.specs.declared.edit.Edit.TheVariants.{AddSub, DropSub, RateSub, AddService}
 use Rattle.mux_config.specs.Configuration.{Configuration, nothing}
 use Rattle.fib_codec.specs.declared.modes.Mode.{Mode}

@@ -2,12 +2,12 @@
 -- field whose bytes are missing, or one that is out of its range.
 use Rattle.std.specs.Prelude.{ℕ, zero, suc, ◌-◌, List, ok_or, Ok}
 use Rattle.std.specs.Int.{w16, w32}
-use Rattle.mux_config.specs.Reading.{Reads, ◌>>=◌, place, byte_at, number_at, judged, byte_within, word_within, flag_at, protection_at, sid_at, component_at}
-use Rattle.mux_config.specs.declared.record.RecordFault.TheVariants.{Field}
-use Rattle.mux_config.specs.declared.parts.Sub.{Sub}
-use Rattle.mux_config.specs.declared.parts.Carrier.{Carrier}
-use Rattle.mux_config.specs.declared.parts.Carrier.TheVariants.{Sub as BySub, Packet as ByPacket}
-use Rattle.mux_config.specs.declared.parts.Packet.{Packet}
+use Rattle.mux_config.specs.FieldReading.{Reads, ◌>>=◌, place, byte_at, number_at, judged, byte_within, word_within, flag_at, protection_at, sid_at, component_at}
+use Rattle.byte_fields.specs.declared.record.RecordFault.TheVariants.{Field}
+use Rattle.mux_types.specs.declared.parts.Sub.{Sub}
+use Rattle.mux_types.specs.declared.parts.Carrier.{Carrier}
+use Rattle.mux_types.specs.declared.parts.Carrier.TheVariants.{Sub as BySub, Packet as ByPacket}
+use Rattle.mux_types.specs.declared.parts.Packet.{Packet}
 use Rattle.mux_config.specs.declared.edit.Edit.{Edit}
 use Rattle.mux_config.specs.declared.edit.Edit.TheVariants.{AddSub, DropSub, MoveSub, RateSub, AddService, DropService, AddComponent, DropComponent, AddPacket, DropPacket}
 use Rattle.plan_code.specs.declared.flags.Counters.{Counters}

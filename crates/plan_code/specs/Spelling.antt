@@ -2,9 +2,10 @@
 use Rattle.std.specs.Prelude.{ℕ, List, [], ◌∷◌, ◌++◌, length}
 use Rattle.std.specs.Int.{w32, to_be_bytes}
 use Rattle.std.specs.List.{flat_map}
-use Rattle.mux_config.specs.Spelling.{word_bytes, flag_byte, sub_bytes, sid_bytes, component_bytes, packet_bytes, config_bytes}
-use Rattle.mux_config.specs.declared.parts.Carrier.{Carrier}
-use Rattle.mux_config.specs.declared.parts.Carrier.TheVariants.{Sub as BySub, Packet as ByPacket}
+use Rattle.mux_config.specs.FieldSpelling.{word_bytes, flag_byte, sid_bytes, component_bytes}
+use Rattle.mux_config.specs.Spelling.{sub_bytes, packet_bytes, config_bytes}
+use Rattle.mux_types.specs.declared.parts.Carrier.{Carrier}
+use Rattle.mux_types.specs.declared.parts.Carrier.TheVariants.{Sub as BySub, Packet as ByPacket}
 use Rattle.mux_config.specs.declared.edit.Edit.{Edit}
 use Rattle.mux_config.specs.declared.edit.Edit.TheVariants.{AddSub, DropSub, MoveSub, RateSub, AddService, DropService, AddComponent, DropComponent, AddPacket, DropPacket}
 use Rattle.fib_codec.specs.declared.modes.Mode.{Mode}

@@ -13,8 +13,9 @@ use crate::limits::{MOST_CONFIGURATIONS, MOST_INSTRUCTIONS, MOST_LABELS};
 use crate::plan::Plan;
 use crate::read_label::label;
 use crate::read_line::line;
+use byte_fields::Reader;
 use fib_codec::Mode;
-use mux_config::{Config, Reader, read_config};
+use mux_config::{Config, read_config};
 use std::alloc::Global;
 
 /// The letters DABP.

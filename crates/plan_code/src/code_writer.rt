@@ -2,7 +2,8 @@
 
 ghost use Rattle.std.specs.Prelude.{◌≡◌, ℕ, ◌++◌, ◌∷◌, [], List, length, Ok, OnOk, IfOk};
 ghost use Rattle.std.specs.List.{flat_map};
-ghost use Rattle.mux_config.specs.Spelling.{word_bytes, sub_bytes, packet_bytes, config_bytes};
+ghost use Rattle.mux_config.specs.FieldSpelling.{word_bytes};
+ghost use Rattle.mux_config.specs.Spelling.{sub_bytes, packet_bytes, config_bytes};
 ghost use Rattle.plan_code.specs.Opcodes.{opcode_byte};
 ghost use Rattle.plan_code.specs.Program.{IsProgram};
 ghost use Rattle.plan_code.specs.Spelling.{mode_bytes, plan_bytes, header_bytes, swap_bytes, label_bytes, carrier_bytes, edit_bytes, instr_bytes, line_bytes, code_bytes};
@@ -15,10 +16,9 @@ use crate::instr::{Instr, Line};
 use crate::label::{Label, Swap};
 use crate::opcode::Opcode;
 use crate::plan::Plan;
+use byte_fields::{put_component, put_long, put_protection, put_sid, put_word};
 use fib_codec::Mode;
-use mux_config::record_writer::{
-    put_component, put_config, put_long, put_protection, put_sid, put_word,
-};
+use mux_config::record_writer::put_config;
 use mux_config::{Carrier, Config, Edit, NewSub, Packet};
 use std::alloc::{AllocError, Global};
 

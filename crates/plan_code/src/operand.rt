@@ -1,11 +1,12 @@
 //! Reading the operands of instructions.
 
 ghost use Rattle.std.specs.Prelude.{◌≡◌};
-ghost use Rattle.mux_config.specs.Reading.{Takes};
+ghost use Rattle.mux_config.specs.FieldReading.{Takes};
 ghost use Rattle.plan_code.specs.Parts.{contact_at, counter_at, start_at, times_at, delay_at, day_frame_at, new_sub_at, new_packet_at, wide_sub_id_at, carrier_at};
 
 use crate::numbers::{ContactId, CounterId, DayFrame, Delay, Frames, Times};
-use mux_config::{Carrier, NewSub, Packet, Reader, RecordFault, Start, SubId};
+use byte_fields::{Reader, RecordFault};
+use mux_config::{Carrier, NewSub, Packet, Start, SubId};
 
 /// Reads the number of a contact.
 pub(crate) fn contact(reader: &mut Reader) -> Result<ContactId, RecordFault>

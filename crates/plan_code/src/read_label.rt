@@ -1,12 +1,12 @@
 //! Reading a label.
 
 ghost use Rattle.std.specs.Prelude.{◌≡◌, ◌≤◌};
-ghost use Rattle.mux_config.specs.Reading.{Takes, word_within};
+ghost use Rattle.mux_config.specs.FieldReading.{Takes, word_within};
 ghost use Rattle.plan_code.specs.Parts.{swap_at, label_from};
 
 use crate::flags::Counters;
 use crate::label::{Label, Swap};
-use mux_config::{Reader, RecordFault};
+use byte_fields::{Reader, RecordFault};
 
 /// Reads what a label declares of a swap.
 #[tactic(auto, unfolding(crate::specs::Parts::swap_at))]

@@ -1,7 +1,7 @@
 //! Reading an instruction, and the line that it stands in.
 
 ghost use Rattle.std.specs.Prelude.{◌≡◌};
-ghost use Rattle.mux_config.specs.Reading.{Takes};
+ghost use Rattle.mux_config.specs.FieldReading.{Takes};
 ghost use Rattle.plan_code.specs.Parts.{wait_at, until_at, wait_contact_at, commit_in_at, commit_at_at, test_at, jump_at, set_at, loop_at, opcode_at, instr_of, instr_from, line_from};
 
 use crate::instr::{Instr, Line};
@@ -11,7 +11,7 @@ use crate::read_edit::{
     add_component, add_packet, add_service, add_sub, drop_component, drop_packet, drop_service,
     drop_sub, move_sub, rate_sub,
 };
-use mux_config::{Reader, RecordFault};
+use byte_fields::{Reader, RecordFault};
 
 #[tactic(auto, unfolding(crate::specs::Parts::wait_at))]
 fn wait(reader: &mut Reader) -> Result<Instr, RecordFault>

@@ -26,7 +26,8 @@ use Rattle.plan_code.specs.declared.plan.Plan.{Plan}
 use Rattle.plan_code.specs.Spelling.{mode_bytes, label_bytes, line_bytes}
 use Rattle.fib_codec.specs.declared.modes.Mode.{Mode}
 use Rattle.fib_codec.specs.declared.modes.Mode.TheVariants.{I, II, III, IV}
-use Rattle.mux_config.specs.Spelling.{word_bytes, config_bytes}
+use Rattle.mux_config.specs.FieldSpelling.{word_bytes}
+use Rattle.mux_config.specs.Spelling.{config_bytes}
 use Rattle.std.proofs.KnownBytes.{Appends-nil, Appends-kept}
 use Rattle.plan_playback.specs.Buffering.{size_in}
 use Rattle.plan_playback.specs.Playback.{Request, IsPlayback, IsFileOf, start_of}

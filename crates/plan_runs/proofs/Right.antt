@@ -7,7 +7,8 @@ use Rattle.std.proofs.lemmas.Bool.{eqb-true, eq-eqb}
 use Rattle.mux_config.specs.Configuration.{Configuration, IsConfiguration, Each}
 use Rattle.mux_config.specs.Entries.{EnsembleInformation}
 use Rattle.mux_config.specs.Facts.{Marked, marked, facts_of}
-use Rattle.mux_config.specs.Change.{change_of, bits_of, is_same_sub, is_same_service, is_same_packet, is_same_list, has_same_subs, has_same_services}
+use Rattle.mux_config.specs.Change.{change_of, bits_of, has_same_subs, has_same_services}
+use Rattle.mux_config.specs.Sameness.{is_same_sub, is_same_service, is_same_packet, is_same_list}
 use Rattle.mux_config.specs.declared.entry.Entry.TheVariants.{Ensemble as EnsembleOf, Sub as SubOf, Short as ShortOf, Service as ServiceOf, Packet as PacketOf}
 use Rattle.mux_config.specs.declared.entry.Entry.{Entry}
 use Rattle.mux_config.proofs.Same.{list_same, sub_same, service_same, packet_same}

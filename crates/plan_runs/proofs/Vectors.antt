@@ -1,10 +1,10 @@
 -- Small runs, computed by the checker: the bytes and the counts are those of worked examples of the field.
 use Rattle.std.proofs.Common.{◌≡◌, ℕ, zero, suc, true, false, List, [], ◌∷◌, ◌++◌, Some, None, take, drop, replicate, refl}
 use Rattle.mux_eep.specs.declared.sizes.EepSet.TheVariants.{A}
-use Rattle.mux_config.specs.declared.parts.Sub.{Sub}
-use Rattle.mux_config.specs.declared.parts.Service.{Service}
-use Rattle.mux_config.specs.declared.parts.Component.TheVariants.{Sound}
-use Rattle.mux_config.specs.declared.numbers.Sid.TheVariants.{Short}
+use Rattle.mux_types.specs.declared.parts.Sub.{Sub}
+use Rattle.mux_types.specs.declared.parts.Service.{Service}
+use Rattle.mux_types.specs.declared.parts.Component.TheVariants.{Sound}
+use Rattle.mux_types.specs.declared.numbers.Sid.TheVariants.{Short}
 use Rattle.mux_config.specs.declared.edit.Edit.TheVariants.{AddSub, AddService, AddComponent, RateSub}
 use Rattle.mux_config.specs.Configuration.{Configuration, nothing}
 use Rattle.plan_code.specs.declared.plan.Plan.{Plan}

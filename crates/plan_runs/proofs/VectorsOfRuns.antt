@@ -2,7 +2,7 @@
 use Rattle.std.proofs.Common.{◌≡◌, ℕ, zero, suc, ◌<◌, ◌≤◌, Bool, true, false, cond, List, [], ◌∷◌, length, Some, None, ◌==◌, replicate, refl, sym, ap, subst, arith}
 use Rattle.std.proofs.lemmas.Bool.{false≢true}
 use Rattle.mux_eep.specs.declared.sizes.EepSet.TheVariants.{A}
-use Rattle.mux_config.specs.declared.parts.Sub.{Sub}
+use Rattle.mux_types.specs.declared.parts.Sub.{Sub}
 use Rattle.mux_config.specs.Configuration.{Configuration, IsPlaced, IsConfiguration}
 use Rattle.mux_config.specs.Facts.{Marked}
 use Rattle.fib_codec.specs.declared.modes.Mode.TheVariants.{I}

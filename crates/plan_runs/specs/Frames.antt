@@ -3,7 +3,8 @@ use Rattle.std.specs.Prelude.{◌≡◌, ℕ, zero, suc, ◌+◌, ◌-◌, ◌%�
 use Rattle.mux_config.specs.Configuration.{Configuration}
 use Rattle.mux_config.specs.Entries.{EnsembleInformation}
 use Rattle.mux_config.specs.Facts.{Marked}
-use Rattle.mux_config.specs.Change.{change_of, bits_of, is_same_flag}
+use Rattle.mux_config.specs.Change.{change_of, bits_of}
+use Rattle.mux_config.specs.Sameness.{is_same_flag}
 use Rattle.fib_codec.specs.Modes.{count_step}
 use Rattle.fib_carousel.specs.Pages.{page_set, rounds, page_after}
 use Rattle.fib_carousel.specs.Bytes.{page_bytes}

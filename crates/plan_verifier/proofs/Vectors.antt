@@ -4,8 +4,8 @@ use Rattle.mux_config.specs.Configuration.{IsConfiguration, Each, IsAscending, n
 use Rattle.mux_config.specs.declared.edit.Edit.TheVariants.{AddSub, DropSub, AddService}
 use Rattle.mux_config.specs.declared.fault.EditFault.TheVariants.{IdAbsent}
 use Rattle.mux_config.specs.declared.fault.ConfigFault.TheVariants.{EmptyService}
-use Rattle.mux_config.specs.declared.numbers.Sid.TheVariants.{Short}
-use Rattle.mux_config.specs.declared.parts.Sub.{Sub}
+use Rattle.mux_types.specs.declared.numbers.Sid.TheVariants.{Short}
+use Rattle.mux_types.specs.declared.parts.Sub.{Sub}
 use Rattle.mux_eep.specs.declared.sizes.EepSet.TheVariants.{A}
 use Rattle.fib_codec.specs.declared.modes.Mode.TheVariants.{I}
 use Rattle.plan_code.specs.declared.plan.Plan.{Plan}

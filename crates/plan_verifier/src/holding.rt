@@ -1,7 +1,7 @@
 //! Whether a store holds a configuration in tables, without a copy of it.
 
 ghost use Rattle.std.specs.Prelude.{◌≡◌, ◌&&◌};
-ghost use Rattle.mux_config.specs.Change.{is_same_list, is_same_sub, is_same_sid, is_same_component, is_same_service, is_same_packet};
+ghost use Rattle.mux_config.specs.Sameness.{is_same_list, is_same_sub, is_same_sid, is_same_component, is_same_service, is_same_packet};
 ghost use Rattle.plan_verifier.specs.Walking.{is_same};
 
 use mux_config::{Component, Config, Packet, Service, Sid, Store, Sub};

@@ -2,11 +2,11 @@
 use Rattle.std.specs.Prelude.{ℕ, ◌+◌, ◌*◌, ◌%◌, if◌then◌else◌, List, [], ◌∷◌}
 use Rattle.mux_eep.specs.declared.sizes.EepSet.{EepSet}
 use Rattle.mux_eep.specs.declared.sizes.EepSet.TheVariants.{A, B}
-use Rattle.mux_config.specs.declared.parts.Sub.{Sub}
-use Rattle.mux_config.specs.declared.parts.Service.{Service}
-use Rattle.mux_config.specs.declared.parts.Component.{Component}
-use Rattle.mux_config.specs.declared.parts.Component.TheVariants.{Sound, Stream, Packet as InPackets}
-use Rattle.mux_config.specs.declared.parts.Packet.{Packet}
+use Rattle.mux_types.specs.declared.parts.Sub.{Sub}
+use Rattle.mux_types.specs.declared.parts.Service.{Service}
+use Rattle.mux_types.specs.declared.parts.Component.{Component}
+use Rattle.mux_types.specs.declared.parts.Component.TheVariants.{Sound, Stream, Packet as InPackets}
+use Rattle.mux_types.specs.declared.parts.Packet.{Packet}
 use Rattle.mux_config.specs.Configuration.{Configuration, service_key}
 
 -- the configurations of a table

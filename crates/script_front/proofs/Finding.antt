@@ -6,8 +6,8 @@ use Rattle.std.specs.Fmt.{decimal}
 use Rattle.mux_eep.specs.declared.sizes.EepSet.{EepSet}
 use Rattle.mux_eep.specs.declared.sizes.EepSet.TheVariants.{A, B}
 use Rattle.mux_eep.specs.Sizes.{Profile}
-use Rattle.mux_config.specs.declared.numbers.Sid.{Sid}
-use Rattle.mux_config.specs.declared.numbers.Sid.TheVariants.{Short, Long}
+use Rattle.mux_types.specs.declared.numbers.Sid.{Sid}
+use Rattle.mux_types.specs.declared.numbers.Sid.TheVariants.{Short, Long}
 use Rattle.mux_config.specs.Configuration.{IsSid}
 use Rattle.script_front.specs.Spelling.{hex_digit, hex_word, sid_word, set_letter, profile_word, two_digits, time_word}
 use Rattle.script_front.proofs.Digits.{own, read_on}

@@ -6,10 +6,10 @@ use Rattle.std.specs.Prelude.{codes, Vec}
 use Rattle.std.specs.Global.{Global}
 use Rattle.std.specs.Fmt.{decimal, digits, padded_integral, format_spec}
 use Rattle.std.proofs.lemmas.Fmt.{decimal_digit, hex_byte as shown_byte}
-use Rattle.mux_config.specs.declared.numbers.Sid.{Sid}
-use Rattle.mux_config.specs.declared.parts.Component.{Component}
-use Rattle.mux_config.specs.declared.parts.Component.TheVariants.{Sound, Stream, Packet as InPackets}
-use Rattle.mux_config.specs.declared.parts.Carrier.{Carrier}
+use Rattle.mux_types.specs.declared.numbers.Sid.{Sid}
+use Rattle.mux_types.specs.declared.parts.Component.{Component}
+use Rattle.mux_types.specs.declared.parts.Component.TheVariants.{Sound, Stream, Packet as InPackets}
+use Rattle.mux_types.specs.declared.parts.Carrier.{Carrier}
 use Rattle.mux_config.specs.declared.edit.Edit.TheVariants.{AddComponent, DropComponent}
 use Rattle.script_front.specs.declared.tree.Act.{Act}
 use Rattle.script_front.specs.declared.tree.Act.TheVariants.{Until}

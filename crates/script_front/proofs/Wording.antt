@@ -19,8 +19,8 @@ use Rattle.script_front.specs.Spelling.{hex_digit, hex_word, hex_long, sid_word,
 use Rattle.mux_eep.specs.declared.sizes.EepSet.{EepSet}
 use Rattle.mux_eep.specs.declared.sizes.EepSet.TheVariants.{A, B}
 use Rattle.mux_eep.specs.Sizes.{Profile}
-use Rattle.mux_config.specs.declared.numbers.Sid.{Sid}
-use Rattle.mux_config.specs.declared.numbers.Sid.TheVariants.{Short, Long}
+use Rattle.mux_types.specs.declared.numbers.Sid.{Sid}
+use Rattle.mux_types.specs.declared.numbers.Sid.TheVariants.{Short, Long}
 use Rattle.mux_config.specs.Configuration.{IsSid}
 use Rattle.std.specs.Prelude.{◌==◌, slice_index_or}
 use Rattle.std.specs.Str.{IsUtf8}

@@ -3,8 +3,8 @@ use Rattle.std.specs.Prelude.{ℕ, ◌+◌, ◌/◌, ◌%◌, List, [], ◌∷�
 use Rattle.mux_eep.specs.declared.sizes.EepSet.{EepSet}
 use Rattle.mux_eep.specs.declared.sizes.EepSet.TheVariants.{A, B}
 use Rattle.mux_eep.specs.Sizes.{Profile}
-use Rattle.mux_config.specs.declared.numbers.Sid.{Sid}
-use Rattle.mux_config.specs.declared.numbers.Sid.TheVariants.{Short, Long}
+use Rattle.mux_types.specs.declared.numbers.Sid.{Sid}
+use Rattle.mux_types.specs.declared.numbers.Sid.TheVariants.{Short, Long}
 
 -- a digit 0-9 or A-F
 abbrev pub hex_digit : ℕ → ℕ

@@ -16,11 +16,11 @@ ghost use Rattle.std.specs.Prelude.{true, false, ◌≢◌, OnErr, IfErr, Bool};
 ghost use Rattle.script_front.specs.declared.fault.ScriptFault.TheVariants.{Memory};
 ghost use Rattle.script_front.specs.declared.tree.Act.{Act};
 ghost use Rattle.mux_config.specs.declared.edit.Edit.{Edit};
-ghost use Rattle.mux_config.specs.declared.numbers.Sid.{Sid};
-ghost use Rattle.mux_config.specs.declared.parts.Sub.{Sub};
-ghost use Rattle.mux_config.specs.declared.parts.Packet.{Packet};
-ghost use Rattle.mux_config.specs.declared.parts.Component.{Component};
-ghost use Rattle.mux_config.specs.declared.parts.Carrier.{Carrier};
+ghost use Rattle.mux_types.specs.declared.numbers.Sid.{Sid};
+ghost use Rattle.mux_types.specs.declared.parts.Sub.{Sub};
+ghost use Rattle.mux_types.specs.declared.parts.Packet.{Packet};
+ghost use Rattle.mux_types.specs.declared.parts.Component.{Component};
+ghost use Rattle.mux_types.specs.declared.parts.Carrier.{Carrier};
 
 use crate::fault::ScriptFault;
 use crate::keyword::Keyword;

@@ -1,7 +1,7 @@
 //! The values of atoms: decimals, hexadecimal identifiers, profiles and times.
 
 ghost use Rattle.std.specs.Prelude.{◌≡◌, ◌≢◌, ℕ, ◌<◌, ◌≤◌, ◌++◌, ◌∷◌, [], length, IfSome, None};
-ghost use Rattle.mux_config.specs.declared.numbers.Sid.{Sid};
+ghost use Rattle.mux_types.specs.declared.numbers.Sid.{Sid};
 ghost use Rattle.mux_eep.specs.Sizes.{Profile};
 ghost use Rattle.script_front.specs.Spelling.{hex_digit, hex_byte, hex_word, hex_long, sid_word, profile_word, two_digits, time_word};
 ghost use Rattle.std.specs.Fmt.{decimal};

@@ -4,7 +4,7 @@
 //! that atom; where a brace or the end stands, `Expected`.
 
 ghost use Rattle.std.specs.Prelude.{◌≡◌, ℕ, ◌∷◌, ◌<◌, ◌≤◌, [], length, List, ◌≢◌, IfOk, OnOk, OnErr};
-ghost use Rattle.mux_config.specs.declared.numbers.Sid.{Sid};
+ghost use Rattle.mux_types.specs.declared.numbers.Sid.{Sid};
 ghost use Rattle.mux_eep.specs.Sizes.{Profile};
 ghost use Rattle.std.specs.Fmt.{decimal};
 ghost use Rattle.script_front.specs.Reading.{Passes, BeginsWith};

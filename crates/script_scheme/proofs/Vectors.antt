@@ -3,7 +3,7 @@ use Rattle.std.proofs.Common.{◌≡◌, ◌≢◌, ◌++◌, ◌∙◌, length-
 use Rattle.mux_config.specs.Configuration.{Configuration, nothing as no_configuration}
 use Rattle.mux_config.specs.declared.edit.Edit.TheVariants.{AddSub}
 use Rattle.mux_config.specs.declared.fault.EditFault.TheVariants.{IdUsed}
-use Rattle.mux_config.specs.declared.parts.Sub.{Sub}
+use Rattle.mux_types.specs.declared.parts.Sub.{Sub}
 use Rattle.mux_config.proofs.Sounding.{sound_told}
 use Rattle.mux_eep.specs.declared.sizes.EepSet.TheVariants.{A}
 use Rattle.fib_codec.specs.declared.modes.Mode.TheVariants.{I}

@@ -2,8 +2,8 @@
 
 use super::begins;
 use fib_codec::{
-    Bits, ComponentEntry, Ensemble, Entry, Few, Fib, Head, PacketEntry, ScId, ScTy, ServiceEntry,
-    ShortEntry, Sid, SubEntry, SubId, entry_len,
+    Bits, BoundedVec, ComponentEntry, Ensemble, Entry, Fib, Head, PacketEntry, ScId, ScTy,
+    ServiceEntry, ShortEntry, Sid, SubEntry, SubId, entry_len,
 };
 use std::test::Fail;
 
@@ -124,7 +124,7 @@ fn sub_channels(rt: HostRuntime) -> Result<(), Fail> {
     Ok(())
 }
 
-fn service(sid: Sid, rfa: bool, ca_id: u16, components: Few<ComponentEntry, 15>) -> Made {
+fn service(sid: Sid, rfa: bool, ca_id: u16, components: BoundedVec<ComponentEntry, 15>) -> Made {
     Ok(Entry::Service(ServiceEntry {
         sid,
         rfa,
@@ -135,9 +135,9 @@ fn service(sid: Sid, rfa: bool, ca_id: u16, components: Few<ComponentEntry, 15>)
 
 #[test]
 fn services_without_components(rt: HostRuntime) -> Result<(), Fail> {
-    let least = service(Sid::Short(0), false, 0, Few::new());
+    let least = service(Sid::Short(0), false, 0, BoundedVec::new());
     assert!(rt; goes_as(least, head(2, false), 3, &[4, 0x82, 0, 0, 0, 0xff, 0])?);
-    let greatest = service(Sid::Short(0xffff), true, 7, Few::new());
+    let greatest = service(Sid::Short(0xffff), true, 7, BoundedVec::new());
     assert!(rt;
         goes_as(
             greatest,
@@ -146,9 +146,9 @@ fn services_without_components(rt: HostRuntime) -> Result<(), Fail> {
             &[4, 0x82, 0xff, 0xff, 0xf0, 0xff, 0]
         )?
     );
-    let least = service(Sid::Long(0), false, 0, Few::new());
+    let least = service(Sid::Long(0), false, 0, BoundedVec::new());
     assert!(rt; goes_as(least, head(2, true), 5, &[6, 0xa2, 0, 0, 0, 0, 0, 0xff, 0])?);
-    let long = service(Sid::Long(0xfedc_ba98), false, 1, Few::new());
+    let long = service(Sid::Long(0xfedc_ba98), false, 1, BoundedVec::new());
     assert!(rt;
         goes_as(
             long,
@@ -161,8 +161,8 @@ fn services_without_components(rt: HostRuntime) -> Result<(), Fail> {
 }
 
 /// This many components, of the four kinds in turn.
-fn components(count: usize, kinds: &[ComponentEntry; 4]) -> Few<ComponentEntry, 15> {
-    let mut components = Few::new();
+fn components(count: usize, kinds: &[ComponentEntry; 4]) -> BoundedVec<ComponentEntry, 15> {
+    let mut components = BoundedVec::new();
     for _ in 0..4 {
         for kind in kinds {
             if components.len() < count && !components.is_full() {

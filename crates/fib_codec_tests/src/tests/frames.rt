@@ -2,8 +2,8 @@
 
 use super::begins;
 use fib_codec::{
-    Bits, ComponentEntry, Ensemble, Entry, Few, Fib, FibFrame, Head, Mode, PacketEntry, ScId, ScTy,
-    ServiceEntry, Sid, SubEntry, SubId,
+    Bits, BoundedVec, ComponentEntry, Ensemble, Entry, Fib, FibFrame, Head, Mode, PacketEntry,
+    ScId, ScTy, ServiceEntry, Sid, SubEntry, SubId,
 };
 use std::test::Fail;
 
@@ -39,7 +39,7 @@ fn sub(id: u8, start: u16, level: u16, size: u16) -> Made {
 }
 
 /// The service C221 with these components.
-fn service(components: Few<ComponentEntry, 15>) -> Made {
+fn service(components: BoundedVec<ComponentEntry, 15>) -> Made {
     let ca_id = Bits::new(0).ok_or("a CAId")?;
     Ok(Entry::Service(ServiceEntry {
         sid: Sid::Short(0xc221),
@@ -52,7 +52,7 @@ fn service(components: Few<ComponentEntry, 15>) -> Made {
 /// The service C221 with audio of type 63 in the sub-channels from 1 to this one.
 fn audio(last: u8) -> Made {
     let ty = ScTy::new(63).ok_or("a type")?;
-    let mut components = Few::new();
+    let mut components = BoundedVec::new();
     for before in 0..last.min(63) {
         let sub = SubId::new(before + 1).ok_or("a SubChId")?;
         if !components.is_full() {
@@ -162,7 +162,7 @@ fn a_service_put_into_a_fig_begun(rt: HostRuntime) -> Result<(), Fail> {
 /// The service C221 with the packet component 1.
 fn carried() -> Made {
     let scid = ScId::new(1).ok_or("an SCId")?;
-    let mut components = Few::new();
+    let mut components = BoundedVec::new();
     components.push(ComponentEntry::Packet {
         scid,
         primary: true,
@@ -232,8 +232,8 @@ fn a_next_configuration_in_two_fibs(rt: HostRuntime) -> Result<(), Fail> {
 }
 
 /// Sub-channels of 4-A and 8 kbit/s from this number up to the other one, which stand one behind the other.
-fn row(first: u8, end: u8) -> Result<Few<Entry, 8>, &'static str> {
-    let mut entries = Few::new();
+fn row(first: u8, end: u8) -> Result<BoundedVec<Entry, 8>, &'static str> {
+    let mut entries = BoundedVec::new();
     for number in first..end {
         let entry = sub(number, (u16::from(number) * 4).saturating_sub(4), 3, 4)?;
         if !entries.is_full() {

@@ -1,8 +1,8 @@
 use Rattle.std.proofs.Common.{◌≡◌, ◌∙◌, Some, slice_get, length, refl, sym, arith}
 use Rattle.std.proofs.lemmas.Option.{slice_get_read}
-use Rattle.mux_config.specs.Configuration.{carrier_of}
-use Rattle.mux_config.specs.Edits.{names}
-use Rattle.mux_config.proofs.Walking.{any_end}
+use Rattle.mux_types.specs.Configuration.{carrier_of}
+use Rattle.mux_types.specs.Sameness.{names}
+use Rattle.mux_types.proofs.Walking.{any_end}
 use Rattle.mux_config.proofs.Keeping.{closed_up, carrier_same, stay_told}
 use Rattle.mux_config.proofs.edits.place_of.Goals as goal
 

@@ -1,7 +1,7 @@
 use Rattle.std.proofs.Common.{rules, ◌<◌, ◌+◌, ap, ◌∙◌, arith}
 use Rattle.std.proofs.lemmas.Result.{err_from_is_err_and}
 use Rattle.std.proofs.lemmas.List.{length_push}
-use Rattle.mux_config.proofs.Tables.{each_weaker, each_pushed}
+use Rattle.mux_types.proofs.Tables.{each_weaker, each_pushed}
 use Rattle.mux_config.proofs.ReadingLoops.{member_fault, member_next, members_done}
 use Rattle.mux_config.proofs.record_reader.members.Goals as goal
 

@@ -1,5 +1,5 @@
 use Rattle.std.proofs.Common.{◌≡◌, ◌<◌, ◌-◌, [], length}
-use Rattle.mux_config.specs.Configuration.{Each}
+use Rattle.mux_types.specs.Configuration.{Each}
 use Rattle.mux_config.specs.Reading.{members_at}
 use Rattle.mux_config.proofs.record_reader.members.Given as goal
 

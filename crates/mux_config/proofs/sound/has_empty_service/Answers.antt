@@ -2,7 +2,7 @@ use Rattle.std.proofs.Common.{◌∙◌, sym}
 use Rattle.std.specs.List.{list_any}
 use Rattle.mux_config.specs.Sound.{is_empty_service}
 use Rattle.std.proofs.lemmas.Bool.{eq-eqb, ne_eqb}
-use Rattle.mux_config.proofs.Walking.{any_more, any_found}
+use Rattle.mux_types.proofs.Walking.{any_more, any_found}
 use Rattle.mux_config.proofs.sound.has_empty_service.Goals as goal
 
 pub returns-then-len-eq0 : goal.returns-then-len-eq0

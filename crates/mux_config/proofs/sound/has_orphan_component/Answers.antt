@@ -1,9 +1,9 @@
 use Rattle.std.proofs.Common.{◌∙◌, sym, ap, List}
 use Rattle.std.specs.List.{list_any}
-use Rattle.mux_config.specs.Configuration.{carrier_of}
-use Rattle.mux_config.specs.declared.parts.Component.{Component}
+use Rattle.mux_types.specs.Configuration.{carrier_of}
+use Rattle.mux_types.specs.declared.parts.Component.{Component}
 use Rattle.mux_config.specs.Sound.{is_missing}
-use Rattle.mux_config.proofs.Walking.{any_more, any_found}
+use Rattle.mux_types.proofs.Walking.{any_more, any_found}
 use Rattle.mux_config.proofs.sound.has_orphan_component.Goals as goal
 
 pub returns-then-names_missing : goal.returns-then-names_missing

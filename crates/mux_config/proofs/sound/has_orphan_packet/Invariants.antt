@@ -1,7 +1,7 @@
 use Rattle.std.proofs.Common.{◌≡◌, drop}
 use Rattle.std.specs.List.{list_any}
 use Rattle.mux_config.specs.Sound.{is_missing}
-use Rattle.mux_config.specs.declared.parts.Carrier.TheVariants.{Sub as BySub}
+use Rattle.mux_types.specs.declared.parts.Carrier.TheVariants.{Sub as BySub}
 use Rattle.mux_config.proofs.sound.has_orphan_packet.Given as goal
 
 abbrev pub invariant-loop-place : goal.invariant-loop-place

@@ -1,6 +1,6 @@
 use Rattle.std.proofs.Common.{◌≡◌, drop}
 use Rattle.std.specs.List.{list_any}
-use Rattle.mux_config.specs.Configuration.{carrier_of}
+use Rattle.mux_types.specs.Configuration.{carrier_of}
 use Rattle.mux_config.specs.Sound.{is_missing}
 use Rattle.mux_config.proofs.sound.names_missing.Given as goal
 

@@ -1,5 +1,5 @@
 use Rattle.std.proofs.Common.{◌≡◌, Some, slice_get, List, ap, ◌∙◌, sym}
-use Rattle.mux_config.specs.declared.parts.Sub.{Sub}
+use Rattle.mux_types.specs.declared.parts.Sub.{Sub}
 use Rattle.mux_tables.proofs.Filling.{dropped_next, got}
 use Rattle.mux_tables.proofs.tables.without_subs.Goals as goal
 

@@ -1,6 +1,6 @@
 use Rattle.std.proofs.Common.{◌∙◌, sym}
-use Rattle.mux_config.specs.Change.{is_same_packet, is_same_list}
-use Rattle.mux_config.proofs.Walking.{same_more, same_not}
+use Rattle.mux_config.specs.Sameness.{is_same_packet, is_same_list}
+use Rattle.mux_types.proofs.Walking.{same_more, same_not}
 use Rattle.plan_verifier.proofs.holding.has_packets.Goals as goal
 
 pub returns-then-not-is_same_packet : goal.returns-then-not-is_same_packet

@@ -1,5 +1,5 @@
 use Rattle.std.proofs.Common.{◌≡◌, length, drop}
-use Rattle.mux_config.specs.Change.{is_same_packet, is_same_list}
+use Rattle.mux_config.specs.Sameness.{is_same_packet, is_same_list}
 use Rattle.plan_verifier.proofs.holding.has_packets.Given as goal
 
 abbrev pub invariant-loop-place : goal.invariant-loop-place

@@ -1,6 +1,6 @@
 use Rattle.std.proofs.Common.{◌≡◌, None, List, sym, subst, arith}
-use Rattle.mux_config.specs.declared.parts.Sub.{Sub}
-use Rattle.mux_config.specs.Configuration.{Configuration, IsConfiguration}
+use Rattle.mux_types.specs.declared.parts.Sub.{Sub}
+use Rattle.mux_types.specs.Configuration.{Configuration, IsConfiguration}
 use Rattle.mux_config.specs.Edits.{add_sub_fault}
 use Rattle.mux_config.proofs.Keeping.{add_sub_fits, add_sub_keeps}
 use Rattle.mux_config.proofs.edits.ConfigStore.add_sub_known.Goals as goal

@@ -1,7 +1,7 @@
 use Rattle.std.proofs.Common.{◌≡◌, None, Some, List, sym, ◌∙◌, ap, subst, option_copied}
-use Rattle.mux_config.specs.declared.parts.Service.{Service}
-use Rattle.mux_config.specs.Configuration.{Configuration, IsConfiguration, service_key, sid_key}
-use Rattle.mux_config.specs.Tables.{entry_at, with_entry_changed}
+use Rattle.mux_types.specs.declared.parts.Service.{Service}
+use Rattle.mux_types.specs.Configuration.{Configuration, IsConfiguration, service_key, sid_key}
+use Rattle.mux_types.specs.Tables.{entry_at, with_entry_changed}
 use Rattle.mux_config.specs.Edits.{drop_component_fault, service_at, without_carrier, component_dropped}
 use Rattle.mux_config.proofs.Keeping.{changed_here, entry_key, drop_component_keeps}
 use Rattle.mux_config.proofs.edits.ConfigStore.drop_component_known.Goals as goal

@@ -1,7 +1,7 @@
 use Rattle.std.proofs.Common.{◌≡◌, None, Some, List, sym, ◌∙◌, ap, subst}
-use Rattle.mux_config.specs.declared.parts.Sub.{Sub}
-use Rattle.mux_config.specs.Configuration.{Configuration, IsConfiguration, sub_key}
-use Rattle.mux_config.specs.Tables.{entry_at}
+use Rattle.mux_types.specs.declared.parts.Sub.{Sub}
+use Rattle.mux_types.specs.Configuration.{Configuration, IsConfiguration, sub_key}
+use Rattle.mux_types.specs.Tables.{entry_at}
 use Rattle.mux_config.specs.Edits.{move_sub_fault, at_start, sub_at, sub_moved}
 use Rattle.mux_config.proofs.Keeping.{changed_here, entry_key, move_sub_keeps}
 use Rattle.mux_config.proofs.edits.ConfigStore.move_sub_known.Goals as goal

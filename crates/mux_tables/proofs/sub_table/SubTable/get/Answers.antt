@@ -1,5 +1,5 @@
 use Rattle.std.proofs.Common.{List, ap, ◌∙◌, arith}
-use Rattle.mux_config.specs.declared.parts.Sub.{Sub}
+use Rattle.mux_types.specs.declared.parts.Sub.{Sub}
 use Rattle.mux_config.specs.Configuration.{sub_key}
 use Rattle.mux_config.specs.Tables.{entry_at}
 use Rattle.mux_tables.proofs.Members.{ascends}

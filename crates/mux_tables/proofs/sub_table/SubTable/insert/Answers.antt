@@ -1,5 +1,5 @@
 use Rattle.std.proofs.Common.{◌≡◌, List, None, ap, sym, subst, ◌∙◌, arith}
-use Rattle.mux_config.specs.declared.parts.Sub.{Sub}
+use Rattle.mux_types.specs.declared.parts.Sub.{Sub}
 use Rattle.mux_config.specs.Configuration.{sub_key}
 use Rattle.mux_config.specs.Tables.{entry_at, with_entry}
 use Rattle.mux_tables.specs.Members.{members}

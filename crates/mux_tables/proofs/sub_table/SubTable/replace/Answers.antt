@@ -1,8 +1,8 @@
 use Rattle.std.proofs.Common.{◌≡◌, Some, List, ap, sym, ◌∙◌}
-use Rattle.mux_config.specs.declared.parts.Sub.{Sub}
+use Rattle.mux_types.specs.declared.parts.Sub.{Sub}
 use Rattle.mux_config.specs.Configuration.{sub_key}
 use Rattle.mux_config.specs.Tables.{entry_at, with_entry_changed}
-use Rattle.mux_config.proofs.Tables.{changed_absent}
+use Rattle.mux_types.proofs.Tables.{changed_absent}
 use Rattle.mux_tables.specs.Members.{members}
 use Rattle.mux_tables.proofs.SubTables.{added_in_place, changed, ids_changed}
 use Rattle.mux_tables.proofs.sub_table.SubTable.replace.Goals as goal

@@ -1,5 +1,5 @@
 use Rattle.std.proofs.Common.{◌≡◌, None, List, sym, subst, arith}
-use Rattle.mux_config.specs.declared.parts.Sub.{Sub}
+use Rattle.mux_types.specs.declared.parts.Sub.{Sub}
 use Rattle.mux_config.specs.Configuration.{IsConfiguration}
 use Rattle.mux_config.specs.Edits.{add_sub_fault}
 use Rattle.mux_config.proofs.Keeping.{add_sub_fits, add_sub_keeps}

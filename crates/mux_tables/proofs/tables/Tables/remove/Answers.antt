@@ -1,9 +1,9 @@
 use Rattle.std.proofs.Common.{◌≡◌, None, List, sym, ap, subst, ◌∙◌}
-use Rattle.mux_config.specs.declared.parts.Sub.{Sub}
+use Rattle.mux_types.specs.declared.parts.Sub.{Sub}
 use Rattle.mux_config.specs.Configuration.{Configuration, IsConfiguration, IsPlaced, sub_key}
 use Rattle.mux_config.specs.Tables.{entry_at}
 use Rattle.mux_config.proofs.Keeping.{drop_sub_keeps, entry_holds}
-use Rattle.mux_config.proofs.Tables.{without_absent}
+use Rattle.mux_types.proofs.Tables.{without_absent}
 use Rattle.mux_tables.specs.declared.span.Span.{Span}
 use Rattle.mux_tables.specs.Units.{Counts, CountsOut, users, joined}
 use Rattle.mux_tables.proofs.Users.{counts_without}

@@ -1,5 +1,5 @@
 use Rattle.std.proofs.Common.{◌≡◌, Some, List, sym, subst}
-use Rattle.mux_config.specs.declared.parts.Sub.{Sub}
+use Rattle.mux_types.specs.declared.parts.Sub.{Sub}
 use Rattle.mux_config.specs.Configuration.{IsConfiguration, IsPlaced, sub_key}
 use Rattle.mux_config.specs.Tables.{entry_at}
 use Rattle.mux_config.proofs.Keeping.{entry_holds}

@@ -1,0 +1,4 @@
+pub mod FieldReading
+pub mod FieldSpelling
+pub use Rattle.mux_types.specs.Configuration
+pub use Rattle.mux_eep.specs.Sizes

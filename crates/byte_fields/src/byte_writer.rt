@@ -1,0 +1,69 @@
+//! Writing the fields of a record after the bytes that stand.
+
+ghost use Rattle.std.specs.Prelude.{◌≡◌, ◌++◌, OnOk};
+ghost use Rattle.std.specs.Int.{w32, to_be_bytes};
+ghost use Rattle.byte_fields.specs.FieldSpelling.{word_bytes, set_byte, protection_bytes, sid_bytes, component_bytes};
+
+use byteorder::{BigEndian, ByteOrder};
+use mux_eep::{EepSet, Protection};
+use mux_types::{Component, Sid};
+use std::alloc::AllocError;
+
+/// Writes a number of two bytes.
+pub fn put_word(out: &mut Vec<u8>, number: u16) -> Result<(), AllocError>
+    ensures { OnOk result (out.new.items ≡ out.old.items ++ word_bytes number) }
+{
+    let mut bytes = [0; 2];
+    BigEndian::write_u16(&mut bytes, number);
+    out.extend_from_slice(&bytes)
+}
+
+/// Writes a number of four bytes.
+pub fn put_long(out: &mut Vec<u8>, number: u32) -> Result<(), AllocError>
+    ensures { OnOk result (out.new.items ≡ out.old.items ++ to_be_bytes w32 number) }
+{
+    let mut bytes = [0; 4];
+    BigEndian::write_u32(&mut bytes, number);
+    out.extend_from_slice(&bytes)
+}
+
+/// Writes a protection profile: its set, 0 for A and 1 for B, and its level.
+pub fn put_protection(out: &mut Vec<u8>, protection: Protection) -> Result<(), AllocError>
+    ensures { OnOk result (out.new.items ≡ out.old.items ++ protection_bytes protection) }
+{
+    let set = match protection.set() {
+        EepSet::A => 0,
+        EepSet::B => 1,
+    };
+    out.extend_from_slice(&[set, protection.level()])
+}
+
+/// Writes an SId: its kind, 0 for 16 bits and 1 for 32, and its number.
+pub fn put_sid(out: &mut Vec<u8>, sid: Sid) -> Result<(), AllocError>
+    ensures { OnOk result (out.new.items ≡ out.old.items ++ sid_bytes sid) }
+{
+    match sid {
+        Sid::Short(id) => {
+            out.push(0)?;
+            put_word(out, id)
+        }
+        Sid::Long(id) => {
+            out.push(1)?;
+            put_long(out, id)
+        }
+    }
+}
+
+/// Writes a component: its TMId, and what carries it.
+pub fn put_component(out: &mut Vec<u8>, component: &Component) -> Result<(), AllocError>
+    ensures { OnOk result (out.new.items ≡ out.old.items ++ component_bytes component.now) }
+{
+    match *component {
+        Component::Sound { ty, sub } => out.extend_from_slice(&[0, ty.get(), sub.get()]),
+        Component::Stream { ty, sub } => out.extend_from_slice(&[1, ty.get(), sub.get()]),
+        Component::Packet { scid } => {
+            out.push(3)?;
+            put_word(out, scid.get())
+        }
+    }
+}

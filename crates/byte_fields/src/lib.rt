@@ -1,0 +1,14 @@
+//! The fields of records and files: numbers of one, two and four bytes, flags, protection profiles, SIds and
+//! components, read from the front of bytes and written after bytes that stand.
+//!
+//! Begin with `Reader`, whose calls answer the field or its fault, a `RecordFault`; the calls that write stand in
+//! `byte_writer`. What is read is defined in `specs/FieldReading.antt`, what is written in `specs/FieldSpelling.antt`.
+#![tactic(auto)]
+
+pub mod byte_reader;
+pub mod byte_writer;
+pub mod record;
+
+pub use byte_reader::Reader;
+pub use byte_writer::{put_component, put_long, put_protection, put_sid, put_word};
+pub use record::RecordFault;

@@ -1,8 +1,0 @@
-use Rattle.std.proofs.Common.{◌≡◌, drop}
-use Rattle.std.specs.List.{list_any}
-use Rattle.mux_config.specs.Edits.{names}
-use Rattle.mux_config.proofs.parts.Carrier.is_named_by.Given as goal
-
-abbrev pub invariant-loop-component : goal.invariant-loop-component
-invariant-loop-component l =
-    (list_any (names l.self) (drop l.component-index l.components) ≡ list_any (names l.self) l.components)

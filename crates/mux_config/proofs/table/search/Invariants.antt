@@ -1,7 +1,0 @@
-use Rattle.std.proofs.Common.{◌≡◌, ◌+◌, drop}
-use Rattle.mux_config.proofs.Tables.{place_of}
-use Rattle.mux_config.proofs.table.search.Given as goal
-
-abbrev pub invariant-loop-place : goal.invariant-loop-place
-invariant-loop-place g l =
-    (l.place + place_of g.T.Keyed.key l.key (drop l.place l.entries) ≡ place_of g.T.Keyed.key l.key l.entries)

@@ -1,0 +1,5 @@
+pub mod Elements
+pub mod Members
+pub mod Powers
+pub mod Tables
+pub mod Walking

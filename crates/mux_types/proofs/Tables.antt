@@ -1,0 +1,302 @@
+-- Sets in ascending order: where a key stands, and what an edit at that place makes of the set.
+use Rattle.std.proofs.Common.{◌≡◌, ℕ, zero, suc, ◌+◌, ◌<◌, ◌≤◌, true, false, cond, ltb, eqb, nat_lt, List, [], ◌∷◌, ◌++◌, length, get_or, take, drop, set, slice_get, if◌then◌else◌, Some, None, refl, sym, ap, ◌∙◌, arith, inl, inr}
+use Rattle.std.specs.List.{insert, remove, find, refill}
+use Rattle.std.proofs.lemmas.Bool.{cases_lt, cases_eq, lt-ltb, le-ltb, eq-eqb, ne_eqb, eqb-false}
+use Rattle.std.proofs.lemmas.Option.{slice_get-get_or}
+use Rattle.std.proofs.lemmas.List.{drop_more, append-nil, length-set, drop_all, take_all}
+use Rattle.mux_types.specs.Configuration.{Each, IsAscending}
+use Rattle.mux_types.specs.Tables.{entry_at, with_entry, without_entry, with_entry_changed}
+
+-- ---- members
+
+pub each_weaker : {T : Type 0} (P Q : T → Type 0) → ((x : T) → P x → Q x) → (xs : List T) → Each P xs → Each Q xs
+each_weaker P Q weaker [] all = tt
+each_weaker P Q weaker (x ∷ xs) all = (weaker x all.0, each_weaker P Q weaker xs all.1)
+
+pub each_pushed : {T : Type 0} (P : T → Type 0) (xs : List T) (y : T) → Each P xs → P y → Each P (xs ++ y ∷ [])
+each_pushed P [] y all holds = (holds, tt)
+each_pushed P (x ∷ xs) y all holds = (all.0, each_pushed P xs y all.1 holds)
+
+pub each_with : {T : Type 0} (P : T → Type 0) (key : T → ℕ) (y : T) (xs : List T) → P y → Each P xs → Each P (with_entry key y xs)
+each_with P key y [] holds all = (holds, tt)
+each_with P key y (x ∷ xs) holds all =
+    elim (cases_lt (key y) (key x)) [
+      | inl lt ↦ rw (lt-ltb _ _ lt) (holds, all)
+      | inr ge ↦ rw (le-ltb _ _ ge) (all.0, each_with P key y xs holds all.1)
+    ]
+
+pub each_without : {T : Type 0} (P : T → Type 0) (key : T → ℕ) (k : ℕ) (xs : List T) → Each P xs → Each P (without_entry key k xs)
+each_without P key k [] all = tt
+each_without P key k (x ∷ xs) all =
+    elim (cases_eq (key x) k) [
+      | inl same ↦ rw (eq-eqb _ _ same) (each_without P key k xs all.1)
+      | inr other ↦ rw (ne_eqb _ _ other) (all.0, each_without P key k xs all.1)
+    ]
+
+-- what holds of the new member holds of each afterwards, where it may rest on the key that was there
+pub each_changed : {T : Type 0} (P : T → Type 0) (key : T → ℕ) (y : T) → ((x : T) → key x ≡ key y → P x → P y) → (xs : List T) → Each P xs → Each P (with_entry_changed key y xs)
+each_changed P key y holds [] all = tt
+each_changed P key y holds (x ∷ xs) all =
+    elim (cases_eq (key x) (key y)) [
+      | inl same ↦ rw (eq-eqb _ _ same) (holds x same all.0, each_changed P key y holds xs all.1)
+      | inr other ↦ rw (ne_eqb _ _ other) (all.0, each_changed P key y holds xs all.1)
+    ]
+
+-- ---- order
+
+pub ascends_pushed : {T : Type 0} (key : T → ℕ) (xs : List T) (y : T) → IsAscending key xs → Each (λ x. key x < key y) xs → IsAscending key (xs ++ y ∷ [])
+ascends_pushed key [] y up above = (tt, tt)
+ascends_pushed key (x ∷ xs) y up above =
+    (each_pushed (λ z. key x < key z) xs y up.0 above.0, ascends_pushed key xs y up.1 above.1)
+
+pub ascends_with : {T : Type 0} (key : T → ℕ) (y : T) (xs : List T) → IsAscending key xs → entry_at key (key y) xs ≡ None → IsAscending key (with_entry key y xs)
+ascends_with key y [] up absent = (tt, tt)
+ascends_with key y (x ∷ xs) up absent =
+    elim (cases_eq (key x) (key y)) [
+      | inl same ↦ let found : cond (eqb (key x) (key y)) (Some x) (find (λ z. eqb (key z) (key y)) xs) ≡ Some x = rw (eq-eqb _ _ same) refl in
+          absurd (let wrong : Some x ≡ None = sym found ∙ absent in cc)
+      | inr other ↦ let rest : entry_at key (key y) xs ≡ None = sym (let skip : entry_at key (key y) (x ∷ xs) ≡ entry_at key (key y) xs = rw (ne_eqb _ _ other) refl in skip) ∙ absent in
+          elim (cases_lt (key y) (key x)) [
+            | inl lt ↦ rw (lt-ltb _ _ lt) ((lt, each_weaker (λ z. key x < key z) (λ z. key y < key z) (λ z h. omega (arith, lt, h)) xs up.0), up)
+            | inr ge ↦ rw (le-ltb _ _ ge) (each_with (λ z. key x < key z) key y xs (omega (arith, ge, other)) up.0, ascends_with key y xs up.1 rest)
+          ]
+    ]
+
+pub ascends_without : {T : Type 0} (key : T → ℕ) (k : ℕ) (xs : List T) → IsAscending key xs → IsAscending key (without_entry key k xs)
+ascends_without key k [] up = tt
+ascends_without key k (x ∷ xs) up =
+    elim (cases_eq (key x) k) [
+      | inl same ↦ rw (eq-eqb _ _ same) (ascends_without key k xs up.1)
+      | inr other ↦ rw (ne_eqb _ _ other) (each_without (λ z. key x < key z) key k xs up.0, ascends_without key k xs up.1)
+    ]
+
+pub ascends_changed : {T : Type 0} (key : T → ℕ) (y : T) (xs : List T) → IsAscending key xs → IsAscending key (with_entry_changed key y xs)
+ascends_changed key y [] up = tt
+ascends_changed key y (x ∷ xs) up =
+    let later : Each (λ z. key x < key z) (with_entry_changed key y xs) = each_changed (λ z. key x < key z) key y (λ z same h. omega (arith, same, h)) xs up.0 in
+    elim (cases_eq (key x) (key y)) [
+      | inl same ↦ rw (eq-eqb _ _ same) (each_weaker (λ z. key x < key z) (λ z. key y < key z) (λ z h. omega (arith, same, h)) (with_entry_changed key y xs) later, ascends_changed key y xs up.1)
+      | inr other ↦ rw (ne_eqb _ _ other) (later, ascends_changed key y xs up.1)
+    ]
+
+-- ---- the place of a key
+
+-- how many members of a set in ascending order stand before a key
+abbrev pub place_of : {T : Type 0} → (T → ℕ) → ℕ → List T → ℕ
+place_of key k [] = 0
+place_of key k (x ∷ xs) = if nat_lt (key x) k then suc (place_of key k xs) else 0
+
+pub place_bound : {T : Type 0} (key : T → ℕ) (k : ℕ) (xs : List T) → place_of key k xs ≤ length xs
+place_bound key k [] = omega arith
+place_bound key k (x ∷ xs) =
+    let more = place_bound key k xs in
+    elim (cases_lt (key x) k) [ inl lt ↦ rw (lt-ltb _ _ lt) (omega (arith, more)) | inr ge ↦ rw (le-ltb _ _ ge) (omega arith) ]
+
+-- one step of a search from the front
+pub place_further : {T : Type 0} (key : T → ℕ) (k : ℕ) (xs : List T) (i n : ℕ) (d : T) → i < length xs → key (get_or xs i d) < k
+    → i + place_of key k (drop i xs) ≡ n → (i + 1) + place_of key k (drop (i + 1) xs) ≡ n
+place_further key k xs i n d lt below so_far =
+    let cut : place_of key k (drop i xs) ≡ place_of key k (get_or xs i d ∷ drop (i + 1) xs) = ap (place_of key k) (drop_more xs i d lt) in
+    let step : place_of key k (get_or xs i d ∷ drop (i + 1) xs) ≡ suc (place_of key k (drop (i + 1) xs)) = rw (lt-ltb _ _ below) refl in
+    omega (arith, cut, step, so_far)
+
+pub place_here : {T : Type 0} (key : T → ℕ) (k : ℕ) (xs : List T) (i n : ℕ) (d : T) → i < length xs → k ≤ key (get_or xs i d)
+    → i + place_of key k (drop i xs) ≡ n → i ≡ n
+place_here key k xs i n d lt ge so_far =
+    let cut : place_of key k (drop i xs) ≡ place_of key k (get_or xs i d ∷ drop (i + 1) xs) = ap (place_of key k) (drop_more xs i d lt) in
+    let step : place_of key k (get_or xs i d ∷ drop (i + 1) xs) ≡ 0 = rw (le-ltb _ _ ge) refl in
+    omega (arith, cut, step, so_far)
+
+-- ---- the member at that place
+
+not_later : {T : Type 0} (key : T → ℕ) (k : ℕ) (xs : List T) → Each (λ x. k < key x) xs → entry_at key k xs ≡ None
+not_later key k [] above = refl
+not_later key k (x ∷ xs) above = let other : eqb (key x) k ≡ false = ne_eqb _ _ (λ same. omega (arith, above.0, same)) in rw other (not_later key k xs above.1)
+
+pub found_at : {T : Type 0} (key : T → ℕ) (k : ℕ) (xs : List T) (d : T) → IsAscending key xs → place_of key k xs < length xs
+    → key (get_or xs (place_of key k xs) d) ≡ k → entry_at key k xs ≡ Some (get_or xs (place_of key k xs) d)
+found_at key k [] d up lt same = absurd (omega (arith, lt))
+found_at {T} key k (x ∷ xs) d up lt same =
+    elim (cases_lt (key x) k) [
+      | inl below ↦
+          let at : place_of key k (x ∷ xs) ≡ suc (place_of key k xs) = rw (lt-ltb _ _ below) refl in
+          let other : eqb (key x) k ≡ false = ne_eqb _ _ (λ e. omega (arith, below, e)) in
+          let same' : key (get_or xs (place_of key k xs) d) ≡ k = sym (ap (λ (n : ℕ). key (get_or (x ∷ xs) n d)) at) ∙ same in
+          rw (at, other) (found_at key k xs d up.1 (omega (arith, lt, at)) same')
+      | inr ge ↦
+          let at : place_of key k (x ∷ xs) ≡ 0 = rw (le-ltb _ _ ge) refl in
+          let here : key x ≡ k = sym (ap (λ (n : ℕ). key (get_or (x ∷ xs) n d)) at) ∙ same in
+          rw (at, eq-eqb _ _ here) refl
+    ]
+
+pub absent_past : {T : Type 0} (key : T → ℕ) (k : ℕ) (xs : List T) → length xs ≤ place_of key k xs → entry_at key k xs ≡ None
+absent_past key k [] ge = refl
+absent_past key k (x ∷ xs) ge =
+    elim (cases_lt (key x) k) [
+      | inl below ↦
+          let at : place_of key k (x ∷ xs) ≡ suc (place_of key k xs) = rw (lt-ltb _ _ below) refl in
+          let other : eqb (key x) k ≡ false = ne_eqb _ _ (λ e. omega (arith, below, e)) in
+          rw other (absent_past key k xs (omega (arith, ge, at)))
+      | inr above ↦
+          let at : place_of key k (x ∷ xs) ≡ 0 = rw (le-ltb _ _ above) refl in
+          absurd (omega (arith, ge, at))
+    ]
+
+pub absent_at : {T : Type 0} (key : T → ℕ) (k : ℕ) (xs : List T) (d : T) → IsAscending key xs → place_of key k xs < length xs
+    → (key (get_or xs (place_of key k xs) d) ≡ k → ⊥) → entry_at key k xs ≡ None
+absent_at key k [] d up lt differs = refl
+absent_at {T} key k (x ∷ xs) d up lt differs =
+    elim (cases_lt (key x) k) [
+      | inl below ↦
+          let at : place_of key k (x ∷ xs) ≡ suc (place_of key k xs) = rw (lt-ltb _ _ below) refl in
+          let other : eqb (key x) k ≡ false = ne_eqb _ _ (λ e. omega (arith, below, e)) in
+          let moved : key (get_or (x ∷ xs) (place_of key k (x ∷ xs)) d) ≡ key (get_or xs (place_of key k xs) d) = ap (λ (n : ℕ). key (get_or (x ∷ xs) n d)) at in
+          rw other (absent_at key k xs d up.1 (omega (arith, lt, at)) (λ e. differs (moved ∙ e)))
+      | inr ge ↦
+          let at : place_of key k (x ∷ xs) ≡ 0 = rw (le-ltb _ _ ge) refl in
+          let here : key (get_or (x ∷ xs) (place_of key k (x ∷ xs)) d) ≡ key x = ap (λ (n : ℕ). key (get_or (x ∷ xs) n d)) at in
+          let other : key x ≡ k → ⊥ = λ e. differs (here ∙ e) in
+          rw (ne_eqb _ _ other) (not_later key k xs (each_weaker (λ z. key x < key z) (λ z. k < key z) (λ z h. omega (arith, ge, h)) xs up.0))
+    ]
+
+-- ---- what an edit at that place makes of the set
+
+skipped : {T : Type 0} (key : T → ℕ) (k : ℕ) (x : T) (xs : List T) → entry_at key k (x ∷ xs) ≡ None → (eqb (key x) k ≡ false) × (entry_at key k xs ≡ None)
+skipped key k x xs absent =
+    elim (cases_eq (key x) k) [
+      | inl same ↦
+          let found : entry_at key k (x ∷ xs) ≡ Some x = rw (eq-eqb _ _ same) refl in
+          absurd (let wrong : Some x ≡ None = sym found ∙ absent in cc)
+      | inr other ↦
+          let past : entry_at key k (x ∷ xs) ≡ entry_at key k xs = rw (ne_eqb _ _ other) refl in
+          (ne_eqb _ _ other, sym past ∙ absent)
+    ]
+
+pub without_absent : {T : Type 0} (key : T → ℕ) (k : ℕ) (xs : List T) → entry_at key k xs ≡ None → without_entry key k xs ≡ xs
+without_absent key k [] absent = refl
+without_absent {T} key k (x ∷ xs) absent =
+    let rest = skipped key k x xs absent in
+    rw rest.0 (ap (λ (ys : List T). x ∷ ys) (without_absent key k xs rest.1))
+
+pub changed_absent : {T : Type 0} (key : T → ℕ) (y : T) (xs : List T) → entry_at key (key y) xs ≡ None → with_entry_changed key y xs ≡ xs
+changed_absent key y [] absent = refl
+changed_absent {T} key y (x ∷ xs) absent =
+    let rest = skipped key (key y) x xs absent in
+    rw rest.0 (ap (λ (ys : List T). x ∷ ys) (changed_absent key y xs rest.1))
+
+absent_later : {T : Type 0} (key : T → ℕ) (k : ℕ) (x : T) (xs : List T) → IsAscending key (x ∷ xs) → k ≤ key x → entry_at key k xs ≡ None
+absent_later key k x xs up ge = not_later key k xs (each_weaker (λ z. key x < key z) (λ z. k < key z) (λ z h. omega (arith, ge, h)) xs up.0)
+
+pub inserted : {T : Type 0} (key : T → ℕ) (y : T) (xs : List T) → entry_at key (key y) xs ≡ None → insert xs (place_of key (key y) xs) y ≡ with_entry key y xs
+inserted key y [] absent = refl
+inserted {T} key y (x ∷ xs) absent =
+    let rest = skipped key (key y) x xs absent in
+    let other : key x ≡ key y → ⊥ = eqb-false _ _ rest.0 in
+    elim (cases_lt (key x) (key y)) [
+      | inl below ↦
+          let at : place_of key (key y) (x ∷ xs) ≡ suc (place_of key (key y) xs) = rw (lt-ltb _ _ below) refl in
+          let test : ltb (key y) (key x) ≡ false = le-ltb _ _ (omega (arith, below)) in
+          rw (at, test) (ap (λ (ys : List T). x ∷ ys) (inserted key y xs rest.1))
+      | inr ge ↦
+          let at : place_of key (key y) (x ∷ xs) ≡ 0 = rw (le-ltb _ _ ge) refl in
+          let test : ltb (key y) (key x) ≡ true = lt-ltb _ _ (omega (arith, ge, other)) in
+          rw (at, test) refl
+    ]
+
+pub removed : {T : Type 0} (key : T → ℕ) (k : ℕ) (xs : List T) (d : T) → IsAscending key xs → place_of key k xs < length xs
+    → key (get_or xs (place_of key k xs) d) ≡ k → remove xs (place_of key k xs) ≡ without_entry key k xs
+removed key k [] d up lt same = refl
+removed {T} key k (x ∷ xs) d up lt same =
+    elim (cases_lt (key x) k) [
+      | inl below ↦
+          let at : place_of key k (x ∷ xs) ≡ suc (place_of key k xs) = rw (lt-ltb _ _ below) refl in
+          let other : eqb (key x) k ≡ false = ne_eqb _ _ (λ e. omega (arith, below, e)) in
+          let same' : key (get_or xs (place_of key k xs) d) ≡ k = sym (ap (λ (n : ℕ). key (get_or (x ∷ xs) n d)) at) ∙ same in
+          rw (at, other) (ap (λ (ys : List T). x ∷ ys) (removed key k xs d up.1 (omega (arith, lt, at)) same'))
+      | inr ge ↦
+          let at : place_of key k (x ∷ xs) ≡ 0 = rw (le-ltb _ _ ge) refl in
+          let here : key x ≡ k = sym (ap (λ (n : ℕ). key (get_or (x ∷ xs) n d)) at) ∙ same in
+          rw (at, eq-eqb _ _ here) (sym (without_absent key k xs (absent_later key k x xs up ge)))
+    ]
+
+pub changed : {T : Type 0} (key : T → ℕ) (y : T) (xs : List T) (d : T) → IsAscending key xs → place_of key (key y) xs < length xs
+    → key (get_or xs (place_of key (key y) xs) d) ≡ key y → set xs (place_of key (key y) xs) y ≡ with_entry_changed key y xs
+changed key y [] d up lt same = refl
+changed {T} key y (x ∷ xs) d up lt same =
+    elim (cases_lt (key x) (key y)) [
+      | inl below ↦
+          let at : place_of key (key y) (x ∷ xs) ≡ suc (place_of key (key y) xs) = rw (lt-ltb _ _ below) refl in
+          let other : eqb (key x) (key y) ≡ false = ne_eqb _ _ (λ e. omega (arith, below, e)) in
+          let same' : key (get_or xs (place_of key (key y) xs) d) ≡ key y = sym (ap (λ (n : ℕ). key (get_or (x ∷ xs) n d)) at) ∙ same in
+          rw (at, other) (ap (λ (ys : List T). x ∷ ys) (changed key y xs d up.1 (omega (arith, lt, at)) same'))
+      | inr ge ↦
+          let at : place_of key (key y) (x ∷ xs) ≡ 0 = rw (le-ltb _ _ ge) refl in
+          let here : key x ≡ key y = sym (ap (λ (n : ℕ). key (get_or (x ∷ xs) n d)) at) ∙ same in
+          rw (at, eq-eqb _ _ here) (ap (λ (ys : List T). y ∷ ys) (sym (changed_absent key y xs (absent_later key (key y) x xs up ge))))
+    ]
+
+-- a write at one place of a list of the same length
+pub refilled : {T : Type 0} (xs : List T) (n i : ℕ) (y : T) → n ≡ length xs → refill n xs (set xs i y) ≡ set xs i y
+refilled {T} xs n i y len =
+    let same = length-set xs i y in
+    let none : drop (length (set xs i y)) xs ≡ [] = drop_all (length (set xs i y)) xs (omega (arith, same)) in
+    ap (λ (r : List T). take n (set xs i y ++ r)) none ∙ ap (take n) (append-nil (set xs i y)) ∙ take_all n (set xs i y) (omega (arith, same, len))
+
+-- ---- what a search finds
+
+pub record IsFoundAt {T : Type 0} (key : T → ℕ) (k : ℕ) (xs : List T) (p : ℕ) : Type 0 where
+  pub found : slice_get xs p ≡ entry_at key k xs
+  pub in_bounds : p < length xs
+  pub removed : remove xs p ≡ without_entry key k xs
+  pub changed : (y : T) → key y ≡ k → set xs p y ≡ with_entry_changed key y xs
+
+pub record IsAbsentAt {T : Type 0} (key : T → ℕ) (k : ℕ) (xs : List T) (p : ℕ) : Type 0 where
+  pub absent : entry_at key k xs ≡ None
+  pub room : p ≤ length xs
+  pub inserted : (y : T) → key y ≡ k → insert xs p y ≡ with_entry key y xs
+
+found_there : {T : Type 0} (key : T → ℕ) (k : ℕ) (xs : List T) (p : ℕ) (d : T) → IsAscending key xs → p ≡ place_of key k xs
+    → p < length xs → key (get_or xs p d) ≡ k → IsFoundAt key k xs p
+found_there {T} key k xs p d up at lt same =
+    let lt' : place_of key k xs < length xs = omega (arith, lt, at) in
+    let same' : key (get_or xs (place_of key k xs) d) ≡ k = ap (λ (n : ℕ). key (get_or xs n d)) (sym at) ∙ same in
+    rw at (record {
+      found = slice_get-get_or xs (place_of key k xs) d lt' ∙ sym (found_at key k xs d up lt' same');
+      in_bounds = lt';
+      removed = removed key k xs d up lt' same';
+      changed = λ y e. let lt'' : place_of key (key y) xs < length xs = (rw e lt') in let same'' : key (get_or xs (place_of key (key y) xs) d) ≡ key y = (rw e same') in ap (λ (n : ℕ). set xs (place_of key n xs) y) (sym e) ∙ changed key y xs d up lt'' same'';
+    })
+
+pub found_here : {T : Type 0} (key : T → ℕ) (k : ℕ) (xs : List T) (i : ℕ) (d : T) → IsAscending key xs → i < length xs
+    → i + place_of key k (drop i xs) ≡ place_of key k xs → key (get_or xs i d) ≡ k → IsFoundAt key k xs i
+found_here key k xs i d up lt so_far same =
+    found_there key k xs i d up (place_here key k xs i _ d lt (omega (arith, same)) so_far) lt same
+
+absent_there : {T : Type 0} (key : T → ℕ) (k : ℕ) (xs : List T) (p : ℕ) → entry_at key k xs ≡ None → p ≡ place_of key k xs → IsAbsentAt key k xs p
+absent_there {T} key k xs p absent at = record {
+  absent = absent;
+  room = omega (arith, at, place_bound key k xs);
+  inserted = λ y e. let none : entry_at key (key y) xs ≡ None = (rw e absent) in ap (λ (n : ℕ). insert xs n y) (at ∙ ap (λ (m : ℕ). place_of key m xs) (sym e)) ∙ inserted key y xs none;
+}
+
+pub absent_here : {T : Type 0} (key : T → ℕ) (k : ℕ) (xs : List T) (i : ℕ) (d : T) → IsAscending key xs → i < length xs
+    → i + place_of key k (drop i xs) ≡ place_of key k xs → k < key (get_or xs i d) → IsAbsentAt key k xs i
+absent_here {T} key k xs i d up lt so_far above =
+    let at : i ≡ place_of key k xs = place_here key k xs i _ d lt (omega (arith, above)) so_far in
+    let differs : key (get_or xs (place_of key k xs) d) ≡ k → ⊥ = λ e. (let there : key (get_or xs i d) ≡ k = ap (λ (n : ℕ). key (get_or xs n d)) at ∙ e in omega (arith, there, above)) in
+    absent_there key k xs i (absent_at key k xs d up (omega (arith, lt, at)) differs) at
+
+pub absent_to_the_end : {T : Type 0} (key : T → ℕ) (k : ℕ) (xs : List T) (i : ℕ) → length xs ≤ i
+    → i + place_of key k (drop i xs) ≡ place_of key k xs → IsAbsentAt key k xs (length xs)
+absent_to_the_end key k xs i past so_far =
+    let bound = place_bound key k xs in
+    absent_there key k xs (length xs) (absent_past key k xs (omega (arith, past, so_far))) (omega (arith, past, so_far, bound))
+
+slice_get_none : {T : Type 0} (xs : List T) (p : ℕ) → slice_get xs p ≡ None → p < length xs → ⊥
+slice_get_none [] p none lt = omega (arith, lt)
+slice_get_none (x ∷ xs) zero none lt = absurd cc
+slice_get_none (x ∷ xs) (suc p) none lt = slice_get_none xs p none (omega (arith, lt))
+
+-- a key that stands at a place is not absent
+pub not_both : {T : Type 0} (key : T → ℕ) (k : ℕ) (xs : List T) (p : ℕ) → slice_get xs p ≡ entry_at key k xs → p < length xs → entry_at key k xs ≡ None → ⊥
+not_both key k xs p found lt absent = let there : slice_get xs p ≡ None = found ∙ absent in slice_get_none xs p there lt

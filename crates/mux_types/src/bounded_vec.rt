@@ -1,0 +1,137 @@
+//! A list of a few values, held without memory of its own.
+
+ghost use Rattle.std.specs.Prelude.{◌≡◌, ◌+◌, ◌<◌, ◌≤◌, ◌++◌, ◌∷◌, [], ◌↔◌, length, take, IsTrue, option_copied, slice_get};
+ghost use Rattle.std.specs.List.{insert, remove};
+
+use std::marker::Model;
+
+/// A list of at most `CAP` values. Contracts see it as the list.
+#[derive(Drop)]
+pub struct BoundedVec<T: Drop, const CAP: usize> {
+    items: [T; CAP],
+    len: usize,
+}
+
+impl<T: Drop, const CAP: usize> Model for BoundedVec<T, CAP> {
+    ghost use Rattle.std.specs.Prelude.{◌≡◌, ◌≤◌, List, length, take};
+
+    ghost Value = { List T };
+
+    ghost view = { λ f. take f.len f.items };
+
+    ghost invariant = { λ f. (f.len ≤ CAP) × (length f.items ≡ CAP) };
+}
+
+impl<T: Default + Drop, const CAP: usize> BoundedVec<T, CAP> {
+    /// The empty list.
+    pub fn new() -> Self
+        ensures { result ≡ [] }
+    {
+        BoundedVec {
+            items: Default::default(),
+            len: 0,
+        }
+    }
+}
+
+impl<T: Drop, const CAP: usize> BoundedVec<T, CAP> {
+    /// How many values it holds, at most `CAP`.
+    pub fn len(&self) -> usize
+        ensures value { result ≡ length self.now }
+        ensures bound { result ≤ CAP }
+    {
+        self.len
+    }
+
+    /// Appends a value. The list must have room for it.
+    pub fn push(&mut self, value: T)
+        requires { length self.old < CAP }
+        ensures { self.new ≡ self.old ++ value ∷ [] }
+    {
+        let len = self.len;
+        self.items[len] = value;
+        self.len = len + 1;
+    }
+
+    /// The values in order.
+    pub fn as_slice(&self) -> &[T]
+        ensures value { result.now ≡ self.now }
+        ensures bound { length result.now ≤ CAP }
+    {
+        &self.items[..self.len]
+    }
+
+    /// The value at a place, counted from 0.
+    pub fn get(&self, place: usize) -> Option<&T>
+        ensures { option_copied result ≡ slice_get self.now place }
+    {
+        self.as_slice().get(place)
+    }
+
+    /// Whether it holds `CAP` values.
+    pub fn is_full(&self) -> bool
+        ensures { IsTrue result ↔ (CAP ≤ length self.now) }
+    {
+        self.len >= CAP
+    }
+}
+
+impl<T: Copy + Drop, const CAP: usize> BoundedVec<T, CAP> {
+    /// Lets go of every value.
+    pub fn clear(&mut self)
+        ensures { self.new ≡ [] }
+    {
+        self.len = 0;
+    }
+
+    /// Takes in a value at a place, before the one that stands there; the later ones move up. The list must
+    /// have room for it.
+    pub fn insert(&mut self, place: usize, value: T)
+        requires in_bounds { place ≤ length self.old }
+        requires room { length self.old < CAP }
+        ensures { self.new ≡ insert self.old place value }
+    {
+        let old = self.copied();
+        self.truncate(place);
+        self.push(value);
+        self.extend(&old.as_slice()[place..]);
+    }
+
+    /// Takes out the value at a place; the later ones move down.
+    pub fn remove(&mut self, place: usize)
+        requires { place < length self.old }
+        ensures { self.new ≡ remove self.old place }
+    {
+        let old = self.copied();
+        self.truncate(place);
+        self.extend(&old.as_slice()[place + 1..]);
+    }
+
+    /// Keeps so many of the first values.
+    fn truncate(&mut self, len: usize)
+        requires { len ≤ length self.old }
+        ensures { self.new ≡ take len self.old }
+    {
+        self.len = len;
+    }
+
+    /// Appends values, for which it has room.
+    fn extend(&mut self, values: &[T])
+        requires { length self.old + length values.now ≤ CAP }
+        ensures { self.new ≡ self.old ++ values.now }
+    {
+        for value in values {
+            self.push(*value);
+        }
+    }
+
+    /// A copy of the list.
+    pub fn copied(&self) -> Self
+        ensures { result ≡ self.now }
+    {
+        BoundedVec {
+            items: self.items,
+            len: self.len,
+        }
+    }
+}

@@ -1,0 +1,19 @@
+//! What a configuration of a multiplex is made of (EN 300 401 clauses 6.1 to 6.3): numbers within their bits, the
+//! sub-channels, services and packet components, and the bounded lists and sorted sets that hold them.
+//!
+//! Begin with `Sub`, `Service` and `Packet`; `SortedTable` is a set of members that have keys. Its contracts cite the
+//! words of sets in `specs/Tables.antt`; a configuration itself is defined in `specs/Configuration.antt`.
+#![tactic(auto)]
+
+pub mod bounded_vec;
+pub mod keys;
+pub mod laws;
+pub mod numbers;
+pub mod parts;
+pub mod sameness;
+pub mod sorted_table;
+
+pub use bounded_vec::BoundedVec;
+pub use numbers::{Bits, ScId, ScTy, Sid, SubId};
+pub use parts::{Carrier, Component, Packet, Service, Sub};
+pub use sorted_table::{Keyed, SortedTable};
