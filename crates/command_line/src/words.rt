@@ -92,7 +92,7 @@ pub struct FrameRequest<'a> {
 
 /// Why the words ask for nothing that the program does.
 #[derive(Drop)]
-pub enum Unasked<'a> {
+pub enum UsageError<'a> {
     /// They ask for help, or for the version: its text.
     Help(clap::Error),
     /// They are wrong: a text whose first lines say how.
@@ -110,24 +110,27 @@ pub enum Unasked<'a> {
     Memory,
 }
 
-impl From<clap::Error> for Unasked<'_> {
+impl From<clap::Error> for UsageError<'_> {
     fn from(error: clap::Error) -> Self {
         match error.kind() {
-            ErrorKind::OutOfMemory => Unasked::Memory,
-            ErrorKind::DisplayHelp | ErrorKind::DisplayVersion => Unasked::Help(error),
-            _ => Unasked::Mistake(error),
+            ErrorKind::OutOfMemory => UsageError::Memory,
+            ErrorKind::DisplayHelp | ErrorKind::DisplayVersion => UsageError::Help(error),
+            _ => UsageError::Mistake(error),
         }
     }
 }
 
-impl From<AllocError> for Unasked<'_> {
+impl From<AllocError> for UsageError<'_> {
     fn from(_error: AllocError) -> Self {
-        Unasked::Memory
+        UsageError::Memory
     }
 }
 
 /// What these words, without the program's name, ask for.
-pub fn request_of<'a, S: AsStr>(alloc: Global, words: &'a [S]) -> Result<Request<'a>, Unasked<'a>> {
+pub fn request_of<'a, S: AsStr>(
+    alloc: Global,
+    words: &'a [S],
+) -> Result<Request<'a>, UsageError<'a>> {
     let matches = program(alloc)?.try_get_matches_from(words)?;
     match matches.subcommand() {
         Some(("frame", options)) => frame_request(options),
@@ -136,7 +139,7 @@ pub fn request_of<'a, S: AsStr>(alloc: Global, words: &'a [S]) -> Result<Request
         Some(("verify", options)) => verify_request(options),
         Some(("play", options)) => play_request(options),
         Some(("debug", options)) => debug_request(options),
-        _ => Err(Unasked::Nothing),
+        _ => Err(UsageError::Nothing),
     }
 }
 
@@ -324,20 +327,20 @@ fn contacts<'a>(alloc: Global) -> Arg<'a> {
         )
 }
 
-fn frame_request<'a>(options: &ArgMatches<'a>) -> Result<Request<'a>, Unasked<'a>> {
+fn frame_request<'a>(options: &ArgMatches<'a>) -> Result<Request<'a>, UsageError<'a>> {
     let digits = options.get_str("ensemble").unwrap_or("");
     let Some(eid) = word_of(digits) else {
-        return Err(Unasked::Digits {
+        return Err(UsageError::Digits {
             option: "--ensemble <HHHH>",
             value: digits,
         });
     };
-    let config = options.get_str("config").ok_or(Unasked::Nothing)?;
-    let count = options.get_one::<u16>("count").ok_or(Unasked::Nothing)?;
-    let page = options.get_one::<u16>("page").ok_or(Unasked::Nothing)?;
-    let mode = options.get_one::<u16>("mode").ok_or(Unasked::Nothing)?;
-    let mode = mode_of(mode).ok_or(Unasked::Nothing)?;
-    let ensemble = Ensemble::new(eid, 0, false, count, None).ok_or(Unasked::Nothing)?;
+    let config = options.get_str("config").ok_or(UsageError::Nothing)?;
+    let count = options.get_one::<u16>("count").ok_or(UsageError::Nothing)?;
+    let page = options.get_one::<u16>("page").ok_or(UsageError::Nothing)?;
+    let mode = options.get_one::<u16>("mode").ok_or(UsageError::Nothing)?;
+    let mode = mode_of(mode).ok_or(UsageError::Nothing)?;
+    let ensemble = Ensemble::new(eid, 0, false, count, None).ok_or(UsageError::Nothing)?;
     Ok(Request::Frame(FrameRequest {
         config,
         mode,
@@ -359,27 +362,27 @@ fn mode_of(number: u16) -> Option<Mode>
     }
 }
 
-fn listen_request<'a>(options: &ArgMatches<'a>) -> Result<Request<'a>, Unasked<'a>> {
-    let file = options.get_str("file").ok_or(Unasked::Nothing)?;
+fn listen_request<'a>(options: &ArgMatches<'a>) -> Result<Request<'a>, UsageError<'a>> {
+    let file = options.get_str("file").ok_or(UsageError::Nothing)?;
     Ok(Request::Listen(file))
 }
 
-fn compile_request<'a>(options: &ArgMatches<'a>) -> Result<Request<'a>, Unasked<'a>> {
-    let script = options.get_str("script").ok_or(Unasked::Nothing)?;
-    let out = options.get_str("out").ok_or(Unasked::Nothing)?;
+fn compile_request<'a>(options: &ArgMatches<'a>) -> Result<Request<'a>, UsageError<'a>> {
+    let script = options.get_str("script").ok_or(UsageError::Nothing)?;
+    let out = options.get_str("out").ok_or(UsageError::Nothing)?;
     Ok(Request::Compile(CompileRequest { script, out }))
 }
 
-fn verify_request<'a>(options: &ArgMatches<'a>) -> Result<Request<'a>, Unasked<'a>> {
-    let code = options.get_str("code").ok_or(Unasked::Nothing)?;
+fn verify_request<'a>(options: &ArgMatches<'a>) -> Result<Request<'a>, UsageError<'a>> {
+    let code = options.get_str("code").ok_or(UsageError::Nothing)?;
     Ok(Request::Verify(code))
 }
 
-fn play_request<'a>(options: &ArgMatches<'a>) -> Result<Request<'a>, Unasked<'a>> {
+fn play_request<'a>(options: &ArgMatches<'a>) -> Result<Request<'a>, UsageError<'a>> {
     let start = start_options(options)?;
-    let code = options.get_str("code").ok_or(Unasked::Nothing)?;
-    let events = options.get_str("events").ok_or(Unasked::Nothing)?;
-    let out = options.get_str("out").ok_or(Unasked::Nothing)?;
+    let code = options.get_str("code").ok_or(UsageError::Nothing)?;
+    let events = options.get_str("events").ok_or(UsageError::Nothing)?;
+    let out = options.get_str("out").ok_or(UsageError::Nothing)?;
     Ok(Request::Play(PlayRequest {
         code,
         events,
@@ -388,10 +391,10 @@ fn play_request<'a>(options: &ArgMatches<'a>) -> Result<Request<'a>, Unasked<'a>
     }))
 }
 
-fn debug_request<'a>(options: &ArgMatches<'a>) -> Result<Request<'a>, Unasked<'a>> {
+fn debug_request<'a>(options: &ArgMatches<'a>) -> Result<Request<'a>, UsageError<'a>> {
     let start = start_options(options)?;
-    let code = options.get_str("code").ok_or(Unasked::Nothing)?;
-    let commands = options.get_str("commands").ok_or(Unasked::Nothing)?;
+    let code = options.get_str("code").ok_or(UsageError::Nothing)?;
+    let commands = options.get_str("commands").ok_or(UsageError::Nothing)?;
     Ok(Request::Debug(DebugRequest {
         code,
         commands,
@@ -399,16 +402,16 @@ fn debug_request<'a>(options: &ArgMatches<'a>) -> Result<Request<'a>, Unasked<'a
     }))
 }
 
-fn start_options<'a>(options: &ArgMatches<'a>) -> Result<StartOptions, Unasked<'a>> {
+fn start_options<'a>(options: &ArgMatches<'a>) -> Result<StartOptions, UsageError<'a>> {
     let digits = options.get_str("contacts").unwrap_or("");
     let Some(contacts) = word_of(digits) else {
-        return Err(Unasked::Digits {
+        return Err(UsageError::Digits {
             option: "--contacts <HHHH>",
             value: digits,
         });
     };
-    let count = options.get_one::<u16>("count").ok_or(Unasked::Nothing)?;
-    let day = options.get_one::<u32>("day").ok_or(Unasked::Nothing)?;
+    let count = options.get_one::<u16>("count").ok_or(UsageError::Nothing)?;
+    let day = options.get_one::<u32>("day").ok_or(UsageError::Nothing)?;
     Ok(StartOptions {
         count,
         day,

@@ -3,7 +3,7 @@
 ghost use Rattle.std.specs.Prelude.{◌≡◌, ◌≤◌, IsErr};
 
 use crate::{compile, debug, play, verify};
-use command_line::{Request, Unasked, request_of};
+use command_line::{Request, UsageError, request_of};
 use console::ending::{Failure, Status};
 use console::files::Files;
 use console::output::Output;
@@ -26,7 +26,7 @@ pub fn answer<S: AsStr, F: Files, W: Write>(
     ensures { result ≤ 2 }
 {
     let mut output = Output::new(out);
-    let ended = obey(alloc, words, files, &mut output);
+    let ended = dispatch(alloc, words, files, &mut output);
     status_of(ended, &mut output)
 }
 
@@ -37,8 +37,8 @@ pub fn answer_without_words<W: Write>(alloc: Global, error: &io::Error, out: &mu
 {
     let mut output = Output::new(out);
     let unasked = match error.kind() {
-        ErrorKind::OutOfMemory => Unasked::Memory,
-        _ => Unasked::NoText,
+        ErrorKind::OutOfMemory => UsageError::Memory,
+        _ => UsageError::NoText,
     };
     let ended = explain(alloc, unasked, &mut output);
     status_of(ended, &mut output)
@@ -58,28 +58,28 @@ fn status_of<W: Write>(ended: io::Result<Status>, out: &mut W) -> u8
     }
 }
 
-fn obey<S: AsStr, F: Files, W: Write>(
+fn dispatch<S: AsStr, F: Files, W: Write>(
     alloc: Global,
     words: &[S],
     files: &mut F,
     out: &mut W,
 ) -> io::Result<Status> {
     match request_of(alloc, words) {
-        Ok(Request::Frame(request)) => told(frame::show_frame(alloc, &request, files, out), out),
-        Ok(Request::Listen(path)) => told(listen::show_heard(alloc, path, files, out), out),
-        Ok(Request::Compile(request)) => told(
+        Ok(Request::Frame(request)) => report(frame::show_frame(alloc, &request, files, out), out),
+        Ok(Request::Listen(path)) => report(listen::show_heard(alloc, path, files, out), out),
+        Ok(Request::Compile(request)) => report(
             compile::show_compile(alloc, &request, files, out),
             out,
         ),
-        Ok(Request::Verify(path)) => told(verify::show_verdict(alloc, path, files, out), out),
-        Ok(Request::Play(request)) => told(play::show_play(alloc, &request, files, out), out),
-        Ok(Request::Debug(request)) => told(debug::show_debug(alloc, &request, files, out), out),
+        Ok(Request::Verify(path)) => report(verify::show_verdict(alloc, path, files, out), out),
+        Ok(Request::Play(request)) => report(play::show_play(alloc, &request, files, out), out),
+        Ok(Request::Debug(request)) => report(debug::show_debug(alloc, &request, files, out), out),
         Err(unasked) => explain(alloc, unasked, out),
     }
 }
 
 /// Prints the one line of a failure.
-fn told<W: Write>(ended: Result<Status, Failure<'_>>, out: &mut W) -> io::Result<Status> {
+fn report<W: Write>(ended: Result<Status, Failure<'_>>, out: &mut W) -> io::Result<Status> {
     match ended {
         Ok(status) => Ok(status),
         Err(failure) => {
@@ -90,29 +90,29 @@ fn told<W: Write>(ended: Result<Status, Failure<'_>>, out: &mut W) -> io::Result
 }
 
 /// Prints the help that was asked for, or the one line of a mistake on the command line.
-fn explain<W: Write>(alloc: Global, unasked: Unasked<'_>, out: &mut W) -> io::Result<Status> {
+fn explain<W: Write>(alloc: Global, unasked: UsageError<'_>, out: &mut W) -> io::Result<Status> {
     let text = match unasked {
-        Unasked::Help(help) => {
+        UsageError::Help(help) => {
             write!(out, "{help}")?;
             return Ok(Status::Done);
         }
-        Unasked::Mistake(error) => error.to_string(alloc),
-        Unasked::Digits { option, value } => format!(in alloc;
+        UsageError::Mistake(error) => error.to_string(alloc),
+        UsageError::Digits { option, value } => format!(in alloc;
             "error: invalid value '{value}' for '{option}': four digits 0-9 A-F are wanted"
         ),
-        Unasked::Nothing =>
+        UsageError::Nothing =>
             "error: a command is wanted: frame, listen, compile, verify, play, debug or help".to_string(
                 alloc,
             ),
-        Unasked::NoText => "error: a word of the command line is not UTF-8".to_string(alloc),
-        Unasked::Memory => Err(AllocError),
+        UsageError::NoText => "error: a word of the command line is not UTF-8".to_string(alloc),
+        UsageError::Memory => Err(AllocError),
     };
     match text {
         Ok(text) => {
             mistake(text.as_str(), out)?;
             Ok(Status::Misused)
         }
-        Err(_) => told(Err(Failure::Memory), out),
+        Err(_) => report(Err(Failure::Memory), out),
     }
 }
 

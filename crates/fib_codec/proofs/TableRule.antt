@@ -3,31 +3,31 @@ use Rattle.std.proofs.Common.{◌≡◌, ℕ, zero, suc, ◌+◌, ◌/◌, ◌%�
 use Rattle.std.proofs.lemmas.Bool.{and_parts, eqb-true}
 use Rattle.std.specs.Prelude.{bit_xor}
 use Rattle.fib_codec.specs.Register.{after, later, is_table, is_next_table}
-use Rattle.fib_codec.specs.declared.crc_tables.TheConstants.{FIRST, SECOND, THIRD, FOURTH, FIFTH, SIXTH}
+use Rattle.fib_codec.specs.declared.crc_tables.TheConstants.{SLICE_0, SLICE_1, SLICE_2, SLICE_3, SLICE_4, SLICE_5}
 use Rattle.fib_codec.proofs.Linear.{apart, zeros_apart, two_bytes}
 
 -- ---- the tables, computed
-first_table : is_table FIRST 0 ≡ true
+first_table : is_table SLICE_0 0 ≡ true
 unfolding after
 first_table = refl
 
-second_table : is_next_table FIRST SECOND ≡ true
+second_table : is_next_table SLICE_0 SLICE_1 ≡ true
 unfolding after
 second_table = refl
 
-third_table : is_next_table SECOND THIRD ≡ true
+third_table : is_next_table SLICE_1 SLICE_2 ≡ true
 unfolding after
 third_table = refl
 
-fourth_table : is_next_table THIRD FOURTH ≡ true
+fourth_table : is_next_table SLICE_2 SLICE_3 ≡ true
 unfolding after
 fourth_table = refl
 
-fifth_table : is_next_table FOURTH FIFTH ≡ true
+fifth_table : is_next_table SLICE_3 SLICE_4 ≡ true
 unfolding after
 fifth_table = refl
 
-sixth_table : is_next_table FIFTH SIXTH ≡ true
+sixth_table : is_next_table SLICE_4 SLICE_5 ≡ true
 unfolding after
 sixth_table = refl
 
@@ -47,25 +47,25 @@ at_next_place (p ∷ ps) [] i h lp lt = absurd (omega arith)
 at_next_place (p ∷ ps) (t ∷ ts) zero h lp lt = eqb-true _ _ (and_parts _ _ h).0
 at_next_place (p ∷ ps) (t ∷ ts) (suc i) h lp lt = at_next_place ps ts i (and_parts _ _ h).1 (omega arith) (omega arith)
 
-pub in_first_table : (k : ℕ) → k < 256 → get_or FIRST k 0 ≡ later 0 (after 8 k 0)
+pub in_first_table : (k : ℕ) → k < 256 → get_or SLICE_0 k 0 ≡ later 0 (after 8 k 0)
 in_first_table k h =
     let start : 0 + k ≡ k = omega arith in
-    at_place FIRST 0 k first_table h ∙ ap (λ n. after 8 n 0) start
+    at_place SLICE_0 0 k first_table h ∙ ap (λ n. after 8 n 0) start
 
-pub in_second_table : (k : ℕ) → k < 256 → get_or SECOND k 0 ≡ later 1 (after 8 k 0)
-in_second_table k h = at_next_place FIRST SECOND k second_table h h ∙ ap (after 8 0) (in_first_table k h)
+pub in_second_table : (k : ℕ) → k < 256 → get_or SLICE_1 k 0 ≡ later 1 (after 8 k 0)
+in_second_table k h = at_next_place SLICE_0 SLICE_1 k second_table h h ∙ ap (after 8 0) (in_first_table k h)
 
-pub in_third_table : (k : ℕ) → k < 256 → get_or THIRD k 0 ≡ later 2 (after 8 k 0)
-in_third_table k h = at_next_place SECOND THIRD k third_table h h ∙ ap (after 8 0) (in_second_table k h)
+pub in_third_table : (k : ℕ) → k < 256 → get_or SLICE_2 k 0 ≡ later 2 (after 8 k 0)
+in_third_table k h = at_next_place SLICE_1 SLICE_2 k third_table h h ∙ ap (after 8 0) (in_second_table k h)
 
-pub in_fourth_table : (k : ℕ) → k < 256 → get_or FOURTH k 0 ≡ later 3 (after 8 k 0)
-in_fourth_table k h = at_next_place THIRD FOURTH k fourth_table h h ∙ ap (after 8 0) (in_third_table k h)
+pub in_fourth_table : (k : ℕ) → k < 256 → get_or SLICE_3 k 0 ≡ later 3 (after 8 k 0)
+in_fourth_table k h = at_next_place SLICE_2 SLICE_3 k fourth_table h h ∙ ap (after 8 0) (in_third_table k h)
 
-pub in_fifth_table : (k : ℕ) → k < 256 → get_or FIFTH k 0 ≡ later 4 (after 8 k 0)
-in_fifth_table k h = at_next_place FOURTH FIFTH k fifth_table h h ∙ ap (after 8 0) (in_fourth_table k h)
+pub in_fifth_table : (k : ℕ) → k < 256 → get_or SLICE_4 k 0 ≡ later 4 (after 8 k 0)
+in_fifth_table k h = at_next_place SLICE_3 SLICE_4 k fifth_table h h ∙ ap (after 8 0) (in_fourth_table k h)
 
-pub in_sixth_table : (k : ℕ) → k < 256 → get_or SIXTH k 0 ≡ later 5 (after 8 k 0)
-in_sixth_table k h = at_next_place FIFTH SIXTH k sixth_table h h ∙ ap (after 8 0) (in_fifth_table k h)
+pub in_sixth_table : (k : ℕ) → k < 256 → get_or SLICE_5 k 0 ≡ later 5 (after 8 k 0)
+in_sixth_table k h = at_next_place SLICE_4 SLICE_5 k sixth_table h h ∙ ap (after 8 0) (in_fifth_table k h)
 
 -- ---- six bytes
 pub six_bytes : (r a b c d e f t0 t1 t2 t3 t4 t5 : ℕ)

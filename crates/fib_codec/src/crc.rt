@@ -4,10 +4,7 @@ ghost use Rattle.std.specs.Prelude.{◌≡◌, ◌↔◌, [], ◌∷◌, IsTrue}
 ghost use Rattle.fib_codec.specs.Crc.{bits_of, check_bits, IsChecked};
 ghost use Rattle.fib_codec.specs.Register.{next, after, after_all};
 
-use crate::crc_tables::{
-    turned_after_five, turned_after_four, turned_after_one, turned_after_three, turned_after_two,
-    turned_at_once,
-};
+use crate::crc_tables::{slice_0, slice_1, slice_2, slice_3, slice_4, slice_5};
 
 /// The register after one bit of the message.
 fn step(register: u16, bit: u8) -> u16
@@ -44,7 +41,7 @@ fn byte_step(register: u16, byte: u8) -> u16
     ensures { result ≡ after 8 byte register }
 {
     let top = (register >> 8) as u8;
-    (register << 8) ^ turned_at_once(top ^ byte)
+    (register << 8) ^ slice_0(top ^ byte)
 }
 
 /// The register after these bytes of the message, a byte a step.
@@ -64,9 +61,8 @@ fn six_step(register: u16, a: u8, b: u8, c: u8, d: u8, e: u8, f: u8) -> u16
     let top = (register >> 8) as u8;
     let low = (register % 256) as u8;
     // what does not wait for the register comes first
-    let behind = turned_at_once(f)
-        ^ (turned_after_one(e) ^ (turned_after_two(d) ^ turned_after_three(c)));
-    behind ^ (turned_after_four(low ^ b) ^ turned_after_five(top ^ a))
+    let behind = slice_0(f) ^ (slice_1(e) ^ (slice_2(d) ^ slice_3(c)));
+    behind ^ (slice_4(low ^ b) ^ slice_5(top ^ a))
 }
 
 /// The check word of these bytes as it is sent: the remainder of the long division by

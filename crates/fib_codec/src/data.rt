@@ -28,7 +28,7 @@ impl Model for Data {
 }
 
 /// The FIB of these bytes, of which the last two become the check word of the others.
-fn sealed(mut bytes: [u8; 32]) -> [u8; 32]
+fn with_crc(mut bytes: [u8; 32]) -> [u8; 32]
     requires { length bytes ≡ 32 }
     ensures { result ≡ checked (take 30 bytes) }
 {
@@ -130,6 +130,6 @@ impl Data {
         ensures value { result ≡ checked (filled self) }
         ensures bound { length self ≤ 30 }
     {
-        sealed(self.bytes)
+        with_crc(self.bytes)
     }
 }

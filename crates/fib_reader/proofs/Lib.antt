@@ -9,6 +9,6 @@ pub mod Keeping
 pub mod Forecast
 pub mod Order
 pub mod Components
-pub mod SaidMembers
+pub mod FromEntries
 pub mod Shown
 pub mod Vectors

@@ -9,7 +9,7 @@ use Rattle.fib_codec.specs.Spelling.{SpellingTells}
 use Rattle.fib_reader.specs.Raw.{Raw, raw_entry}
 use Rattle.fib_reader.specs.Listening.{Pictured, identifier_of}
 use Rattle.fib_reader.specs.Picture.{IsPictured, IsSubOf, Shows}
-use Rattle.fib_reader.proofs.SaidMembers.{sub_within, service_within, packet_within, sub_identified, service_identified, packet_identified}
+use Rattle.fib_reader.proofs.FromEntries.{sub_within, service_within, packet_within, sub_identified, service_identified, packet_identified}
 
 -- entries of one extension stand before those of others
 split_off :

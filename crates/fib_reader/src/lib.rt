@@ -5,15 +5,15 @@
 mod bytes;
 pub mod checking;
 pub mod entries;
+mod entry_table;
 pub mod fault;
 pub mod figs;
-mod kept;
+mod from_entry;
 pub mod laws;
 pub mod listener;
 mod members;
+mod owned_entry;
 pub mod picture;
-mod said;
-mod shelf;
 
 pub use checking::check;
 pub use entries::{Entries, RawEntry};

@@ -5,12 +5,12 @@ ghost use Rattle.mux_config.specs.Configuration.{Each, IsAscending};
 ghost use Rattle.fib_reader.specs.Raw.{raw_entry};
 ghost use Rattle.fib_reader.specs.Listening.{identifier_of};
 
-use crate::kept::Kept;
-use crate::said::{packet_said, service_said, sub_said};
+use crate::from_entry::{packet_from_entry, service_from_entry, sub_from_entry};
+use crate::owned_entry::OwnedEntry;
 use mux_config::{Entry, Keyed, Packet, Service, SortedTable, Sub};
 
 /// A member of a configuration that an entry can say: a sub-channel, a service or a packet component.
-pub(crate) trait Said: Keyed {
+pub(crate) trait FromEntry: Keyed {
     ghost use Rattle.std.specs.Prelude.{◌≡◌, IfSome, IfNone};
     ghost use Rattle.mux_config.specs.declared.entry.Entry.{Entry};
     ghost use Rattle.fib_codec.specs.Ranges.{IsWithin};
@@ -24,7 +24,7 @@ pub(crate) trait Said: Keyed {
     ghost is_member: { Self → Type 0 };
 
     /// The member that an entry says; None where it says none.
-    fn said(entry: &Entry) -> Option<Self>
+    fn from_entry(entry: &Entry) -> Option<Self>
         requires { IsWithin entry.now }
         ensures member { IfSome result is_member }
         ensures value { IfSome result (λ x. entry_of x ≡ entry.now) }
@@ -38,7 +38,7 @@ pub(crate) trait Said: Keyed {
             → identifier_of (raw_entry (entry_of x)) ≡ Self.key x };
 }
 
-impl Said for Sub {
+impl FromEntry for Sub {
     ghost use Rattle.mux_config.specs.Configuration.{IsPlaced};
     ghost use Rattle.mux_config.specs.Facts.{sub_entry};
 
@@ -46,9 +46,9 @@ impl Said for Sub {
 
     ghost is_member = { IsPlaced };
 
-    fn said(entry: &Entry) -> Option<Sub> {
+    fn from_entry(entry: &Entry) -> Option<Sub> {
         match entry {
-            Entry::Sub(entry) => sub_said(entry),
+            Entry::Sub(entry) => sub_from_entry(entry),
             _ => None,
         }
     }
@@ -56,7 +56,7 @@ impl Said for Sub {
     fn laws() {}
 }
 
-impl Said for Service {
+impl FromEntry for Service {
     ghost use Rattle.mux_config.specs.Configuration.{IsService};
     ghost use Rattle.mux_config.specs.Facts.{service_entry};
 
@@ -64,9 +64,9 @@ impl Said for Service {
 
     ghost is_member = { IsService };
 
-    fn said(entry: &Entry) -> Option<Service> {
+    fn from_entry(entry: &Entry) -> Option<Service> {
         match entry {
-            Entry::Service(entry) => service_said(entry),
+            Entry::Service(entry) => service_from_entry(entry),
             _ => None,
         }
     }
@@ -74,7 +74,7 @@ impl Said for Service {
     fn laws() {}
 }
 
-impl Said for Packet {
+impl FromEntry for Packet {
     ghost use Rattle.mux_config.specs.Configuration.{IsAddressed};
     ghost use Rattle.mux_config.specs.Facts.{packet_entry};
 
@@ -82,9 +82,9 @@ impl Said for Packet {
 
     ghost is_member = { IsAddressed };
 
-    fn said(entry: &Entry) -> Option<Packet> {
+    fn from_entry(entry: &Entry) -> Option<Packet> {
         match entry {
-            Entry::Packet(entry) => packet_said(entry),
+            Entry::Packet(entry) => packet_from_entry(entry),
             _ => None,
         }
     }
@@ -93,7 +93,7 @@ impl Said for Packet {
 }
 
 /// The set of members that entries say, which stand in ascending order; None where one of them says none.
-pub(crate) fn members<T: Said>(kept: &[Kept]) -> Option<SortedTable<T, 64>>
+pub(crate) fn members<T: FromEntry>(kept: &[OwnedEntry]) -> Option<SortedTable<T, 64>>
     requires ascending { IsAscending identifier_of kept.now }
     requires few { length kept.now ≤ 64 }
     ensures said { IfSome result (λ xs. map (λ x. raw_entry (T.entry_of x)) xs ≡ kept.now) }
@@ -105,7 +105,7 @@ pub(crate) fn members<T: Said>(kept: &[Kept]) -> Option<SortedTable<T, 64>>
     T::laws();
     let mut table = SortedTable::new();
     for entry in kept {
-        let Some(member) = T::said(&entry.lent().value()) else {
+        let Some(member) = T::from_entry(&entry.lent().value()) else {
             return None;
         };
         table.append(member);

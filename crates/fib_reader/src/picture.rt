@@ -5,9 +5,9 @@ ghost use Rattle.mux_config.specs.Configuration.{IsAscending};
 ghost use Rattle.fib_reader.specs.Listening.{has_room, kept, identifier_of};
 
 use crate::entries::RawEntry;
-use crate::kept::Kept;
+use crate::entry_table::EntryTable;
 use crate::members::members;
-use crate::shelf::Shelf;
+use crate::owned_entry::OwnedEntry;
 use mux_config::{Config, Packet, Service, Sub};
 use std::marker::Model;
 
@@ -15,9 +15,9 @@ use std::marker::Model;
 /// their identifiers. Contracts see it as three lists of entries as they were sent, each in ascending order.
 #[derive(Drop)]
 pub struct Picture {
-    subs: Shelf,
-    services: Shelf,
-    packets: Shelf,
+    subs: EntryTable,
+    services: EntryTable,
+    packets: EntryTable,
 }
 
 impl Model for Picture {
@@ -44,9 +44,9 @@ impl Picture {
         ensures { result ≡ blank }
     {
         Picture {
-            subs: Shelf::new(),
-            services: Shelf::new(),
-            packets: Shelf::new(),
+            subs: EntryTable::new(),
+            services: EntryTable::new(),
+            packets: EntryTable::new(),
         }
     }
 
@@ -145,9 +145,9 @@ impl Picture {
 /// The entries of a picture in order.
 #[derive(Drop)]
 pub struct PictureEntries<'a> {
-    subs: &'a [Kept],
-    services: &'a [Kept],
-    packets: &'a [Kept],
+    subs: &'a [OwnedEntry],
+    services: &'a [OwnedEntry],
+    packets: &'a [OwnedEntry],
 }
 
 impl<'a> Model for PictureEntries<'a> {

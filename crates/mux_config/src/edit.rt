@@ -9,11 +9,11 @@ use std::marker::Model;
 /// A start address as FIG 0/1 can carry it, in capacity units: 10 bits, 0 to 1023 (EN 300 401 clause
 /// 6.2.1).
 #[derive(Clone, Copy, Debug, PartialEq, Eq, PartialOrd, Ord)]
-pub struct Start {
+pub struct StartAddress {
     address: u16,
 }
 
-impl Model for Start {
+impl Model for StartAddress {
     ghost use Rattle.std.specs.Prelude.{ℕ, ◌<◌};
 
     ghost Value = { ℕ };
@@ -25,14 +25,14 @@ impl Model for Start {
     ghost inverse = { λ n. record { address = n } };
 }
 
-impl Start {
+impl StartAddress {
     /// The start address of this number; None where it is above 1023.
-    pub fn new(address: u16) -> Option<Start>
+    pub fn new(address: u16) -> Option<StartAddress>
         ensures in_range { IsSome result ↔ (address < 1024) }
         ensures value { IfSome result (λ s. s ≡ address) }
     {
         if address < 1024 {
-            Some(Start { address })
+            Some(StartAddress { address })
         } else {
             None
         }
@@ -81,7 +81,7 @@ impl NewSub {
     }
 
     /// The sub-channel of these fields, to be added.
-    pub fn from_parts(id: SubId, start: Start, protection: Protection, kbits: u16) -> NewSub
+    pub fn from_parts(id: SubId, start: StartAddress, protection: Protection, kbits: u16) -> NewSub
         ensures { result
             ≡ record { id = id; start = start; protection = protection; kbits = kbits } }
     {
@@ -112,7 +112,7 @@ pub enum Edit {
     /// Takes a sub-channel away.
     DropSub(SubId),
     /// Gives a sub-channel another start address.
-    MoveSub { id: SubId, start: Start },
+    MoveSub { id: SubId, start: StartAddress },
     /// Gives a sub-channel another bit rate, in kbit/s; its protection profile stays.
     RateSub { id: SubId, kbits: u16 },
     /// Adds a service without components.

@@ -18,12 +18,12 @@ mod overlap;
 pub mod reconfiguration;
 pub mod record_reader;
 pub mod record_writer;
-pub mod sound;
+pub mod soundness_test;
 pub mod store;
 
 pub use byte_fields::{Reader, RecordFault};
 pub use config::Config;
-pub use edit::{Edit, NewSub, Start};
+pub use edit::{Edit, NewSub, StartAddress};
 pub use entry::{ComponentEntry, Ensemble, Entry, PacketEntry, ServiceEntry, ShortEntry, SubEntry};
 pub use fault::{ConfigFault, EditFault};
 pub use flags::Change;
@@ -34,5 +34,5 @@ pub use mux_types::{
 pub use reconfiguration::change;
 pub use record_reader::read_config;
 pub use record_writer::write_config;
-pub use sound::soundness;
+pub use soundness_test::soundness;
 pub use store::Store;

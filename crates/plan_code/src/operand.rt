@@ -6,7 +6,7 @@ ghost use Rattle.plan_code.specs.Parts.{contact_at, counter_at, start_at, times_
 
 use crate::numbers::{ContactId, CounterId, DayFrame, Delay, Frames, Times};
 use byte_fields::{Reader, RecordFault};
-use mux_config::{Carrier, NewSub, Packet, Start, SubId};
+use mux_config::{Carrier, NewSub, Packet, StartAddress, SubId};
 
 /// Reads the number of a contact.
 pub(crate) fn contact(reader: &mut Reader) -> Result<ContactId, RecordFault>
@@ -29,13 +29,13 @@ pub(crate) fn counter(reader: &mut Reader) -> Result<CounterId, RecordFault>
 }
 
 /// Reads a start address.
-pub(crate) fn start(reader: &mut Reader) -> Result<Start, RecordFault>
+pub(crate) fn start(reader: &mut Reader) -> Result<StartAddress, RecordFault>
     ensures read { Takes (start_at reader.old.total reader.old.rest) result reader.new }
     ensures total { reader.new.total ≡ reader.old.total }
 {
     let place = reader.place();
     let number = reader.word()?;
-    Start::new(number).ok_or(RecordFault::Field(place))
+    StartAddress::new(number).ok_or(RecordFault::Field(place))
 }
 
 /// Reads a number of frames to wait.

@@ -9,7 +9,7 @@ use Rattle.fib_codec.specs.Spelling.{ext_of}
 use Rattle.fib_reader.specs.Raw.{Raw, raw_entry}
 use Rattle.fib_reader.specs.Listening.{Pictured, blank, identifier_of, kept, has_room, pictured}
 use Rattle.fib_reader.specs.Picture.{Shows}
-use Rattle.fib_reader.proofs.SaidMembers.{sub_identified, service_identified, packet_identified}
+use Rattle.fib_reader.proofs.FromEntries.{sub_identified, service_identified, packet_identified}
 use Rattle.fib_reader.proofs.Shown.{each_shows}
 use Rattle.plan_listeners.proofs.Parts.{In, each_in, IsPart, Also, part_takes, part_weaker, part_empty, part_whole}
 

@@ -19,7 +19,7 @@ use crate::keyword::Keyword;
 use crate::number;
 use crate::reader::Reader;
 use crate::time::TimeOfDay;
-use mux_config::{ScId, ScTy, Sid, Start, SubId};
+use mux_config::{ScId, ScTy, Sid, StartAddress, SubId};
 use mux_eep::Protection;
 use plan_code::{ContactId, Delay, Frames, Times};
 
@@ -104,7 +104,7 @@ pub fn sc_ty(reader: &mut Reader) -> Result<ScTy, ScriptFault>
 }
 
 /// A start address, 0 to 1023.
-pub fn start(reader: &mut Reader) -> Result<Start, ScriptFault>
+pub fn start(reader: &mut Reader) -> Result<StartAddress, ScriptFault>
     ensures spells { IfOk result (λ n. Passes (decimal n ∷ []) reader.old reader.new) }
     ensures none { OnErr result ((n : ℕ) (rest : List (List ℕ)) → n < 1024
         → reader.old.words ≢ decimal n ∷ rest) }
@@ -112,7 +112,7 @@ pub fn start(reader: &mut Reader) -> Result<Start, ScriptFault>
     ensures shorter { OnOk result (length reader.new.words < length reader.old.words) }
 {
     let value = decimal(reader, 0, 1023)?;
-    match Start::new(value as u16) {
+    match StartAddress::new(value as u16) {
         Some(start) => Ok(start),
         None => Err(reader.no_number()),
     }

@@ -2,7 +2,7 @@
 
 ghost use Rattle.std.specs.Prelude.{◌≡◌, ◌↔◌, true, IsOk};
 
-use crate::{Carrier, Component, Edit, NewSub, Packet, ScId, ScTy, Sid, Start, Sub, SubId};
+use crate::{Carrier, Component, Edit, NewSub, Packet, ScId, ScTy, Sid, StartAddress, Sub, SubId};
 use mux_eep::{EepSet, Protection};
 use std::fmt::Display;
 use std::test::Fail;
@@ -69,7 +69,7 @@ pub fn add_sub(sub: Sub) -> Edit {
 }
 
 pub fn move_sub(id: u8, start: u16) -> Edit {
-    match Start::new(start) {
+    match StartAddress::new(start) {
         Some(start) => Edit::MoveSub {
             id: sub_id(id),
             start,

@@ -3,7 +3,7 @@
 ghost use Rattle.std.specs.Prelude.{◌<◌};
 
 use super::parts::{packet, sc_id, sound, sub, sub_id};
-use mux_config::{Carrier, Config, Edit, NewSub, Sid, Start, Store, soundness};
+use mux_config::{Carrier, Config, Edit, NewSub, Sid, StartAddress, Store, soundness};
 use mux_tables::Tables;
 use std::process::Abort;
 use std::test::Fail;
@@ -34,7 +34,7 @@ fn edits_both(rt: &impl Abort, tables: &mut Tables, config: &mut Config, edit: E
 }
 
 fn move_sub(id: u8, start: u16) -> Edit {
-    match Start::new(start) {
+    match StartAddress::new(start) {
         Some(start) => Edit::MoveSub {
             id: sub_id(id),
             start,

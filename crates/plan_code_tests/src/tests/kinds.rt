@@ -1,7 +1,9 @@
 //! Each kind of instruction, made, written and read, with its operands at their least and greatest values.
 
 use super::SHORT_FILE;
-use mux_config::{Carrier, Component, Config, Edit, NewSub, Packet, ScId, ScTy, Sid, Start, SubId};
+use mux_config::{
+    Carrier, Component, Config, Edit, NewSub, Packet, ScId, ScTy, Sid, StartAddress, SubId,
+};
 use mux_eep::{EepSet, Protection};
 use plan_code::{
     Code, ContactId, CounterId, Counters, DayFrame, Delay, Frames, Instr, Label, Line, Mode, Plan,
@@ -129,7 +131,7 @@ fn timing(given: &Operands) -> Option<[Instr; 8]> {
 /// The four edits of sub-channels.
 fn subs(given: &Operands, protection: Protection) -> Option<[Instr; 4]> {
     let id = SubId::new(given.id)?;
-    let start = Start::new(given.start)?;
+    let start = StartAddress::new(given.start)?;
     let sub = NewSub::from_parts(id, start, protection, given.word);
     Some([
         Instr::Edit(Edit::AddSub(sub)),

@@ -1,6 +1,6 @@
 //! Code files, and what is played of them.
 
-use mux_config::{Component, Config, Edit, NewSub, ScTy, Sid, Start as Place, Store, SubId};
+use mux_config::{Component, Config, Edit, NewSub, ScTy, Sid, StartAddress, Store, SubId};
 use mux_eep::{EepSet, Protection};
 use plan_code::{
     Code, ContactId, Contacts, Counters, Delay, Instr, Label, Line, Mode, Plan, Swap, encode,
@@ -59,7 +59,7 @@ pub fn ended(alloc: Global, plan: Plan) -> Result<Vec<u8>, Fail> {
 /// Adds a sub-channel of 128 kbit/s of equal error protection 3-A.
 fn add_sub() -> Result<Edit, Fail> {
     let sub = SubId::new(1).ok_or("a sub-channel")?;
-    let start = Place::new(0).ok_or("a start")?;
+    let start = StartAddress::new(0).ok_or("a start")?;
     let protection = Protection::new(EepSet::A, 3).ok_or("a protection")?;
     Ok(Edit::AddSub(NewSub::from_parts(sub, start, protection, 128)))
 }

@@ -1,6 +1,6 @@
 //! Edits and instructions for tests, by their numbers. Where a number is out of its range, the part is another.
 
-use mux_config::{Component, Edit, NewSub, ScTy, Sid, Start, SubId};
+use mux_config::{Component, Edit, NewSub, ScTy, Sid, StartAddress, SubId};
 use mux_eep::{EepSet, Protection};
 use plan_code::{ContactId, CounterId, DayFrame, Delay, Frames, Instr, Times};
 
@@ -14,7 +14,7 @@ fn sub_id(id: u8) -> SubId {
 /// Adds a sub-channel of equal error protection in set A.
 pub fn add_sub(id: u8, start: u16, level: u8, kbits: u16) -> Edit {
     let protection = Protection::new(EepSet::A, level).unwrap_or_default();
-    match Start::new(start) {
+    match StartAddress::new(start) {
         Some(start) => Edit::AddSub(NewSub::from_parts(sub_id(id), start, protection, kbits)),
         None => drop_sub(id),
     }

@@ -1,7 +1,7 @@
 //! Edits and instructions for tests, by their numbers. Where a number is out of its range, the part is another.
 
 use mux_config::{
-    Carrier, Component, ConfigFault, Edit, NewSub, Packet, ScId, ScTy, Sid, Start, SubId,
+    Carrier, Component, ConfigFault, Edit, NewSub, Packet, ScId, ScTy, Sid, StartAddress, SubId,
 };
 use mux_eep::{EepSet, Protection};
 use plan_code::{ContactId, CounterId, DayFrame, Delay, Frames, Instr, Times};
@@ -20,7 +20,7 @@ pub fn sc_id(id: u16) -> ScId {
 /// Adds a sub-channel of equal error protection in set A.
 pub fn add_sub(id: u8, start: u16, level: u8, kbits: u16) -> Edit {
     let protection = Protection::new(EepSet::A, level).unwrap_or_default();
-    match Start::new(start) {
+    match StartAddress::new(start) {
         Some(start) => Edit::AddSub(NewSub::from_parts(sub_id(id), start, protection, kbits)),
         None => drop_sub(id),
     }
@@ -45,7 +45,7 @@ pub fn drop_sub(id: u8) -> Edit {
 }
 
 pub fn move_sub(id: u8, start: u16) -> Edit {
-    match Start::new(start) {
+    match StartAddress::new(start) {
         Some(start) => Edit::MoveSub {
             id: sub_id(id),
             start,

@@ -103,7 +103,7 @@ const ACTS: [(&str, &str); 15] = [
     ),
     (
         "begin move sub 5 at 6",
-        "2 Edit(MoveSub { id: SubId { id: 5 }, start: Start { address: 6 } })",
+        "2 Edit(MoveSub { id: SubId { id: 5 }, start: StartAddress { address: 6 } })",
     ),
     (
         "begin rate sub 7 8",

@@ -5,4 +5,4 @@ use Rattle.fib_codec.proofs.crc.byte_step.Goals as goal
 
 pub returns : goal.returns
 returns c =
-    ap (bit_xor (c.args.register * 256 % 65536)) c.turned_at_once.ensures ∙ sym (one_byte c.args.register c.args.byte)
+    ap (bit_xor (c.args.register * 256 % 65536)) c.slice_0.ensures ∙ sym (one_byte c.args.register c.args.byte)

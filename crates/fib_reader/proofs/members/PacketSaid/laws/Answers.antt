@@ -1,8 +1,0 @@
-use Rattle.fib_reader.proofs.SaidMembers.{packet_within, packet_identified}
-use Rattle.fib_reader.proofs.members.PacketSaid.laws.Goals as goal
-
-pub returns-clause-within : goal.returns-clause-within
-returns-clause-within c = packet_within
-
-pub returns-clause-identified : goal.returns-clause-identified
-returns-clause-identified c = packet_identified

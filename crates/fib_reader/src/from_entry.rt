@@ -1,0 +1,154 @@
+//! What entries say of a configuration: its sub-channels, services and packet components.
+
+ghost use Rattle.std.specs.Prelude.{◌≡◌, ◌≤◌, Bool, IfSome, IfNone, List, map, length};
+ghost use Rattle.mux_config.specs.Configuration.{Each, IsAscending, IsPlaced, IsService, IsAddressed, AreDifferent, IsComponent};
+ghost use Rattle.mux_config.specs.Facts.{sub_entry, service_entry, packet_entry, component_entry, component_entries};
+ghost use Rattle.fib_codec.specs.Ranges.{IsSubEntry, IsServiceEntry, IsPacketEntry, IsComponentEntry};
+ghost use Rattle.mux_types.specs.declared.parts.Sub.{Sub};
+ghost use Rattle.mux_types.specs.declared.parts.Service.{Service};
+ghost use Rattle.mux_types.specs.declared.parts.Packet.{Packet};
+ghost use Rattle.mux_types.specs.declared.parts.Component.{Component};
+ghost use Rattle.mux_config.specs.declared.entry.Entry.TheVariants.{Sub as SubOf, Service as ServiceOf, Packet as PacketOf};
+
+use mux_config::{
+    BoundedVec, Component, ComponentEntry, Entry, Packet, PacketEntry, Service, ServiceEntry, Sub,
+    SubEntry,
+};
+use mux_eep::{EepSet, Protection, rate_of};
+
+/// The sub-channel of a profile that the long form says; None where no profile and rate has this option and
+/// size, and where it would end past the last capacity unit.
+pub(crate) fn sub_from_entry(entry: &SubEntry) -> Option<Sub>
+    requires { IsSubEntry entry.now }
+    ensures member { IfSome result IsPlaced }
+    ensures value { IfSome result (λ s. sub_entry s ≡ SubOf entry.now) }
+    ensures none { IfNone result ((s : Sub) → IsPlaced s → sub_entry s ≡ SubOf entry.now → ⊥) }
+{
+    let set = match entry.option.get() {
+        0 => EepSet::A,
+        1 => EepSet::B,
+        _ => return None,
+    };
+    let protection = Protection::new(set, entry.level.get() as u8 + 1)?;
+    let kbits = rate_of(protection, entry.size.get())?;
+    if entry.start.get() + entry.size.get() > 864 {
+        return None;
+    }
+    Some(Sub {
+        id: entry.id,
+        start: entry.start.get(),
+        protection,
+        kbits,
+    })
+}
+
+/// The packet component that its entry says; None where its address is 0, or a field isn't sent as here.
+pub(crate) fn packet_from_entry(entry: &PacketEntry) -> Option<Packet>
+    requires { IsPacketEntry entry.now }
+    ensures member { IfSome result IsAddressed }
+    ensures value { IfSome result (λ p. packet_entry p ≡ PacketOf entry.now) }
+    ensures none { IfNone result ((p : Packet) → IsAddressed p
+        → packet_entry p ≡ PacketOf entry.now → ⊥) }
+{
+    if entry.rfa.get() > 0 {
+        return None;
+    }
+    if entry.rfu {
+        return None;
+    }
+    if entry.ca_org.is_some() {
+        return None;
+    }
+    if entry.address.get() == 0 {
+        return None;
+    }
+    Some(Packet {
+        scid: entry.scid,
+        dg: entry.dg,
+        ty: entry.ty,
+        sub: entry.sub,
+        address: entry.address.get(),
+    })
+}
+
+/// The component that its entry says, with this P/S flag; None where that is another one, the CA flag is set
+/// or the TMId is none of this profile.
+fn component_from_entry(primary: bool, entry: &ComponentEntry) -> Option<Component>
+    requires { IsComponentEntry entry.now }
+    ensures member { IfSome result IsComponent }
+    ensures value { IfSome result (λ c. component_entry primary c ≡ entry.now) }
+    ensures none { IfNone result ((c : Component) → component_entry primary c ≡ entry.now → ⊥) }
+{
+    let (component, first, ca) = match *entry {
+        ComponentEntry::Sound {
+            ty,
+            sub,
+            primary,
+            ca,
+        } => (Component::Sound { ty, sub }, primary, ca),
+        ComponentEntry::Stream {
+            ty,
+            sub,
+            primary,
+            ca,
+        } => (Component::Stream { ty, sub }, primary, ca),
+        ComponentEntry::Packet { scid, primary, ca } => (Component::Packet { scid }, primary, ca),
+        ComponentEntry::Other { bits: _ } => return None,
+    };
+    if ca {
+        return None;
+    }
+    if first != primary {
+        return None;
+    }
+    Some(component)
+}
+
+/// The components that their entries say; None where one says none, or one of a P/S flag that a component in
+/// its place doesn't have, or two have one carrier.
+fn components_from_entry(entries: &[ComponentEntry]) -> Option<BoundedVec<Component, 12>>
+    requires within { Each IsComponentEntry entries.now }
+    requires few { length entries.now ≤ 12 }
+    ensures members { IfSome result (Each IsComponent) }
+    ensures different { IfSome result AreDifferent }
+    ensures value { IfSome result (λ cs. component_entries cs ≡ entries.now) }
+    ensures none { IfNone result ((cs : List Component) → AreDifferent cs
+        → component_entries cs ≡ entries.now → ⊥) }
+{
+    let mut components = BoundedVec::new();
+    for place in 0..entries.len() {
+        let Some(component) = component_from_entry(place == 0, &entries[place]) else {
+            return None;
+        };
+        if component.carrier().is_named_by(components.as_slice()) {
+            return None;
+        }
+        components.push(component);
+    }
+    Some(components)
+}
+
+/// The service that its entry says; None where its components say none, or are too many, or a field isn't
+/// sent as here.
+pub(crate) fn service_from_entry(entry: &ServiceEntry) -> Option<Service>
+    requires { IsServiceEntry entry.now }
+    ensures member { IfSome result IsService }
+    ensures value { IfSome result (λ s. service_entry s ≡ ServiceOf entry.now) }
+    ensures none { IfNone result ((s : Service) → IsService s
+        → service_entry s ≡ ServiceOf entry.now → ⊥) }
+{
+    if entry.rfa {
+        return None;
+    }
+    if entry.ca_id.get() > 0 {
+        return None;
+    }
+    let service = Service::new(entry.sid);
+    if entry.components.len() > service.limit() {
+        return None;
+    }
+    Some(Service {
+        sid: entry.sid,
+        components: components_from_entry(entry.components.as_slice())?,
+    })
+}

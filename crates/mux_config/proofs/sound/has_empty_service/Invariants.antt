@@ -1,9 +1,0 @@
-use Rattle.std.proofs.Common.{◌≡◌, drop}
-use Rattle.std.specs.List.{list_any}
-use Rattle.mux_config.specs.Sound.{is_empty_service}
-use Rattle.mux_config.proofs.sound.has_empty_service.Given as goal
-
-abbrev pub invariant-loop-place : goal.invariant-loop-place
-invariant-loop-place g l =
-    let k = g.S.Store.content l.store in
-    list_any is_empty_service (drop l.place k.services) ≡ list_any is_empty_service k.services

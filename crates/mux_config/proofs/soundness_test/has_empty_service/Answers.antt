@@ -1,0 +1,16 @@
+use Rattle.std.proofs.Common.{◌∙◌, sym}
+use Rattle.std.specs.List.{list_any}
+use Rattle.mux_config.specs.Sound.{is_empty_service}
+use Rattle.std.proofs.lemmas.Bool.{eq-eqb, ne_eqb}
+use Rattle.mux_types.proofs.Walking.{any_more, any_found}
+use Rattle.mux_config.proofs.soundness_test.has_empty_service.Goals as goal
+
+pub returns-then-len-eq0 : goal.returns-then-len-eq0
+returns-then-len-eq0 g c =
+    let k = g.S.Store.content c.args.store.now in
+    any_found is_empty_service k.services c.loop-place.place c.service_at.result.now (list_any is_empty_service k.services) c.loop-place.invariant c.service_at.ensures.value (eq-eqb _ _ (sym c.len.ensures.value ∙ c.if-len-eq0.true))
+
+pub loop-place-preserved : goal.loop-place-preserved
+loop-place-preserved g c =
+    let k = g.S.Store.content c.args.store.now in
+    any_more is_empty_service k.services c.loop-place.place c.service_at.result.now (list_any is_empty_service k.services) c.loop-place.invariant c.service_at.ensures.value (ne_eqb _ _ (λ e. c.if-len-eq0.false (c.len.ensures.value ∙ e)))

@@ -1,0 +1,16 @@
+use Rattle.std.proofs.Common.{◌∙◌, sym}
+use Rattle.std.specs.List.{list_any}
+use Rattle.mux_config.specs.Sound.{is_missing}
+use Rattle.mux_types.specs.declared.parts.Carrier.TheVariants.{Sub as BySub}
+use Rattle.mux_types.proofs.Walking.{any_more, any_found}
+use Rattle.mux_config.proofs.soundness_test.has_orphan_packet.Goals as goal
+
+pub returns-then-is_missing : goal.returns-then-is_missing
+returns-then-is_missing g c =
+    let k = g.S.Store.content c.args.store.now in
+    any_found (λ p. is_missing k (BySub p.sub)) k.packets c.loop-place.place c.packet_at.result (list_any (λ p. is_missing k (BySub p.sub)) k.packets) c.loop-place.invariant c.packet_at.ensures.value (sym c.is_missing.ensures ∙ c.if-is_missing.true)
+
+pub loop-place-preserved : goal.loop-place-preserved
+loop-place-preserved g c =
+    let k = g.S.Store.content c.args.store.now in
+    any_more (λ p. is_missing k (BySub p.sub)) k.packets c.loop-place.place c.packet_at.result (list_any (λ p. is_missing k (BySub p.sub)) k.packets) c.loop-place.invariant c.packet_at.ensures.value (sym c.is_missing.ensures ∙ c.if-is_missing.false)

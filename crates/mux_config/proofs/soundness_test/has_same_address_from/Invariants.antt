@@ -1,0 +1,9 @@
+use Rattle.std.proofs.Common.{◌≡◌, drop}
+use Rattle.std.specs.List.{list_any}
+use Rattle.mux_config.specs.Sound.{has_same_address}
+use Rattle.mux_config.proofs.soundness_test.has_same_address_from.Given as goal
+
+abbrev pub invariant-loop-place : goal.invariant-loop-place
+invariant-loop-place g l =
+    let k = g.S.Store.content l.store in
+    list_any (has_same_address l.packet) (drop l.place k.packets) ≡ list_any (has_same_address l.packet) (drop l.from k.packets)
