@@ -10,11 +10,11 @@ use Rattle.plan_events.specs.declared.commands.Keyword.TheVariants.{Contact as C
 use Rattle.plan_events.specs.Commands.{IsCommand, command_words, HoldsCommands, HoldsOneListOfCommands}
 use Rattle.plan_events.specs.Events.{level_word, words_of}
 use Rattle.plan_events.specs.Words.{keyword_word}
-use Rattle.script_front.specs.declared.token.Inside.TheVariants.{Nothing}
-use Rattle.script_front.specs.declared.token.TheConstants.{NO_LIMITS}
-use Rattle.script_front.specs.declared.fault.ScriptFault.{ScriptFault}
-use Rattle.script_front.specs.Bytes.{first_place}
-use Rattle.script_front.specs.Lexing.{lexed}
+use Rattle.script_words.specs.declared.token.Inside.TheVariants.{Nothing}
+use Rattle.script_words.specs.declared.token.TheConstants.{NO_LIMITS}
+use Rattle.script_words.specs.declared.fault.ScriptFault.{ScriptFault}
+use Rattle.script_words.specs.Bytes.{first_place}
+use Rattle.script_words.specs.Lexing.{lexed}
 use Rattle.plan_events.proofs.Listed.{one_list}
 use Rattle.plan_events.proofs.Spelled.{head_told, level_told, same_tokens}
 

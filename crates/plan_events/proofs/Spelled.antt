@@ -6,13 +6,13 @@ use Rattle.plan_events.specs.declared.step.Step.{Step}
 use Rattle.plan_events.specs.declared.step.Step.TheVariants.{Contact, Frames}
 use Rattle.plan_events.specs.Events.{IsStep, step_words, level_word, first_word, words_of, Holds, HoldsOneList}
 use Rattle.plan_events.specs.Words.{AreSpans}
-use Rattle.script_front.specs.declared.token.Token.{Token}
-use Rattle.script_front.specs.declared.token.Inside.TheVariants.{Nothing}
-use Rattle.script_front.specs.declared.token.TheConstants.{NO_LIMITS}
-use Rattle.script_front.specs.declared.fault.ScriptFault.{ScriptFault}
-use Rattle.script_front.specs.Bytes.{first_place}
-use Rattle.script_front.specs.Lexing.{lexed, InOrder}
-use Rattle.script_front.proofs.Spans.{cut_in_order}
+use Rattle.script_words.specs.declared.token.Token.{Token}
+use Rattle.script_words.specs.declared.token.Inside.TheVariants.{Nothing}
+use Rattle.script_words.specs.declared.token.TheConstants.{NO_LIMITS}
+use Rattle.script_words.specs.declared.fault.ScriptFault.{ScriptFault}
+use Rattle.script_words.specs.Bytes.{first_place}
+use Rattle.script_words.specs.Lexing.{lexed, InOrder}
+use Rattle.script_words.proofs.Spans.{cut_in_order}
 use Rattle.plan_events.proofs.Listed.{one_list}
 
 pub level_told : (b c : Bool) → level_word b ≡ level_word c → b ≡ c

@@ -2,11 +2,11 @@
 use Rattle.std.specs.Prelude.{◌≡◌, ℕ, ◌<◌, ◌≤◌, Bool, true, false, List, [], ◌∷◌, map, flat_map, replicate, codes, slice_range, Ok}
 use Rattle.std.specs.Fmt.{decimal}
 use Rattle.mux_config.specs.Configuration.{Each}
-use Rattle.script_front.specs.declared.token.Token.{Token}
-use Rattle.script_front.specs.declared.token.Inside.TheVariants.{Nothing}
-use Rattle.script_front.specs.declared.token.TheConstants.{NO_LIMITS}
-use Rattle.script_front.specs.Bytes.{first_place}
-use Rattle.script_front.specs.Lexing.{lexed}
+use Rattle.script_words.specs.declared.token.Token.{Token}
+use Rattle.script_words.specs.declared.token.Inside.TheVariants.{Nothing}
+use Rattle.script_words.specs.declared.token.TheConstants.{NO_LIMITS}
+use Rattle.script_words.specs.Bytes.{first_place}
+use Rattle.script_words.specs.Lexing.{lexed}
 use Rattle.plan_runs.specs.declared.event.Event.{Event}
 use Rattle.plan_runs.specs.declared.event.Event.TheVariants.{Contact as ContactChanges, Frame}
 use Rattle.plan_events.specs.declared.step.Step.{Step}

@@ -14,8 +14,8 @@ use crate::fault::{EventFault, fault_of};
 use crate::reading::{level, number};
 use crate::words::Words;
 use plan_code::ContactId;
-use script_front::token::NO_LIMITS;
-use script_front::{Token, cut};
+use script_words::token::NO_LIMITS;
+use script_words::{Token, cut};
 use std::alloc::Global;
 
 /// The words that begin a command.

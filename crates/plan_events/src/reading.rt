@@ -12,9 +12,9 @@ use crate::fault::{EventFault, fault_of};
 use crate::step::Step;
 use crate::words::Words;
 use plan_code::ContactId;
-use script_front::number::decimal;
-use script_front::token::NO_LIMITS;
-use script_front::{Token, cut};
+use script_words::number::decimal;
+use script_words::token::NO_LIMITS;
+use script_words::{Token, cut};
 use std::alloc::Global;
 
 /// The fault of a wrong word where a number must stand: `Number` for an atom, `Expected` for a brace.

@@ -4,7 +4,7 @@ mod commands;
 
 use plan_code::ContactId;
 use plan_events::{EventFault, Step, read_events};
-use script_front::Position;
+use script_words::Position;
 use std::process::Abort;
 use std::test::Fail;
 

@@ -9,15 +9,15 @@ use Rattle.fib_codec.specs.declared.modes.Mode.TheVariants.{I, II, III, IV}
 use Rattle.script_front.specs.declared.tree.Header.{Header}
 use Rattle.script_front.specs.declared.tree.Item.{Item}
 use Rattle.script_front.specs.declared.tree.Statement.{Statement}
-use Rattle.script_front.specs.declared.keyword.Keyword.TheVariants as the
-use Rattle.script_front.specs.Words.{Word, the as grammar, letters}
-use Rattle.script_front.specs.Spelling.{hex_word}
+use Rattle.script_words.specs.declared.keyword.Keyword.TheVariants as the
+use Rattle.script_words.specs.Words.{Word, the as grammar, letters}
+use Rattle.script_words.specs.Spelling.{hex_word}
 use Rattle.script_front.specs.Block.{Block, nothing, basic, stop, when, either, repeat, forever, apply, block_of}
 use Rattle.script_front.specs.Tree.{IsHeader, IsItem, AreDifferent, Fits}
-use Rattle.script_front.specs.Spelled.{Spelled, name_at, act_words, braced, block_words, mode_words, header_words, items_words, defined_words, begin_words}
+use Rattle.script_front.specs.Spelled.{name_at, act_words, braced, block_words, mode_words, header_words, items_words, defined_words, begin_words}
 use Rattle.script_front.specs.Parsing.{Stops, BeginsNoItem, CanDefine}
 use Rattle.script_front.specs.Alike.{unlined, said_by, added_by, ScriptsHaveTheirOwnTokens}
-use Rattle.script_front.proofs.Keys.{word_the, first_is, rest_is}
+use Rattle.script_words.proofs.Keys.{word_the, first_is, rest_is}
 use Rattle.script_front.proofs.Finding.{number, number_decimal, four_of, four_again}
 use Rattle.script_front.proofs.Edits.{Same, both_same, number_at, key_at, same_edit, same_act}
 use Rattle.script_front.proofs.Refusing.{act_key, act_begins, mode_front}
@@ -25,6 +25,7 @@ use Rattle.script_front.proofs.ItemLists.{item_first, all_later, none_here}
 use Rattle.script_front.proofs.Definitions.{name_front}
 use Rattle.script_front.proofs.Blocks.{act_key_begins, key_is, all_read, after_act, after_stop, after_apply, in_braces, braced_then, after_forever, after_repeat, after_if, no_else}
 use Rattle.script_front.proofs.Undefined.{first_words, behind_first, append_none, after_items, items_end, can_define}
+use Rattle.script_words.specs.Reading.{Spelled}
 
 -- ---- the header
 

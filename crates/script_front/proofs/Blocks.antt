@@ -4,16 +4,17 @@ use Rattle.std.proofs.lemmas.Bool.{false≢true}
 use Rattle.std.specs.Fmt.{decimal}
 use Rattle.script_front.specs.declared.tree.Act.{Act}
 use Rattle.script_front.specs.declared.tree.Act.TheVariants.{Edit as Edits, Wait, WaitContact, Until, CommitIn, CommitAt, Join, Settle}
-use Rattle.script_front.specs.declared.keyword.Keyword.{Keyword}
-use Rattle.script_front.specs.declared.keyword.Keyword.TheVariants as the
-use Rattle.script_front.specs.Words.{letters}
+use Rattle.script_words.specs.declared.keyword.Keyword.{Keyword}
+use Rattle.script_words.specs.declared.keyword.Keyword.TheVariants as the
+use Rattle.script_words.specs.Words.{letters}
 use Rattle.script_front.specs.Block.{Block, nothing, basic, stop, when, either, repeat, forever, apply}
 use Rattle.script_front.specs.Alike.{unlined}
 use Rattle.script_front.specs.Tree.{IsAct, Fits, counted}
-use Rattle.script_front.specs.Spelled.{Spelled, name_at, act_words, braced, block_words}
+use Rattle.script_front.specs.Spelled.{name_at, act_words, braced, block_words}
 use Rattle.script_front.specs.Parsing.{Stops}
-use Rattle.script_front.proofs.Keys.{first_is, rest_is, same_key, letters_injective}
+use Rattle.script_words.proofs.Keys.{first_is, rest_is, same_key, letters_injective}
 use Rattle.script_front.proofs.Refusing.{act_key, act_begins, key_of_act, begins_edit, edit_key_begins}
+use Rattle.script_words.specs.Reading.{Spelled}
 
 -- ---- first words
 

@@ -9,11 +9,11 @@ use Rattle.script_front.specs.declared.tree.Header.{Header}
 use Rattle.script_front.specs.declared.tree.Item.{Item}
 use Rattle.script_front.specs.declared.tree.Statement.{Statement}
 use Rattle.script_front.specs.Block.{nothing, block_of, and_then}
-use Rattle.script_front.specs.Tree.{Tree, IsScript, IsHeader, IsItem, Fits, AllFit, IsName, counted, counted_in}
-use Rattle.script_front.specs.declared.keyword.Keyword.TheVariants as the
-use Rattle.script_front.specs.Words.{letters}
-use Rattle.script_front.specs.Reading.{Input, Passes, line_at, line_of}
-use Rattle.script_front.specs.Spelled.{Spelled, name_at, block_words, header_words, items_words, defined_words, begin_words, ItemsOn, BlockOn, DefinedOn}
+use Rattle.script_front.specs.Tree.{Tree, IsScript, IsHeader, IsItem, Fits, AllFit, counted, counted_in}
+use Rattle.script_words.specs.declared.keyword.Keyword.TheVariants as the
+use Rattle.script_words.specs.Words.{letters, IsName}
+use Rattle.script_words.specs.Reading.{Spelled, Input, Passes, line_at, line_of}
+use Rattle.script_front.specs.Spelled.{name_at, block_words, header_words, items_words, defined_words, begin_words, ItemsOn, BlockOn, DefinedOn}
 use Rattle.script_front.specs.Parsing.{IsRead, IsDefined, AreDefined, AreItems, IsSpelled, bodies}
 use Rattle.script_front.proofs.Undefined.{one_defined}
 use Rattle.script_front.proofs.Definitions.{name_front, name_last, words_agree, on_agree, defined_agree, defined_on_agree, definition_words, one_definition, defined_more, defined_on_more}

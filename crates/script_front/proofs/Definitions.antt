@@ -1,13 +1,13 @@
 -- What is spelled where some names are known is spelled so where more are.
 use Rattle.std.proofs.Common.{◌≡◌, ℕ, zero, suc, ◌+◌, ◌-◌, ◌<◌, ◌≤◌, List, [], ◌∷◌, ◌++◌, length, refl, sym, ap, ◌∙◌, subst, append_assoc, arith}
 use Rattle.script_front.specs.declared.tree.Statement.{Statement}
-use Rattle.script_front.specs.declared.keyword.Keyword.TheVariants as the
+use Rattle.script_words.specs.declared.keyword.Keyword.TheVariants as the
 use Rattle.std.specs.Fmt.{decimal}
-use Rattle.script_front.specs.Words.{letters}
-use Rattle.script_front.specs.Reading.{line_of}
+use Rattle.script_words.specs.Words.{letters}
+use Rattle.script_words.specs.Reading.{Spelled, line_of}
 use Rattle.script_front.specs.Block.{Block, nothing, basic, stop, when, either, repeat, forever, apply, block_of}
 use Rattle.script_front.specs.Tree.{Fits, AllFit}
-use Rattle.script_front.specs.Spelled.{Spelled, name_at, act_words, braced, block_words, defined_words, BlockOn, DefinedOn}
+use Rattle.script_front.specs.Spelled.{name_at, act_words, braced, block_words, defined_words, BlockOn, DefinedOn}
 
 -- two lists of names agree on the first ones
 abbrev pub Agree : ℕ → (names more : List (List ℕ)) → Type 0

@@ -18,14 +18,16 @@ use Rattle.script_front.specs.declared.tree.Act.TheVariants.{Edit as Edits, Wait
 use Rattle.script_front.specs.declared.tree.Header.{Header}
 use Rattle.script_front.specs.declared.tree.Item.{Item}
 use Rattle.script_front.specs.declared.tree.Statement.{Statement}
-use Rattle.script_front.specs.declared.keyword.Keyword.TheVariants as the
-use Rattle.script_front.specs.Words.{letters}
+use Rattle.script_words.specs.declared.keyword.Keyword.TheVariants as the
+use Rattle.script_words.specs.Words.{letters, IsName}
 use Rattle.script_front.specs.Block.{Block, nothing, basic, stop, when, either, repeat, forever, apply, block_of}
-use Rattle.script_front.specs.Tree.{Tree, IsHeader, IsAct, IsItem, IsName, IsScript, Fits, AllFit}
-use Rattle.script_front.specs.Spelled.{Spelled, carrier_words, in_words, groups_word, edit_words, level_word, act_words, name_at, block_words, mode_words, header_words, items_words, defined_words, tree_words}
+use Rattle.script_front.specs.Tree.{Tree, IsHeader, IsAct, IsItem, IsScript, Fits, AllFit}
+use Rattle.script_front.specs.Spelled.{carrier_words, in_words, groups_word, edit_words, level_word, act_words, name_at, block_words, mode_words, header_words, items_words, defined_words, tree_words}
 use Rattle.script_front.specs.Printing.{Line, line, text_of_lines, closing, block_lines, header_lines, items_lines, defined_lines, tree_lines}
 use Rattle.script_front.specs.Denoting.{HasWords, Denotes}
-use Rattle.script_front.proofs.Wording.{IsWord, AreWords, IsLine, AreLines, all_words, lines_have, decimal_word, hex_word_word, sid_word_word, profile_word_word, time_word_word, keyword_word, name_word}
+use Rattle.script_front.proofs.Lined.{IsLine, AreLines, all_words, lines_have}
+use Rattle.script_words.proofs.Wording.{IsWord, AreWords, decimal_word, hex_word_word, sid_word_word, profile_word_word, time_word_word, keyword_word, name_word}
+use Rattle.script_words.specs.Reading.{Spelled}
 
 -- ---- edits and acts
 

@@ -1,21 +1,21 @@
 -- The words of a text's tokens are those among its pieces.
 use Rattle.std.proofs.Common.{◌≡◌, ℕ, ◌+◌, ◌-◌, List, [], ◌∷◌, ◌++◌, length, length-append, slice_range, refl, sym, ap, ◌∙◌, subst, append_assoc, arith}
 use Rattle.std.proofs.Math.Seq.{drop-append_seam, take-append_seam}
-use Rattle.script_front.specs.declared.token.Token.{Token}
-use Rattle.script_front.specs.declared.token.Kind.{Kind}
-use Rattle.script_front.specs.declared.token.Kind.TheVariants.{Blank, LineEnd, Hash, Brace, Letter, Bad}
-use Rattle.script_front.specs.declared.token.Place.{Place}
-use Rattle.script_front.specs.Bytes.{kind_of, place_after, past, first_place}
-use Rattle.script_front.specs.Texts.{Piece, blank, comment, brace, atom, text_of, tokens_of, AreTokens, TokensFit, script_limits}
-use Rattle.script_front.specs.Reading.{words_of, lines_of}
+use Rattle.script_words.specs.declared.token.Token.{Token}
+use Rattle.script_words.specs.declared.token.Kind.{Kind}
+use Rattle.script_words.specs.declared.token.Kind.TheVariants.{Blank, LineEnd, Hash, Brace, Letter, Bad}
+use Rattle.script_words.specs.declared.token.Place.{Place}
+use Rattle.script_words.specs.Bytes.{kind_of, place_after, past, first_place}
+use Rattle.script_words.specs.Texts.{Piece, blank, comment, brace, atom, text_of, tokens_of, AreTokens, TokensFit, script_limits}
+use Rattle.script_words.specs.Reading.{words_of, lines_of}
 use Rattle.script_front.specs.Tree.{Tree}
 use Rattle.script_front.specs.Spelled.{tree_words, HasLines}
 use Rattle.script_front.specs.Denoting.{words_in, IsScriptOf}
 use Rattle.std.specs.Prelude.{Result, Ok}
-use Rattle.script_front.specs.declared.fault.ScriptFault.{ScriptFault}
-use Rattle.script_front.specs.declared.token.Inside.TheVariants.{Nothing}
-use Rattle.script_front.specs.Lexing.{lexed}
-use Rattle.script_front.proofs.Pieces.{texts_are_cut}
+use Rattle.script_words.specs.declared.fault.ScriptFault.{ScriptFault}
+use Rattle.script_words.specs.declared.token.Inside.TheVariants.{Nothing}
+use Rattle.script_words.specs.Lexing.{lexed}
+use Rattle.script_words.proofs.Pieces.{texts_are_cut}
 
 after_byte : (p : Place) (k : Kind) → (place_after p k).at ≡ p.at + 1
 after_byte p LineEnd = refl

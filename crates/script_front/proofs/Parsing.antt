@@ -2,16 +2,16 @@
 use Rattle.std.proofs.Common.{◌≡◌, ◌≢◌, inl, inr, length, drop, ℕ, ◌+◌, ◌-◌, ◌<◌, ◌≤◌, List, [], ◌∷◌, ◌++◌, refl, sym, ap, ◌∙◌, subst, append_assoc, arith}
 use Rattle.script_front.specs.declared.tree.Act.{Act}
 use Rattle.script_front.specs.declared.tree.Statement.{Statement}
-use Rattle.script_front.specs.declared.keyword.Keyword.{Keyword}
-use Rattle.script_front.specs.declared.keyword.Keyword.TheVariants as the
+use Rattle.script_words.specs.declared.keyword.Keyword.{Keyword}
+use Rattle.script_words.specs.declared.keyword.Keyword.TheVariants as the
 use Rattle.std.specs.Fmt.{decimal}
-use Rattle.script_front.specs.Words.{letters}
-use Rattle.script_front.specs.Reading.{Input, Passes, behind, line_of}
+use Rattle.script_words.specs.Words.{letters}
+use Rattle.script_words.specs.Reading.{Spelled, Input, Passes, behind, line_of}
 use Rattle.script_front.specs.Block.{Block, Before, nothing, basic, stop, when, either, repeat, forever, apply, before, and_then, block_of}
-use Rattle.script_front.specs.Spelled.{Spelled, name_at, act_words, braced, block_words, BlockOn}
+use Rattle.script_front.specs.Spelled.{name_at, act_words, braced, block_words, BlockOn}
 use Rattle.script_front.specs.Tree.{IsAct, counted}
 use Rattle.script_front.specs.Parsing.{IsRead, IsBody, IsApplied}
-use Rattle.script_front.proofs.Keys.{rest_is}
+use Rattle.script_words.proofs.Keys.{rest_is}
 use Rattle.script_front.proofs.Edits.{same_act}
 use Rattle.script_front.proofs.Refusing.{act_key, act_begins}
 use Rattle.script_front.proofs.Blocks.{key_is, act_key_begins, after_act, after_stop, after_apply, after_forever, after_repeat, after_if, no_else, all_read}

@@ -4,14 +4,14 @@ use Rattle.std.specs.Prelude.{true, Vec}
 use Rattle.std.specs.Global.{Global}
 use Rattle.std.specs.List.{All}
 use Rattle.script_front.specs.declared.tree.Statement.{Statement}
-use Rattle.script_front.specs.declared.keyword.Keyword.TheVariants as the
-use Rattle.script_front.specs.Words.{letters, begins_item}
-use Rattle.script_front.specs.Reading.{Input, Passes, BeginsWith}
+use Rattle.script_words.specs.declared.keyword.Keyword.TheVariants as the
+use Rattle.script_words.specs.Words.{letters, begins_item, IsName}
+use Rattle.script_words.specs.Reading.{Spelled, Input, Passes, BeginsWith}
 use Rattle.script_front.specs.Block.{Block, Before, block_of}
-use Rattle.script_front.specs.Tree.{Tree, IsScript, IsName, AreDifferent, Fits, AllFit, counted_in}
-use Rattle.script_front.specs.Spelled.{Spelled, name_at, block_words, braced, defined_words, begin_words}
+use Rattle.script_front.specs.Tree.{Tree, IsScript, AreDifferent, Fits, AllFit, counted_in}
+use Rattle.script_front.specs.Spelled.{name_at, block_words, braced, defined_words, begin_words}
 use Rattle.script_front.specs.Parsing.{Stops, CanBe, CanDefine, IsBody, IsRead, AreDefined, NoBody, NoDefinitions, NoNewName, BeginsNoItem}
-use Rattle.script_front.proofs.Keys.{first_is, rest_is, same_key}
+use Rattle.script_words.proofs.Keys.{first_is, rest_is, same_key}
 use Rattle.script_front.proofs.Definitions.{name_front, words_agree}
 use Rattle.script_front.proofs.Blocks.{all_read}
 use Rattle.script_front.proofs.Unread.{slice_at}

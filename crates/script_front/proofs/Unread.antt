@@ -2,17 +2,17 @@
 use Rattle.std.proofs.Common.{◌≡◌, ◌≢◌, inl, inr, ℕ, suc, zero, ◌+◌, ◌-◌, ◌<◌, ◌≤◌, true, false, List, [], ◌∷◌, ◌++◌, length, slice_get, Some, refl, sym, ap, ◌∙◌, subst, append_assoc, arith}
 use Rattle.std.specs.Prelude.{Result, Ok, Err, IfErr}
 use Rattle.std.specs.Fmt.{decimal}
-use Rattle.script_front.specs.declared.fault.ScriptFault.{ScriptFault}
-use Rattle.script_front.specs.declared.fault.ScriptFault.TheVariants.{Memory}
-use Rattle.script_front.specs.declared.keyword.Keyword.{Keyword}
-use Rattle.script_front.specs.declared.keyword.Keyword.TheVariants as the
-use Rattle.script_front.specs.Words.{letters, begins_item, begins_statement}
+use Rattle.script_words.specs.declared.fault.ScriptFault.{ScriptFault}
+use Rattle.script_words.specs.declared.fault.ScriptFault.TheVariants.{Memory}
+use Rattle.script_words.specs.declared.keyword.Keyword.{Keyword}
+use Rattle.script_words.specs.declared.keyword.Keyword.TheVariants as the
+use Rattle.script_words.specs.Words.{letters, begins_item, begins_statement}
 use Rattle.script_front.specs.Block.{Block, Before, nothing, basic, stop, when, either, repeat, forever, apply}
-use Rattle.script_front.specs.Tree.{IsName, Fits, counted}
-use Rattle.script_front.specs.Reading.{Input, Passes, BeginsWith, behind}
-use Rattle.script_front.specs.Spelled.{Spelled, name_at, act_words, block_words}
+use Rattle.script_front.specs.Tree.{Fits, counted}
+use Rattle.script_words.specs.Reading.{Spelled, Input, Passes, BeginsWith, behind}
+use Rattle.script_front.specs.Spelled.{name_at, act_words, block_words}
 use Rattle.script_front.specs.Parsing.{Stops, CanBe, NoBlock, NoBody, NoApplied, BeginsNoItem, IsRead, IsBody}
-use Rattle.script_front.proofs.Keys.{first_is, rest_is}
+use Rattle.script_words.proofs.Keys.{first_is, rest_is}
 use Rattle.script_front.proofs.Refusing.{Found, NoAct}
 use Rattle.script_front.proofs.Blocks.{key, begins_act, act_key_begins, key_is, key_first, all_read, after_apply, after_forever, after_repeat, after_if, no_else}
 
@@ -205,9 +205,6 @@ slice_at (x ∷ names) (suc n) lt = slice_at names n (omega (arith, lt))
 pub not_known : (names : List (List ℕ)) (words : Spelled) (name : List ℕ) → BeginsWith words name → ((i : ℕ) → slice_get names i ≢ Some name) → NoApplied names words
 not_known names words name h new named number rest lt e =
     new number (slice_at names number lt ∙ ap Some (first_is _ _ _ _ (sym e ∙ h.begins)))
-
-pub no_name : (words : Spelled) (w : List ℕ) → BeginsWith words w → (IsName w → ⊥) → (name : List ℕ) (rest : Spelled) → IsName name → words ≢ name ∷ rest
-no_name words w h none name rest is e = none (subst IsName (first_is _ _ _ _ (sym e ∙ h.begins)) is)
 
 -- ---- passed words
 

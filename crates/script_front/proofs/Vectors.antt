@@ -1,12 +1,5 @@
--- Short texts: which have tokens, and which have none. Short scripts: which have the same tokens, and which have not.
-use Rattle.std.proofs.Common.{◌≡◌, ◌≢◌, ℕ, ◌≤◌, List, [], ◌∷◌, refl, sym, ap, ◌∙◌, arith, Ok}
-use Rattle.std.specs.Prelude.{Result}
-use Rattle.script_front.specs.declared.token.Token.{Token}
-use Rattle.script_front.specs.declared.fault.ScriptFault.{ScriptFault}
-use Rattle.script_front.specs.declared.fault.ScriptFault.TheVariants.{Byte}
-use Rattle.script_front.specs.Bytes.{first_place, token_at}
-use Rattle.script_front.specs.Lexing.{lexed}
-use Rattle.script_front.specs.Texts.{AreTokens, script_limits}
+-- Short scripts: which have the same tokens, and which have not.
+use Rattle.std.proofs.Common.{◌≡◌, ◌≢◌, ℕ, ◌≤◌, List, [], refl, sym, ap, ◌∙◌, arith}
 use Rattle.fib_codec.specs.declared.modes.Mode.TheVariants.{I}
 use Rattle.script_front.specs.declared.tree.Act.TheVariants.{Wait}
 use Rattle.script_front.specs.declared.tree.Header.{Header}
@@ -14,31 +7,9 @@ use Rattle.script_front.specs.Block.{nothing, basic, block_of}
 use Rattle.script_front.specs.Tree.{Tree, IsHeader, IsScript}
 use Rattle.script_front.specs.Spelled.{tree_words}
 use Rattle.script_front.specs.Alike.{unlined}
-use Rattle.script_front.proofs.Pieces.{texts_are_cut, cut_into, not_cut}
 use Rattle.script_front.specs.Denoting.{IsScriptOf}
 use Rattle.script_front.proofs.Alike.{scripts_alike}
 use Rattle.script_front.proofs.OneScript.{one_script}
-
--- `ab` is one atom
-one_atom : AreTokens (97 ∷ 98 ∷ []) (token_at first_place 2 ∷ [])
-unfolding lexed
-one_atom = (omega arith, cut_into script_limits (97 ∷ 98 ∷ []) (token_at first_place 2 ∷ []) refl)
-
--- and not two
-not_two_atoms : (t u : Token) → AreTokens (97 ∷ 98 ∷ []) (t ∷ u ∷ []) → ⊥
-unfolding lexed
-not_two_atoms t u h =
-    let is = (texts_are_cut script_limits (97 ∷ 98 ∷ []) (t ∷ u ∷ [])).1 h.1 in
-    let one : Result (List Token) ScriptFault = Ok (token_at first_place 2 ∷ []) in
-    let same : one ≡ Ok (t ∷ u ∷ []) = is in
-    absurd cc
-
--- `@` has no tokens
-no_tokens : (ts : List Token) → AreTokens (64 ∷ []) ts → ⊥
-unfolding lexed
-no_tokens ts h = not_cut script_limits (64 ∷ []) (Byte first_place.position) refl ts h.1
-
--- ---- scripts
 
 -- `ensemble E1C5 period 4 notice 24 budget 20 begin`, where the period and the line of `begin` are these
 abbrev brief : (period line : ℕ) → Tree

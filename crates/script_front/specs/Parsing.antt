@@ -6,12 +6,12 @@ use Rattle.std.specs.Global.{Global}
 use Rattle.script_front.specs.declared.tree.Item.{Item}
 use Rattle.script_front.specs.declared.tree.Statement.{Statement}
 use Rattle.script_front.specs.Block.{Block, Before, nothing, apply}
-use Rattle.script_front.specs.declared.keyword.Keyword.TheVariants as the
-use Rattle.script_front.specs.declared.keyword.Keyword.{Keyword}
-use Rattle.script_front.specs.Words.{letters, begins_item}
-use Rattle.script_front.specs.Reading.{Input, Passes, line_of}
-use Rattle.script_front.specs.Spelled.{Spelled, edit_words, items_words, name_at, block_words, defined_words, tree_words, ItemsOn, BlockOn, DefinedOn, HasLines}
-use Rattle.script_front.specs.Tree.{Tree, IsScript, IsItem, Fits, AllFit, IsName, AreDifferent, counted, counted_in}
+use Rattle.script_words.specs.declared.keyword.Keyword.TheVariants as the
+use Rattle.script_words.specs.declared.keyword.Keyword.{Keyword}
+use Rattle.script_words.specs.Words.{letters, begins_item, IsName}
+use Rattle.script_words.specs.Reading.{Spelled, Input, Passes, line_of}
+use Rattle.script_front.specs.Spelled.{edit_words, items_words, name_at, block_words, defined_words, tree_words, ItemsOn, BlockOn, DefinedOn, HasLines}
+use Rattle.script_front.specs.Tree.{Tree, IsScript, IsItem, Fits, AllFit, AreDifferent, counted, counted_in}
 
 -- the words that are left begin with those of no such value
 abbrev pub NoneOf : (A : Type 0) → (A → Type 0) → (A → Spelled) → Input → Type 0

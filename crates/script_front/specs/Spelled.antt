@@ -15,15 +15,12 @@ use Rattle.script_front.specs.declared.tree.Act.TheVariants.{Edit as Edits, Wait
 use Rattle.script_front.specs.declared.tree.Header.{Header}
 use Rattle.script_front.specs.declared.tree.Item.{Item}
 use Rattle.script_front.specs.declared.tree.Statement.{Statement}
-use Rattle.script_front.specs.declared.keyword.Keyword.TheVariants as the
-use Rattle.script_front.specs.Words.{letters}
-use Rattle.script_front.specs.Spelling.{hex_word, sid_word, profile_word, time_word}
+use Rattle.script_words.specs.declared.keyword.Keyword.TheVariants as the
+use Rattle.script_words.specs.Words.{letters}
+use Rattle.script_words.specs.Spelling.{hex_word, sid_word, profile_word, time_word}
 use Rattle.script_front.specs.Block.{Block, nothing, basic, stop, when, either, repeat, forever, apply, block_of}
-use Rattle.script_front.specs.Reading.{line_at, line_of}
+use Rattle.script_words.specs.Reading.{Spelled, line_at, line_of}
 use Rattle.script_front.specs.Tree.{Tree}
-
-abbrev pub Spelled : Type 0
-Spelled = List (List ℕ)
 
 -- ---- edits
 

@@ -1,6 +1,6 @@
 -- The tree of a script, its limits and its ranges.
-use Rattle.std.specs.Prelude.{◌≡◌, ◌≢◌, ℕ, ◌+◌, ◌-◌, ◌<◌, ◌≤◌, ◌||◌, ◌==◌, Bool, true, false, List, [], ◌∷◌, length, nat_le, ◌&&◌}
-use Rattle.std.specs.List.{All, AllPairs, list_all}
+use Rattle.std.specs.Prelude.{◌≡◌, ◌≢◌, ℕ, ◌+◌, ◌-◌, ◌<◌, ◌≤◌, List, [], ◌∷◌, length}
+use Rattle.std.specs.List.{All, AllPairs}
 use Rattle.mux_config.specs.declared.edit.Edit.{Edit}
 use Rattle.mux_config.specs.declared.edit.Edit.TheVariants.{AddSub, AddService, AddComponent, AddPacket}
 use Rattle.plan_code.specs.Program.{IsEdit}
@@ -10,7 +10,7 @@ use Rattle.script_front.specs.declared.tree.Header.{Header}
 use Rattle.script_front.specs.declared.tree.Item.{Item}
 use Rattle.script_front.specs.declared.tree.Statement.{Statement}
 use Rattle.script_front.specs.Block.{Block, nothing, basic, stop, when, either, repeat, forever, apply, block_of}
-use Rattle.script_front.specs.Words.{IsNoKeyword}
+use Rattle.script_words.specs.Words.{IsName}
 
 pub record Tree : Type 0 where
   pub header : Header
@@ -57,23 +57,6 @@ abbrev pub IsItem : Item → Type 0
 IsItem item = IsEdit item.edit × Adds item.edit
 
 -- ---- names
-
-abbrev pub is_lower : ℕ → Bool
-is_lower b = nat_le 97 b && nat_le b 122
-
-abbrev pub is_name_byte : ℕ → Bool
-is_name_byte b = is_lower b || (nat_le 48 b && nat_le b 57) || (b == 95)
-
--- a lower-case letter and then lower-case letters, digits or `_`
-abbrev pub has_name_letters : List ℕ → Bool
-has_name_letters [] = false
-has_name_letters (b ∷ bs) = is_lower b && list_all is_name_byte bs
-
--- no word of the grammar may be a name
-pub record IsName (bs : List ℕ) : Type 0 where
-  pub formed : has_name_letters bs ≡ true
-  pub short : length bs ≤ 32
-  pub own : IsNoKeyword bs
 
 abbrev pub AreDifferent : List (List ℕ) → Type 0
 AreDifferent names = AllPairs (λ one other. one ≢ other) names

@@ -2,9 +2,9 @@
 
 ghost use Rattle.std.specs.Prelude.{◌≡◌, ◌<◌, ◌≤◌, ◌∷◌, [], length, IfOk, OnOk};
 ghost use Rattle.std.specs.Fmt.{decimal};
-ghost use Rattle.script_front.specs.declared.keyword.Keyword.TheVariants as the;
-ghost use Rattle.script_front.specs.Words.{letters};
-ghost use Rattle.script_front.specs.Reading.{Passes, behind};
+ghost use Rattle.script_words.specs.declared.keyword.Keyword.TheVariants as the;
+ghost use Rattle.script_words.specs.Words.{letters};
+ghost use Rattle.script_words.specs.Reading.{Passes, behind};
 ghost use Rattle.script_front.specs.Spelled.{mode_words, header_words};
 ghost use Rattle.script_front.specs.Tree.{IsHeader};
 ghost use Rattle.script_front.specs.Parsing.{NoneOf};
@@ -13,12 +13,12 @@ ghost use Rattle.script_front.specs.declared.tree.Header.{Header};
 ghost use Rattle.fib_codec.specs.declared.modes.Mode.{Mode};
 ghost use Rattle.fib_codec.specs.declared.modes.Mode.TheVariants.{I};
 
-use crate::fault::ScriptFault;
-use crate::keyword::Keyword;
-use crate::reader::Reader;
 use crate::tree::Header;
-use crate::values::{decimal, eid};
 use fib_codec::Mode;
+use script_words::fault::ScriptFault;
+use script_words::keyword::Keyword;
+use script_words::reader::Reader;
+use script_words::values::{decimal, eid};
 
 /// A number from `low` to `high` behind this word.
 fn declared(reader: &mut Reader, keyword: Keyword, low: u8, high: u8) -> Result<u8, ScriptFault>

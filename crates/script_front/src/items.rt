@@ -6,14 +6,14 @@ ghost use Rattle.mux_config.specs.Configuration.{IsSid, IsComponent};
 ghost use Rattle.plan_code.specs.Program.{IsEdit, IsNewSub, IsNewPacket, IsCarrier};
 ghost use Rattle.std.specs.Fmt.{decimal};
 ghost use Rattle.mux_config.specs.declared.edit.Edit.TheVariants.{AddSub, AddPacket, AddComponent, MoveSub, RateSub};
-ghost use Rattle.script_front.specs.declared.keyword.Keyword.TheVariants as the;
-ghost use Rattle.script_front.specs.Words.{letters};
-ghost use Rattle.script_front.specs.Reading.{Passes, behind, line_of};
+ghost use Rattle.script_words.specs.declared.keyword.Keyword.TheVariants as the;
+ghost use Rattle.script_words.specs.Words.{letters};
+ghost use Rattle.script_words.specs.Reading.{Passes, behind, line_of};
 ghost use Rattle.script_front.specs.Spelled.{in_words, groups_word, carried_words, carrier_words, edit_words, level_word, act_words, items_words};
 ghost use Rattle.script_front.specs.Tree.{IsAct, IsItem, Adds};
 ghost use Rattle.script_front.specs.Parsing.{IsOneMore, AreItems, NoneOf, BeginsItem, BeginsNoItem, NoItems};
 ghost use Rattle.std.specs.Prelude.{true, false, ◌≢◌, OnErr, IfErr, Bool};
-ghost use Rattle.script_front.specs.declared.fault.ScriptFault.TheVariants.{Memory};
+ghost use Rattle.script_words.specs.declared.fault.ScriptFault.TheVariants.{Memory};
 ghost use Rattle.script_front.specs.declared.tree.Act.{Act};
 ghost use Rattle.mux_config.specs.declared.edit.Edit.{Edit};
 ghost use Rattle.mux_types.specs.declared.numbers.Sid.{Sid};
@@ -22,14 +22,14 @@ ghost use Rattle.mux_types.specs.declared.parts.Packet.{Packet};
 ghost use Rattle.mux_types.specs.declared.parts.Component.{Component};
 ghost use Rattle.mux_types.specs.declared.parts.Carrier.{Carrier};
 
-use crate::fault::ScriptFault;
-use crate::keyword::Keyword;
-use crate::reader::Reader;
 use crate::tree::{Act, Item};
-use crate::values::{
+use mux_config::{Carrier, Component, Edit, NewSub, Packet, ScTy, Sid, SubId};
+use script_words::fault::ScriptFault;
+use script_words::keyword::Keyword;
+use script_words::reader::Reader;
+use script_words::values::{
     contact, delay, frames, profile, sc_id, sc_ty, sid, start, sub_id, time, word,
 };
-use mux_config::{Carrier, Component, Edit, NewSub, Packet, ScTy, Sid, SubId};
 use std::alloc::Global;
 
 /// `sub ID`

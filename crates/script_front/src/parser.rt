@@ -3,26 +3,26 @@
 ghost use Rattle.std.specs.Prelude.{◌≡◌, ◌≢◌, ℕ, ◌+◌, ◌++◌, ◌∷◌, [], ◌<◌, ◌≤◌, true, length, slice_get, Some, IfOk, OnOk, map};
 ghost use Rattle.std.specs.List.{All};
 ghost use Rattle.script_front.specs.Block.{block_of};
-ghost use Rattle.script_front.specs.declared.keyword.Keyword.TheVariants as the;
-ghost use Rattle.script_front.specs.Words.{letters};
-ghost use Rattle.script_front.specs.Reading.{BeginsWith};
+ghost use Rattle.script_words.specs.declared.keyword.Keyword.TheVariants as the;
+ghost use Rattle.script_words.specs.Words.{letters, IsName};
+ghost use Rattle.script_words.specs.Reading.{BeginsWith};
 ghost use Rattle.script_front.specs.Parsing.{AreDefined, IsDefined, IsSpelled, NoDefinitions, NoNewName, SpellsNone};
 ghost use Rattle.script_front.specs.Denoting.{IsScriptOf, IsNoScript};
 ghost use Rattle.std.specs.Prelude.{IfErr, OnErr, List};
-ghost use Rattle.script_front.specs.declared.fault.ScriptFault.TheVariants.{Memory};
-ghost use Rattle.script_front.specs.Tree.{IsItem, IsName};
+ghost use Rattle.script_words.specs.declared.fault.ScriptFault.TheVariants.{Memory};
+ghost use Rattle.script_front.specs.Tree.{IsItem};
 
-use crate::fault::ScriptFault;
 use crate::header::header;
 use crate::items::items;
-use crate::keyword::Keyword;
-use crate::lexer::lex;
 use crate::names::Names;
-use crate::reader::Reader;
 use crate::script::Script;
 use crate::statements::{block, statements};
 use crate::tree::Statement;
-use crate::values::name;
+use script_words::fault::ScriptFault;
+use script_words::keyword::Keyword;
+use script_words::lexer::lex;
+use script_words::reader::Reader;
+use script_words::values::name;
 use std::alloc::Global;
 
 /// The most items and statements of a script.

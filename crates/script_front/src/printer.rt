@@ -2,8 +2,8 @@
 
 ghost use Rattle.std.specs.Prelude.{◌≡◌, ℕ, ◌+◌, ◌-◌, ◌<◌, ◌≤◌, ◌++◌, ◌∷◌, [], length, OnOk, IfOk, string_bytes};
 ghost use Rattle.std.specs.Fmt.{decimal};
-ghost use Rattle.script_front.specs.declared.keyword.Keyword.TheVariants as the;
-ghost use Rattle.script_front.specs.Words.{letters};
+ghost use Rattle.script_words.specs.declared.keyword.Keyword.TheVariants as the;
+ghost use Rattle.script_words.specs.Words.{letters};
 ghost use Rattle.script_front.specs.Block.{before, nothing, block_of};
 ghost use Rattle.script_front.specs.Tree.{Fits, AllFit};
 ghost use Rattle.script_front.specs.Parsing.{bodies};
@@ -74,7 +74,7 @@ fn put_basic(out: &mut String, act: Act, depth: u8) -> Result<(), AllocError>
 }
 
 /// The line of `apply`.
-#[tactic(auto, unfolding(crate::specs::Words::letters))]
+#[tactic(auto, unfolding(script_words::specs::Words::letters))]
 fn put_apply(out: &mut String, names: &Names, block: BlockId, depth: u8) -> Result<(), AllocError>
     requires { block < length names.now }
     ensures { OnOk result (string_bytes out.new ≡ string_bytes out.old ++ line_text (line depth
@@ -99,7 +99,7 @@ fn put_name(out: &mut String, names: &Names, index: usize) -> Result<(), AllocEr
 }
 
 /// The first line of `if`.
-#[tactic(auto, unfolding(crate::specs::Words::letters))]
+#[tactic(auto, unfolding(script_words::specs::Words::letters))]
 fn put_if(out: &mut String, contact: ContactId, depth: u8) -> Result<(), AllocError>
     ensures { OnOk result (string_bytes out.new ≡ string_bytes out.old
         ++ line_text (line depth (letters the.If ∷ letters the.Contact ∷ decimal contact ∷ letters
@@ -111,7 +111,7 @@ fn put_if(out: &mut String, contact: ContactId, depth: u8) -> Result<(), AllocEr
 }
 
 /// The first line of `repeat`.
-#[tactic(auto, unfolding(crate::specs::Words::letters))]
+#[tactic(auto, unfolding(script_words::specs::Words::letters))]
 fn put_repeat(out: &mut String, times: Times, depth: u8) -> Result<(), AllocError>
     ensures { OnOk result (string_bytes out.new ≡ string_bytes out.old
         ++ line_text (line depth (letters the.Repeat ∷ decimal times ∷ letters the.OpenBrace ∷
@@ -206,7 +206,7 @@ fn put_statements(
 }
 
 /// A definition.
-#[tactic(auto, using(crate::proofs::Printed::definition_put), unfolding(crate::specs::Words::letters))]
+#[tactic(auto, using(crate::proofs::Printed::definition_put), unfolding(script_words::specs::Words::letters))]
 fn put_definition(
     out: &mut String,
     names: &Names,

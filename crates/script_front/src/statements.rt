@@ -2,21 +2,21 @@
 
 ghost use Rattle.std.specs.Prelude.{◌≡◌, ℕ, ◌+◌, ◌<◌, ◌≤◌, ◌∷◌, [], length, IfOk, OnOk, IsSome};
 ghost use Rattle.script_front.specs.Block.{and_then, before, block_of};
-ghost use Rattle.script_front.specs.declared.keyword.Keyword.TheVariants as the;
-ghost use Rattle.script_front.specs.Words.{letters};
-ghost use Rattle.script_front.specs.Reading.{Passes, behind, line_of};
+ghost use Rattle.script_words.specs.declared.keyword.Keyword.TheVariants as the;
+ghost use Rattle.script_words.specs.Words.{letters};
+ghost use Rattle.script_words.specs.Reading.{Passes, behind, line_of};
 ghost use Rattle.script_front.specs.Parsing.{IsRead, IsBody, IsApplied, Stops, NoBlock, NoBody, NoApplied};
 ghost use Rattle.std.specs.Prelude.{◌≢◌, List, true, false, IfErr, OnErr};
-ghost use Rattle.script_front.specs.declared.fault.ScriptFault.TheVariants.{Memory};
+ghost use Rattle.script_words.specs.declared.fault.ScriptFault.TheVariants.{Memory};
 
-use crate::fault::ScriptFault;
 use crate::items::act;
-use crate::keyword::Keyword;
 use crate::make::{acting, applying, choosing, conditional, ending, looping, repeating};
 use crate::names::Names;
-use crate::reader::Reader;
 use crate::tree::{BlockId, Statement};
-use crate::values::{contact, name, times};
+use script_words::fault::ScriptFault;
+use script_words::keyword::Keyword;
+use script_words::reader::Reader;
+use script_words::values::{contact, name, times};
 use std::alloc::Global;
 
 /// A statement; `left` is how many more items and statements a script may have, and `depth` how many more
@@ -102,7 +102,7 @@ pub fn statements(
 }
 
 /// Whether statements end here.
-#[tactic(auto, unfolding(crate::specs::Words::letters))]
+#[tactic(auto, unfolding(script_words::specs::Words::letters))]
 fn ends(reader: &Reader) -> bool
     ensures stops { result ≡ true → Stops reader.now.words }
     ensures goes_on { result ≡ false → Stops reader.now.words → ⊥ }

@@ -2,10 +2,10 @@
 
 ghost use Rattle.std.specs.Prelude.{◌≡◌, ◌<◌, ◌↔◌, IsSome, IfSome};
 
-use crate::time::TimeOfDay;
 use fib_codec::Mode;
 use mux_config::Edit;
 use plan_code::{ContactId, Delay, Frames, Times};
+use script_words::time::TimeOfDay;
 use std::marker::Model;
 
 /// What a script declares for the whole of its run.

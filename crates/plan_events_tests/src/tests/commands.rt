@@ -2,7 +2,7 @@
 
 use plan_code::ContactId;
 use plan_events::{Command, EventFault, read_commands};
-use script_front::Position;
+use script_words::Position;
 use std::process::Abort;
 use std::test::Fail;
 

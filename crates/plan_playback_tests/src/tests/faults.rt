@@ -6,7 +6,7 @@ use plan_events::EventFault;
 use plan_playback::{RunFault, run};
 use plan_player::{Sink, StartFault, Writer};
 use plan_verifier::Cause;
-use script_front::Position;
+use script_words::Position;
 use std::alloc::Global;
 use std::test::Fail;
 
