@@ -1,5 +1,5 @@
 -- The longest path of at most so many instructions is a path, and no path within that number is longer.
-use Rattle.std.proofs.Common.{◌≡◌, ℕ, zero, suc, ◌+◌, ◌<◌, ◌≤◌, Bool, true, false, if◌then◌else◌, max, List, [], ◌∷◌, ◌++◌, get_or, length, Option, Some, None, IsSome, refl, sym, ap, ◌∙◌, subst, arith, rules, inl, inr}
+use Rattle.std.proofs.Common.{◌≡◌, ℕ, zero, suc, ◌+◌, ◌-◌, ◌<◌, ◌≤◌, Bool, true, false, if◌then◌else◌, max, List, [], ◌∷◌, ◌++◌, get_or, length, Option, Some, None, IsSome, refl, sym, ap, ◌∙◌, subst, arith, rules, inl, inr}
 use Rattle.std.specs.Prelude.{slice_get}
 use Rattle.std.proofs.lemmas.Bool.{cases_lt}
 use Rattle.std.proofs.lemmas.Option.{slice_get_past}
@@ -152,6 +152,20 @@ pub next_round : (code : List Instr) (further next : List ℕ) (n : ℕ) → ((p
 next_round code further next n h k pc =
     let e : suc n ≡ n + 1 = omega arith in
     k pc ∙ need_same (slice_get code pc) pc (λ to. get_or further to 0) (λ to. longest code n to) h ∙ ap (λ m. longest code m pc) e
+
+-- once a round changes nothing, no round does
+pub longest_stays : (code : List Instr) (n k : ℕ) → ((pc : ℕ) → longest code (n + 1) pc ≡ longest code n pc) → (pc : ℕ) → longest code (k + n) pc ≡ longest code n pc
+longest_stays code n zero same pc = let e : 0 + n ≡ n = omega arith in ap (λ m. longest code m pc) e
+longest_stays code n (suc k) same pc =
+    let e : n + 1 ≡ suc n = omega arith in
+    let f : suc k + n ≡ suc (k + n) = omega arith in
+    ap (λ m. longest code m pc) f ∙ need_same (slice_get code pc) pc (λ to. longest code (k + n) to) (λ to. longest code n to) (λ to. longest_stays code n k same to) ∙ ap (λ m. longest code m pc) (sym e) ∙ same pc
+
+pub round_last : (code : List Instr) (further next : List ℕ) (n most : ℕ) → n ≤ most → ((pc : ℕ) → get_or further pc 0 ≡ longest code n pc) → ((pc : ℕ) → get_or next pc 0 ≡ longest code (n + 1) pc) → next ≡ further → (pc : ℕ) → get_or next pc 0 ≡ longest code most pc
+round_last code further next n most le before after same pc =
+    let e : (most - n) + n ≡ most = omega (arith, le) in
+    let stays : (to : ℕ) → longest code (n + 1) to ≡ longest code n to = λ to. sym (after to) ∙ ap (λ xs. get_or xs to 0) same ∙ before to in
+    after pc ∙ stays pc ∙ sym (longest_stays code n (most - n) stays pc) ∙ ap (λ m. longest code m pc) e
 
 -- ---- lines
 

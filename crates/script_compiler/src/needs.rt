@@ -1,6 +1,6 @@
 //! How many instructions can run from each place of a code in one frame.
 
-ghost use Rattle.std.specs.Prelude.{◌≡◌, ◌+◌, ◌≤◌, ◌<◌, ℕ, length, slice_get, slice_index, Some, None, IfOk, IfSome, max};
+ghost use Rattle.std.specs.Prelude.{◌≡◌, ◌+◌, ◌≤◌, ◌<◌, ℕ, length, slice_get, slice_index, true, Some, None, IfOk, IfSome, max};
 ghost use Rattle.script_scheme.specs.Compiled.{instrs_of};
 ghost use Rattle.script_compiler.specs.Longest.{need_at, longest};
 
@@ -61,7 +61,15 @@ fn round(alloc: Global, lines: &[Line], further: &[u16]) -> Result<Vec<u16>, All
     Ok(next)
 }
 
-/// The longest paths of at most so many instructions and one. Where none is over the budget, they are the needs.
+/// Whether these are the same numbers.
+fn are_same(numbers: &[u16], others: &[u16]) -> bool
+    ensures { result ≡ true → numbers.now ≡ others.now }
+{
+    numbers == others
+}
+
+/// The longest paths of at most so many instructions and one. Where none is over the budget, they are the needs. Once
+/// a round changes none of them, no round does.
 pub(crate) fn needs(alloc: Global, lines: &[Line], budget: u8) -> Result<Vec<u16>, AllocError>
     requires room { length lines.now ≤ 4096 }
     ensures { IfOk result (λ v. (pc : ℕ) → slice_index v.items pc
@@ -69,7 +77,11 @@ pub(crate) fn needs(alloc: Global, lines: &[Line], budget: u8) -> Result<Vec<u16
 {
     let mut further = Vec::new(alloc);
     for _turn in 0..u16::from(budget) + 1 {
-        further = round(alloc, lines, &further)?;
+        let next = round(alloc, lines, &further)?;
+        if are_same(&next, &further) {
+            return Ok(next);
+        }
+        further = next;
     }
     Ok(further)
 }

@@ -1,6 +1,6 @@
-use Rattle.std.proofs.Common.{arith, ap, ◌∙◌, get_or}
+use Rattle.std.proofs.Common.{◌+◌, arith, ap, sym, ◌∙◌, get_or}
 use Rattle.script_scheme.specs.Compiled.{instrs_of}
-use Rattle.script_compiler.proofs.Paths.{next_round, longest_bound}
+use Rattle.script_compiler.proofs.Paths.{next_round, round_last, longest_bound}
 use Rattle.script_compiler.proofs.needs.needs.Goals as goal
 
 pub round-requires-clause-bound : goal.round-requires-clause-bound
@@ -12,4 +12,11 @@ round-requires-clause-bound c = λ to.
 
 pub loop-turn-preserved : goal.loop-turn-preserved
 loop-turn-preserved c =
-    next_round (instrs_of c.args.lines.now) c.deref.result.now c.in_ok-further.further.items c.loop-turn._turn (λ to. ap (λ xs. get_or xs to 0) c.deref.ensures.value ∙ c.loop-turn.invariant to) c.in_ok-further.ensures
+    next_round (instrs_of c.args.lines.now) c.deref.result.now c.in_ok-next.next.items c.loop-turn._turn (λ to. ap (λ xs. get_or xs to 0) c.deref.ensures.value ∙ c.loop-turn.invariant to) c.in_ok-next.ensures
+
+pub returns-then-are_same : goal.returns-then-are_same
+returns-then-are_same c =
+    let code = instrs_of c.args.lines.now in
+    let after = next_round code c.deref.result.now c.in_ok-next.next.items c.loop-turn._turn (λ to. ap (λ xs. get_or xs to 0) c.deref.ensures.value ∙ c.loop-turn.invariant to) c.in_ok-next.ensures in
+    let same = sym c.deref-in-loop-turn.ensures.value ∙ c.are_same.ensures c.if-are_same.true ∙ c.deref-in-loop-turn-2.ensures.value in
+    round_last code c.loop-turn.further.items c.in_ok-next.next.items c.loop-turn._turn (c.args.budget + 1) (omega (arith, c.loop-turn-test.true, c.from-turn-end.ensures)) c.loop-turn.invariant after same
