@@ -11,7 +11,7 @@ use Rattle.script_front.specs.Block.{Block, nothing, basic, stop, when, either, 
 use Rattle.script_scheme.specs.declared.flow.Spot.{Spot}
 use Rattle.script_scheme.specs.Scheme.{Place, past, at_label, merged, meet, join, onward, head, after, placed, alone, places, all_places, instr_of, falls_out}
 use Rattle.script_scheme.specs.Judged.{IsJudged, WaysAgree, BranchesAgree}
-use Rattle.script_scheme.specs.Compiled.{lines_of, nested}
+use Rattle.script_scheme.specs.Compiled.{Tabled, lines_of, nested}
 use Rattle.script_compiler.specs.declared.work.Work.{Work}
 use Rattle.script_compiler.specs.declared.fault.CompileFault.{CompileFault}
 use Rattle.script_compiler.specs.declared.fault.CompileFault.TheVariants.{Limit}
@@ -410,10 +410,11 @@ repeat_deep plan r line n body rest w many can = let d = can.deep in absurd (ome
 
 -- ---- a script as a whole
 
-pub table_none : (w : Work) → w.configs.items ≡ [] → w.marks.items ≡ [] → HasTable w
+pub table_none : (w : Work) → w.marks.table ≡ [] → w.marks.items ≡ [] → HasTable w
 table_none w configs marks = record {
   few = let e = ap length configs in omega (arith, e);
   room = subst (λ cs. Leaves [] cs w.marks.items) (sym configs) (subst (λ ms. Leaves [] [] ms) (sym marks) (leaves_same []));
+  tabled = subst (λ cs. Tabled [] w.marks.items cs) (sym configs) (subst (λ ms. Tabled [] ms []) (sym marks) refl);
 }
 
 few_space : (w : Work) (ps : List Place) → w.lines.items ≡ [] → w.marks.items ≡ [] → AreFew ps → HasSpace w ps

@@ -8,6 +8,7 @@ mod Putting
 mod Blocks
 mod Steps
 mod Tabling
+mod Marking
 mod Whole
 mod Accepting
 mod Refusing

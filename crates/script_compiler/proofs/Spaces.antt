@@ -14,7 +14,7 @@ use Rattle.script_scheme.specs.declared.flow.Spot.{Spot}
 use Rattle.plan_verifier.specs.Typing.{FitsSwap}
 use Rattle.script_scheme.specs.Scheme.{Place, known_at, placed, alone, onward, after, places, mark_of, marks_of}
 use Rattle.script_scheme.specs.Judged.{FitsFlow}
-use Rattle.script_scheme.specs.Compiled.{StandsIn, Added, lines_of}
+use Rattle.script_scheme.specs.Compiled.{StandsIn, Added, Tabled, lines_of}
 use Rattle.script_compiler.specs.declared.work.Work.{Work}
 use Rattle.script_compiler.specs.declared.fault.CompileFault.{CompileFault}
 use Rattle.script_compiler.specs.Laying.{Lays, jumping, way}
@@ -22,6 +22,7 @@ use Rattle.script_compiler.specs.Room.{HasRoomFor, Leaves, named_by}
 use Rattle.script_compiler.specs.Space.{labels_in, names_of, HasSpace, HasTable, IsCovered, Covers}
 use Rattle.script_compiler.proofs.First.{first_of}
 use Rattle.script_compiler.proofs.Laid.{laid_length, length_lines}
+use Rattle.script_compiler.proofs.Marking.{tabled_more}
 use Rattle.script_compiler.proofs.Rooms.{stays, room_fewer, room_added, named_both, leaves_mark, leaves_both}
 
 -- ---- labels of places
@@ -175,25 +176,20 @@ room_label w t ps cover h =
     omega (arith, k, e, f)
 
 -- and so have the configurations that it names
-pub room_names : (w : Work) (t : Flow) (ps : List Place) → HasTable w → IsCovered t ps → HasSpace w ps → HasRoomFor w.configs.items (t.current ∷ t.next ∷ [])
+pub room_names : (w : Work) (t : Flow) (ps : List Place) → HasTable w → IsCovered t ps → HasSpace w ps → HasRoomFor w.marks.table (t.current ∷ t.next ∷ [])
 room_names w t ps table cover h =
     let p = cover.place in
     let more = names_of cover.rest in
     let e : names_of ps ≡ p.spot.flow.current ∷ p.spot.flow.next ∷ more = ap names_of cover.is ∙ ap (λ (b : Bool). if b then p.spot.flow.current ∷ p.spot.flow.next ∷ more else more) cover.labelled in
-    let room : HasRoomFor w.configs.items (p.spot.flow.current ∷ p.spot.flow.next ∷ more) = table.room (p.spot.flow.current ∷ p.spot.flow.next ∷ more) (subst (λ cs. HasRoomFor [] (named_by w.marks.items ++ cs)) e h.configurations) in
-    room_fewer w.configs.items (t.current ∷ t.next ∷ []) (p.spot.flow.current ∷ p.spot.flow.next ∷ more) (λ c k. stands_more p.spot.flow.current p.spot.flow.next c more (cover.names c k)) room
+    let room : HasRoomFor w.marks.table (p.spot.flow.current ∷ p.spot.flow.next ∷ more) = table.room (p.spot.flow.current ∷ p.spot.flow.next ∷ more) (subst (λ cs. HasRoomFor [] (named_by w.marks.items ++ cs)) e h.configurations) in
+    room_fewer w.marks.table (t.current ∷ t.next ∷ []) (p.spot.flow.current ∷ p.spot.flow.next ∷ more) (λ c k. stands_more p.spot.flow.current p.spot.flow.next c more (cover.names c k)) room
 
 -- the table after a label
-pub table_mark : (v w : Work) (one : List Configuration) (m : Mark) → Added m.flow.current v.configs.items one → Added m.flow.next one w.configs.items → w.marks.items ≡ v.marks.items ++ m ∷ [] → length w.configs.items ≤ 256 → HasTable v → HasTable w
+pub table_mark : (v w : Work) (one : List Configuration) (m : Mark) → Added m.flow.current v.marks.table one → Added m.flow.next one w.marks.table → w.marks.items ≡ v.marks.items ++ m ∷ [] → length w.marks.table ≤ 256 → HasTable v → HasTable w
 table_mark v w one m a b e few table = record {
   few = few;
-  room = subst (λ ms. Leaves [] w.configs.items ms) (sym e) (leaves_both [] v.configs.items w.configs.items v.marks.items (m ∷ []) table.room (leaves_mark m v.configs.items one w.configs.items a b));
-}
-
-pub table_as : (v w : Work) → w.configs ≡ v.configs → w.marks ≡ v.marks → HasTable v → HasTable w
-table_as v w configs marks table = record {
-  few = let e = ap (λ x. length x.items) configs in let k = table.few in omega (arith, e, k);
-  room = subst (λ cs. Leaves [] cs w.marks.items) (sym (ap (λ x. x.items) configs)) (subst (λ ms. Leaves [] v.configs.items ms) (sym (ap (λ x. x.items) marks)) table.room);
+  room = subst (λ ms. Leaves [] w.marks.table ms) (sym e) (leaves_both [] v.marks.table w.marks.table v.marks.items (m ∷ []) table.room (leaves_mark m v.marks.table one w.marks.table a b));
+  tabled = subst (λ ms. Tabled [] ms w.marks.table) (sym e) (tabled_more v.marks.table one w.marks.table v.marks.items m [] table.tabled a b);
 }
 
 -- ---- one of two configurations

@@ -1,7 +1,6 @@
 -- Code that is laid down, piece by piece. No public contract needs this to be believed.
-use Rattle.std.specs.Prelude.{◌≡◌, ℕ, ◌+◌, ◌≤◌, Bool, Vec, if◌then◌else◌, true, false, ◌&&◌, List, [], ◌∷◌, ◌++◌, slice_set, slice_get, length, map, Option, Some, None}
+use Rattle.std.specs.Prelude.{◌≡◌, ℕ, ◌+◌, ◌≤◌, Bool, Vec, if◌then◌else◌, true, false, ◌&&◌, List, [], ◌∷◌, ◌++◌, slice_set, length, map, Option, Some, None}
 use Rattle.std.specs.Global.{Global}
-use Rattle.mux_config.specs.Configuration.{Configuration}
 use Rattle.plan_code.specs.declared.plan.Plan.{Plan}
 use Rattle.plan_code.specs.declared.instr.Instr.{Instr}
 use Rattle.plan_code.specs.declared.instr.Instr.TheVariants.{Jump, Test}
@@ -10,10 +9,8 @@ use Rattle.script_front.specs.declared.tree.Statement.{Statement}
 use Rattle.script_front.specs.Block.{Block, nothing, apply, table_of}
 use Rattle.script_scheme.specs.declared.flow.Spot.{Spot}
 use Rattle.script_scheme.specs.Scheme.{Place, onward, after, places, marks_of, alone, past, at_label, meet, join}
-use Rattle.plan_code.specs.declared.label.Label.{Label}
-use Rattle.script_scheme.specs.declared.flow.Mark.{Mark}
 use Rattle.script_scheme.specs.Judged.{IsJudged, Reached, WaysAgree, BranchesAgree, ComesRound}
-use Rattle.script_scheme.specs.Compiled.{lines_of, nested, Added, IsLabelOf}
+use Rattle.script_scheme.specs.Compiled.{lines_of, nested}
 use Rattle.script_compiler.specs.declared.work.Work.{Work}
 
 -- the meanings of defined blocks
@@ -103,15 +100,3 @@ pub record Arrives (a b : Option Spot) (front : List Spot) (line jump : ℕ) (ol
   pub saved : new.saved.items ≡ front
   pub leads : way f new ≡ join a b
   pub agree : BranchesAgree a b
-
--- what stands in the one stands there in the other
-abbrev pub Grows : List Configuration → List Configuration → Type 0
-Grows table new = (i : ℕ) (c : Configuration) → slice_get table i ≡ Some c → slice_get new i ≡ Some c
-
--- a label has been made for a mark, with a table that has its configurations
-pub record Names (table : List Configuration) (m : Mark) (l : Label) (both : List Configuration) : Type 0 where
-  pub one : List Configuration
-  pub current : Added m.flow.current table one
-  pub following : Added m.flow.next one both
-  pub label : IsLabelOf both m l
-  pub grows : Grows table both

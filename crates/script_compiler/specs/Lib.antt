@@ -4,3 +4,4 @@ pub mod Longest
 pub mod Room
 pub mod Fingerprint
 pub mod Space
+pub mod Marked

@@ -7,7 +7,7 @@ use Rattle.script_scheme.specs.declared.flow.Flow.{Flow}
 use Rattle.script_scheme.specs.declared.flow.Spot.{Spot}
 use Rattle.script_scheme.specs.Scheme.{Place, after, places, marks_of}
 use Rattle.script_scheme.specs.Judged.{IsJudged}
-use Rattle.script_scheme.specs.Compiled.{StandsIn, nested}
+use Rattle.script_scheme.specs.Compiled.{StandsIn, Tabled, nested}
 use Rattle.script_compiler.specs.declared.work.Work.{Work}
 use Rattle.script_compiler.specs.Room.{HasRoomFor, Leaves, named_by}
 
@@ -27,10 +27,11 @@ pub record HasSpace (w : Work) (ps : List Place) : Type 0 where
   pub labels : length w.marks.items + labels_in ps ≤ 1024
   pub configurations : HasRoomFor [] (named_by w.marks.items ++ names_of ps)
 
--- the table of configurations is no larger than its labels make it
+-- the table of configurations is what its labels make it
 pub record HasTable (w : Work) : Type 0 where
-  pub few : length w.configs.items ≤ 256
-  pub room : Leaves [] w.configs.items w.marks.items
+  pub few : length w.marks.table ≤ 256
+  pub room : Leaves [] w.marks.table w.marks.items
+  pub tabled : Tabled [] w.marks.items w.marks.table
 
 -- a label stands at the first of these places, and names the configurations that are known here
 pub record IsCovered (t : Flow) (ps : List Place) : Type 0 where

@@ -1,8 +1,8 @@
 //! From scripts to codes.
 
-ghost use Rattle.std.specs.Prelude.{◌≡◌, ◌≢◌, ℕ, ◌<◌, ◌≤◌, length, map, slice_index, IsOk, IfOk, IfErr};
+ghost use Rattle.std.specs.Prelude.{◌≡◌, ◌≢◌, ℕ, ◌<◌, ◌≤◌, [], length, map, slice_index, IsOk, IfOk, IfErr};
 ghost use Rattle.script_scheme.specs.Scheme.{falls_out, all_places, marks_of};
-ghost use Rattle.script_scheme.specs.Compiled.{plan_of, lines_of, body_of, beginning, opening_of, places_of, instrs_of, nested, AreFine, IsCodeOf, CostsItsNeeds, IsAccepted};
+ghost use Rattle.script_scheme.specs.Compiled.{plan_of, lines_of, body_of, beginning, opening_of, places_of, instrs_of, nested, AreFine, Tabled, IsCodeOf, CostsItsNeeds, IsAccepted};
 ghost use Rattle.script_scheme.specs.Judged.{IsJudged};
 ghost use Rattle.script_scheme.specs.Need.{IsWithin};
 ghost use Rattle.mux_config.specs.Configuration.{nothing};
@@ -18,10 +18,9 @@ ghost use Rattle.script_meaning.specs.Meaning.{PlaysAsItReads};
 use crate::cost::first_round;
 use crate::falls::{all_fall, all_silent};
 use crate::fault::CompileFault;
-use crate::labels::labels_of;
+use crate::marks::Marks;
 use crate::needs::{first_over, needs};
 use crate::opening::{built, test};
-use crate::table::ConfigTable;
 use crate::work::{Work, refused};
 use mux_config::Config;
 use plan_code::{Code, Line, Plan};
@@ -75,6 +74,7 @@ fn lay(alloc: Global, plan: &Plan, script: &Script, config: &Config) -> Result<W
         script.now.last_line (body_of script.now) (beginning config.now))) }
     ensures marks { IfOk result (λ w. w.marks.items ≡ marks_of 0 (all_places plan.now
         script.now.last_line (body_of script.now) (beginning config.now))) }
+    ensures table { IfOk result (λ w. Tabled [] w.marks.items w.marks.table) }
     ensures room { IfOk result (λ w. length w.lines.items ≤ 4096) }
     ensures judged { IsOk result → IsJudged plan.now (body_of script.now)
         (beginning config.now) }
@@ -90,8 +90,7 @@ fn lay(alloc: Global, plan: &Plan, script: &Script, config: &Config) -> Result<W
     let silent = silent_of(alloc, script.blocks())?;
     let mut work = Work {
         lines: Vec::new(alloc),
-        marks: Vec::new(alloc),
-        configs: ConfigTable::new(alloc),
+        marks: Marks::new(alloc),
         now: Spot {
             flow: Flow::opening(config),
             labelled: true,
@@ -192,8 +191,8 @@ pub fn compile(alloc: Global, script: &Script) -> Result<Code, CompileFault>
     let work = lay(alloc, &plan, script, &config)?;
     let costs = needs(alloc, &work.lines, plan.budget)?;
     test_costs(alloc, &work.lines, &costs, plan.budget)?;
-    let made = labels_of(alloc, &work.marks, &costs)?;
-    match Code::new(plan, made.configs, made.labels, work.lines) {
+    let labels = work.marks.labels(alloc, &costs)?;
+    match Code::new(plan, work.marks.into_configs(), labels, work.lines) {
         Some(code) => {
             promise(script, &code);
             Ok(code)

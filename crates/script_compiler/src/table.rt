@@ -3,7 +3,6 @@
 ghost use Rattle.std.specs.Prelude.{◌≡◌, ◌≢◌, ◌≤◌, ◌<◌, ℕ, [], ◌∷◌, ◌++◌, length, map, slice_get, false, Some, None, OnOk, IfOk, IfErr, IfSome};
 ghost use Rattle.script_scheme.specs.Compiled.{Added};
 ghost use Rattle.script_compiler.specs.Fingerprint.{print_of};
-ghost use Rattle.script_compiler.specs.Laying.{Grows};
 ghost use Rattle.script_compiler.specs.Refusals.{IsRefusal};
 ghost use Rattle.script_compiler.specs.Room.{HasRoomFor};
 ghost use Rattle.script_compiler.specs.declared.fault.CompileFault.TheVariants.{Limit, Memory};
@@ -102,6 +101,7 @@ impl ConfigTable {
     /// One configuration more.
     fn add(&mut self, config: &Config) -> Result<(), CompileFault>
         ensures added { OnOk result (self.new.items ≡ self.old.items ++ config.now ∷ []) }
+        ensures unchanged { IfErr result (λ _. self.new.items ≡ self.old.items) }
         ensures memory { IfErr result (λ e. e ≡ Memory) }
     {
         let place = self.configs.len();
@@ -145,7 +145,7 @@ pub(crate) fn index_of(table: &mut ConfigTable, config: &Config) -> Result<u16, 
     ensures room { OnOk result (length table.new.items ≤ 256) }
     ensures added { OnOk result (Added config.now table.old.items table.new.items) }
     ensures index { IfOk result (λ i. slice_get table.new.items i ≡ Some config.now) }
-    ensures grows { OnOk result (Grows table.old.items table.new.items) }
+    ensures unchanged { IfErr result (λ _. table.new.items ≡ table.old.items) }
     ensures refused { IfErr result (λ e. IsRefusal e → ⊥) }
     ensures limited { IfErr result (λ e. e ≡ Limit
         → HasRoomFor table.old.items (config.now ∷ []) → ⊥) }

@@ -15,22 +15,21 @@ ghost use Rattle.script_compiler.specs.Laying.{Lays, Forks, ClosesIf, Turns, Goe
 
 use crate::fault::CompileFault;
 use crate::judge::{instr_of, judge};
+use crate::marks::Marks;
 use crate::merge::{fits, meet};
-use crate::table::{ConfigTable, has_room_for_both, index_of};
+use crate::short::ShortMark;
 use plan_code::limits::{MOST_INSTRUCTIONS, MOST_LABELS};
 use plan_code::{ContactId, Instr, Line, Plan};
 use plan_verifier::Cause;
 use script_front::Act;
-use script_scheme::{Mark, Spot};
+use script_scheme::Spot;
 
 /// What has been laid down, and what is known there.
 #[derive(Drop)]
 pub(crate) struct Work {
     pub(crate) lines: Vec<Line>,
-    /// The labels, without what they cost.
-    pub(crate) marks: Vec<Mark>,
-    /// The configurations that the labels name.
-    pub(crate) configs: ConfigTable,
+    /// The labels, without what they cost, and the configurations that they name.
+    pub(crate) marks: Marks,
     pub(crate) now: Spot,
     /// What is known where branches and loops come back to.
     pub(crate) saved: Vec<Spot>,
@@ -65,19 +64,23 @@ impl Work {
         if self.marks.len() >= usize::from(MOST_LABELS) {
             return Err(CompileFault::Limit);
         }
-        if let Err(fault) = index_of(&mut self.configs, &self.now.flow.current) {
-            return Err(fault);
-        }
-        if let Err(fault) = index_of(&mut self.configs, &self.now.flow.next) {
-            return Err(fault);
-        }
-        let mark = Mark {
+        let cur = match self.marks.index_of(&self.now.flow.current) {
+            Ok(cur) => cur,
+            Err(fault) => return Err(fault),
+        };
+        let next = match self.marks.index_of(&self.now.flow.next) {
+            Ok(next) => next,
+            Err(fault) => return Err(fault),
+        };
+        let mark = ShortMark {
             pc: self.lines.len() as u16,
-            flow: self.now.flow.copied(),
+            cur,
+            next,
+            pending: self.now.flow.pending,
             repeats: counters,
         };
-        if self.marks.push(mark).is_err() {
-            return Err(CompileFault::Memory);
+        if let Err(fault) = self.marks.push(mark) {
+            return Err(fault);
         }
         self.now.labelled = false;
         Ok(())
@@ -178,7 +181,10 @@ impl Work {
         if !self.now.labelled && self.marks.len() >= usize::from(MOST_LABELS) {
             return Err(CompileFault::Limit);
         }
-        if !has_room_for_both(&self.configs, &self.now.flow.current, &self.now.flow.next) {
+        if !self
+            .marks
+            .has_room_for_both(&self.now.flow.current, &self.now.flow.next)
+        {
             return Err(CompileFault::Limit);
         }
         self.now.labelled = true;

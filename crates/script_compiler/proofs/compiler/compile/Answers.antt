@@ -1,5 +1,5 @@
 use Rattle.std.proofs.Common.{false, true, rules, ℕ, ◌<◌, ◌+◌, [], refl, sym, ap, ◌∙◌, ◌≡◌, ◌≢◌, arith, subst, get_or, List}
-use Rattle.mux_config.specs.Configuration.{nothing}
+use Rattle.mux_config.specs.Configuration.{Configuration, nothing}
 use Rattle.plan_code.specs.declared.instr.Line.{Line}
 use Rattle.plan_code.specs.declared.plan.Plan.{Plan}
 use Rattle.plan_code.specs.Program.{Program, IsProgram}
@@ -11,8 +11,8 @@ use Rattle.script_scheme.specs.Compiled.{plan_of, with_items, opening_of, body_o
 use Rattle.script_compiler.specs.Longest.{longest, Priced}
 use Rattle.script_compiler.specs.declared.fault.CompileFault.TheVariants.{Memory}
 use Rattle.script_compiler.proofs.Refusing.{over_budget}
-use Rattle.script_compiler.specs.Room.{HasRoomFor, IsDeepAtMost, named_by}
-use Rattle.script_compiler.proofs.Deep.{accepted_deep, accepted_room}
+use Rattle.script_compiler.specs.Room.{IsDeepAtMost}
+use Rattle.script_compiler.proofs.Deep.{accepted_deep}
 use Rattle.script_compiler.proofs.Formed.{fault_either, parts_formed}
 use Rattle.script_compiler.proofs.Making.{laid_few, laid_judged, Parts, parts_code, parts_cost, parts_accepted}
 use Rattle.script_compiler.proofs.compiler.compile.Goals as goal
@@ -45,8 +45,8 @@ promise-requires c =
     let lines = c.in_ok-work.work.lines.items in
     let marks = c.in_ok-work.work.marks.items in
     let needs = c.in_ok-costs.costs.items in
-    let configs = c.in_ok-made.made.configs.items in
-    let labels = c.in_ok-made.made.labels.items in
+    let configs = c.into_configs.result.items in
+    let labels = c.in_ok-labels.labels.items in
     let parts : Parts s plan config lines marks needs configs labels = record {
       plan_is = c.plan_of-plan.ensures;
       config_is = c.in_ok-config.ensures.made ∙ ap (λ xs. with_items xs nothing) c.items.ensures.value;
@@ -54,9 +54,9 @@ promise-requires c =
       marked = c.in_ok-work.ensures.marks;
       each = λ pc. c.in_ok-costs.ensures pc ∙ ap (λ (ls : List Line). longest (instrs_of ls) (plan.budget + 1) pc) c.deref.ensures.value;
       within = λ pc. let h = c.in_ok-test_costs.ensures.within refl pc in let e = ap (λ xs. get_or xs pc 0) c.deref-3.ensures.value in omega (arith, h, e);
-      tabled = subst (λ (ms : List Mark). Tabled [] ms configs) c.deref-4.ensures.value c.in_ok-made.ensures.table;
-      labelled = subst (λ (ms : List Mark). AreLabelsOf configs ms labels) c.deref-4.ensures.value c.in_ok-made.ensures.labels;
-      priced = subst (λ xs. Priced xs labels) c.deref-5.ensures.value c.in_ok-made.ensures.costs;
+      tabled = subst (λ (t : List Configuration). Tabled [] marks t) (sym c.into_configs.ensures) c.in_ok-work.ensures.table;
+      labelled = subst (λ (t : List Configuration). AreLabelsOf t marks labels) (sym c.into_configs.ensures) c.in_ok-labels.ensures.labels;
+      priced = subst (λ xs. Priced xs labels) c.deref-4.ensures.value c.in_ok-labels.ensures.costs;
     } in
     let same = sym c.in-Some.ensures.value in
     let formed = c.in-Some.ensures.within.0 refl in
@@ -81,18 +81,17 @@ returns-in_err-work-clause-refused c =
     fault_either ⊥ c.in_err-work.field-0.0 (λ r. c.in_err-work.ensures.refused r judged) (λ l. c.in_err-work.ensures.limited l judged accepted.repeats few) is in
     search (rules, h)
 
-pub returns-in_err-made-clause-refused : goal.returns-in_err-made-clause-refused
-returns-in_err-made-clause-refused c =
+pub returns-in_err-labels-clause-refused : goal.returns-in_err-labels-clause-refused
+returns-in_err-labels-clause-refused c =
     let s = c.args.script.now in
     let plan = c.plan_of-plan.result in
     let config = c.in_ok-config.config in
     let config_is : config ≡ opening_of s = c.in_ok-config.ensures.made ∙ ap (λ xs. with_items xs nothing) c.items.ensures.value in
     let places_are = ap (λ (p : Plan). all_places p s.last_line (body_of s) (beginning config)) c.plan_of-plan.ensures ∙ ap (λ x. all_places (plan_of s) s.last_line (body_of s) (beginning x)) config_is in
-    let marks_are : c.deref-4.result.now ≡ marks_of 0 (places_of s) = c.deref-4.ensures.value ∙ c.in_ok-work.ensures.marks ∙ ap (λ ps. marks_of 0 ps) places_are in
-    let h : c.in_err-made.field-0.0 ≢ Memory → IsAccepted s → ⊥ = λ is accepted.
+    let marks_are : c.in_ok-work.work.marks.items ≡ marks_of 0 (places_of s) = c.in_ok-work.ensures.marks ∙ ap (λ ps. marks_of 0 ps) places_are in
+    let h : c.in_err-labels.field-0.0 ≢ Memory → IsAccepted s → ⊥ = λ is accepted.
     let deep = subst (λ (ms : List Mark). IsDeepAtMost 8 ms) (sym marks_are) (accepted_deep s accepted) in
-    let room = subst (λ (ms : List Mark). HasRoomFor [] (named_by ms)) (sym marks_are) (accepted_room s accepted) in
-    fault_either ⊥ c.in_err-made.field-0.0 (λ r. c.in_err-made.ensures.refused r) (λ l. c.in_err-made.ensures.limited l deep room) is in
+    fault_either ⊥ c.in_err-labels.field-0.0 (λ r. c.in_err-labels.ensures.refused r) (λ l. c.in_err-labels.ensures.limited l deep) is in
     search (rules, h)
 
 pub returns-clause-refused : goal.returns-clause-refused
@@ -103,8 +102,8 @@ returns-clause-refused c =
     let lines = c.in_ok-work.work.lines.items in
     let marks = c.in_ok-work.work.marks.items in
     let needs = c.in_ok-costs.costs.items in
-    let configs = c.in_ok-made.made.configs.items in
-    let labels = c.in_ok-made.made.labels.items in
+    let configs = c.into_configs.result.items in
+    let labels = c.in_ok-labels.labels.items in
     let parts : Parts s plan config lines marks needs configs labels = record {
       plan_is = c.plan_of-plan.ensures;
       config_is = c.in_ok-config.ensures.made ∙ ap (λ xs. with_items xs nothing) c.items.ensures.value;
@@ -112,9 +111,9 @@ returns-clause-refused c =
       marked = c.in_ok-work.ensures.marks;
       each = λ pc. c.in_ok-costs.ensures pc ∙ ap (λ (ls : List Line). longest (instrs_of ls) (plan.budget + 1) pc) c.deref.ensures.value;
       within = λ pc. let h = c.in_ok-test_costs.ensures.within refl pc in let e = ap (λ xs. get_or xs pc 0) c.deref-3.ensures.value in omega (arith, h, e);
-      tabled = subst (λ (ms : List Mark). Tabled [] ms configs) c.deref-4.ensures.value c.in_ok-made.ensures.table;
-      labelled = subst (λ (ms : List Mark). AreLabelsOf configs ms labels) c.deref-4.ensures.value c.in_ok-made.ensures.labels;
-      priced = subst (λ xs. Priced xs labels) c.deref-5.ensures.value c.in_ok-made.ensures.costs;
+      tabled = subst (λ (t : List Configuration). Tabled [] marks t) (sym c.into_configs.ensures) c.in_ok-work.ensures.table;
+      labelled = subst (λ (t : List Configuration). AreLabelsOf t marks labels) (sym c.into_configs.ensures) c.in_ok-labels.ensures.labels;
+      priced = subst (λ xs. Priced xs labels) c.deref-4.ensures.value c.in_ok-labels.ensures.costs;
     } in
     λ is accepted.
     let formed = parts_formed s plan config lines marks needs configs labels parts c.items.ensures.formed accepted c.in-None.ensures.configurations c.in-None.ensures.lines in

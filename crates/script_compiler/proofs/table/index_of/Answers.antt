@@ -1,6 +1,6 @@
 use Rattle.std.proofs.Common.{◌≤◌, length, arith}
 use Rattle.script_compiler.proofs.Rooms.{full_table}
-use Rattle.script_compiler.proofs.Tabling.{grows_new, last_new}
+use Rattle.script_compiler.proofs.Tabling.{last_new}
 use Rattle.script_compiler.proofs.table.index_of.Goals as goal
 
 pub returns-then-index-from-clause-limited : goal.returns-then-index-from-clause-limited
@@ -11,6 +11,3 @@ returns-then-index-from-clause-limited c = λ _ room.
 pub returns-clause-index : goal.returns-clause-index
 returns-clause-index c =
     last_new c.args.config.now c.args.table.now.items c.add.new.self.items c.len-index.result c.len-index.ensures c.in_default-add.ensures.added
-
-pub returns-clause-grows : goal.returns-clause-grows
-returns-clause-grows c = grows_new c.args.config.now c.args.table.now.items c.add.new.self.items c.in_default-add.ensures.added

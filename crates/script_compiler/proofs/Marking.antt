@@ -1,0 +1,127 @@
+-- Marks whose configurations are told by their places in a table, and the labels that stand at them.
+use Rattle.std.proofs.Common.{◌≡◌, Bool, true, if◌then◌else◌, ℕ, zero, suc, ◌<◌, ◌≤◌, inl, inr, List, [], ◌∷◌, ◌++◌, length, map, Some, refl, sym, ap, ◌∙◌, subst, arith, get_or, length-append, Result, Ok, Err}
+use Rattle.std.proofs.lemmas.Option.{slice_get_within}
+use Rattle.std.specs.Prelude.{slice_get, slice_index, OnOk, IfOk, IfErr}
+use Rattle.mux_config.specs.Configuration.{Configuration}
+use Rattle.plan_code.specs.declared.label.Label.{Label}
+use Rattle.script_scheme.specs.declared.flow.Mark.{Mark}
+use Rattle.script_scheme.specs.Scheme.{Place, mark_of, marks_of}
+use Rattle.script_scheme.specs.Compiled.{Added, Tabled, AreLabelsOf}
+use Rattle.script_compiler.specs.declared.fault.CompileFault.{CompileFault}
+use Rattle.script_compiler.specs.declared.short.ShortMark.{ShortMark}
+use Rattle.script_compiler.specs.Longest.{Priced}
+use Rattle.script_compiler.specs.Marked.{configuration_at, mark_in, label_at, AreWithin, AreShallow}
+use Rattle.script_compiler.specs.Room.{IsDeepAtMost}
+
+-- ---- configurations by their places
+
+at_within : (xs : List Configuration) (i : ℕ) → i < length xs → slice_get xs i ≡ Some (configuration_at xs i)
+at_within [] i lt = absurd (omega (arith, lt))
+at_within (x ∷ xs) zero lt = refl
+at_within (x ∷ xs) (suc i) lt = at_within xs i (omega (arith, lt))
+
+at_some : (xs : List Configuration) (i : ℕ) (c : Configuration) → slice_get xs i ≡ Some c → configuration_at xs i ≡ c
+at_some xs i c e =
+    let here : Some (configuration_at xs i) ≡ Some c = sym (at_within xs i (slice_get_within xs i c e)) ∙ e in
+    let h : configuration_at xs i ≡ c = cc in
+    h
+
+at_more : (xs ys : List Configuration) (i : ℕ) → i < length xs → configuration_at (xs ++ ys) i ≡ configuration_at xs i
+at_more [] ys i lt = absurd (omega (arith, lt))
+at_more (x ∷ xs) ys zero lt = refl
+at_more (x ∷ xs) ys (suc i) lt = at_more xs ys i (omega (arith, lt))
+
+-- ---- marks in a table that has grown
+
+mark_as : (m : ShortMark) (a b c d : Configuration) → a ≡ c → b ≡ d
+    → (let x : Mark = record { pc = m.pc; flow = record { current = a; next = b; pending = m.pending }; repeats = m.repeats } in x) ≡ record { pc = m.pc; flow = record { current = c; next = d; pending = m.pending }; repeats = m.repeats }
+mark_as m a b c d e f =
+    ap (λ (z : Configuration). let x : Mark = record { pc = m.pc; flow = record { current = z; next = b; pending = m.pending }; repeats = m.repeats } in x) e
+    ∙ ap (λ (z : Configuration). let x : Mark = record { pc = m.pc; flow = record { current = c; next = z; pending = m.pending }; repeats = m.repeats } in x) f
+
+pub marks_more : (table more : List Configuration) (ms : List ShortMark) → AreWithin (length table) ms → map (mark_in (table ++ more)) ms ≡ map (mark_in table) ms
+marks_more table more [] h = refl
+marks_more table more (m ∷ ms) h =
+    let one : mark_in (table ++ more) m ≡ mark_in table m = mark_as m _ _ _ _ (at_more table more m.cur h.0) (at_more table more m.next h.1) in
+    let rest = marks_more table more ms h.2 in
+    ap (λ (x : Mark). x ∷ map (mark_in (table ++ more)) ms) one ∙ ap (λ (xs : List Mark). mark_in table m ∷ xs) rest
+
+pub within_more : (n k : ℕ) (ms : List ShortMark) → n ≤ k → AreWithin n ms → AreWithin k ms
+within_more n k [] le h = tt
+within_more n k (m ∷ ms) le h = (let a = h.0 in omega (arith, a, le), let b = h.1 in omega (arith, b, le), within_more n k ms le h.2)
+
+pub within_push : (n : ℕ) (ms : List ShortMark) (m : ShortMark) → m.cur < n → m.next < n → AreWithin n ms → AreWithin n (ms ++ m ∷ [])
+within_push n [] m cur next h = (cur, next, tt)
+within_push n (x ∷ ms) m cur next h = (h.0, h.1, within_push n ms m cur next h.2)
+
+pub added_marks : (c : Configuration) (table new : List Configuration) (ms : List ShortMark) → Added c table new → AreWithin (length table) ms → map (mark_in new) ms ≡ map (mark_in table) ms
+added_marks c table new ms (inl old) h = ap (λ (t : List Configuration). map (mark_in t) ms) old.1
+added_marks c table new ms (inr fresh) h = ap (λ (t : List Configuration). map (mark_in t) ms) fresh.1 ∙ marks_more table (c ∷ []) ms h
+
+pub added_within : (c : Configuration) (table new : List Configuration) (ms : List ShortMark) → Added c table new → AreWithin (length table) ms → AreWithin (length new) ms
+added_within c table new ms (inl old) h = subst (λ (t : List Configuration). AreWithin (length t) ms) (sym old.1) h
+added_within c table new ms (inr fresh) h =
+    let e = ap length fresh.1 ∙ length-append table (c ∷ []) in within_more (length table) (length new) ms (omega (arith, e)) h
+
+-- whether it is added or refused
+pub kept_marks : (x : Result ℕ CompileFault) (c : Configuration) (table new : List Configuration) (ms : List ShortMark) → OnOk x (Added c table new) → IfErr x (λ _. new ≡ table) → AreWithin (length table) ms → map (mark_in new) ms ≡ map (mark_in table) ms
+kept_marks (Ok i) c table new ms added kept h = added_marks c table new ms added h
+kept_marks (Err e) c table new ms added kept h = ap (λ (t : List Configuration). map (mark_in t) ms) kept
+
+pub kept_within : (x : Result ℕ CompileFault) (c : Configuration) (table new : List Configuration) (ms : List ShortMark) → OnOk x (Added c table new) → IfErr x (λ _. new ≡ table) → AreWithin (length table) ms → AreWithin (length new) ms
+kept_within (Ok i) c table new ms added kept h = added_within c table new ms added h
+kept_within (Err e) c table new ms added kept h = subst (λ (t : List Configuration). AreWithin (length t) ms) (sym kept) h
+
+-- ---- a mark of two configurations that stand in the table
+
+pub grown : (c d : Configuration) (i : ℕ) (table new : List Configuration) → Added d table new → slice_get table i ≡ Some c → slice_get new i ≡ Some c
+grown c d i table new (inl old) e = ap (λ (t : List Configuration). slice_get t i) old.1 ∙ e
+grown c d i table new (inr fresh) e = ap (λ (t : List Configuration). slice_get t i) fresh.1 ∙ stays table (d ∷ []) i c e
+  where
+    stays : (xs ys : List Configuration) (i : ℕ) (c : Configuration) → slice_get xs i ≡ Some c → slice_get (xs ++ ys) i ≡ Some c
+    stays [] ys i c e = cc
+    stays (x ∷ xs) ys zero c e = e
+    stays (x ∷ xs) ys (suc i) c e = stays xs ys i c e
+
+pub mark_is : (table : List Configuration) (m : ShortMark) (c d : Configuration) → slice_get table m.cur ≡ Some c → slice_get table m.next ≡ Some d → mark_in table m ≡ record { pc = m.pc; flow = record { current = c; next = d; pending = m.pending }; repeats = m.repeats }
+mark_is table m c d e f = mark_as m _ _ _ _ (at_some table m.cur c e) (at_some table m.next d f)
+
+-- it is the mark of a place at which a label stands
+pub one_mark : (pc n : ℕ) (p : Place) → p.spot.labelled ≡ true → n ≡ pc → (let x : Mark = record { pc = n; flow = p.spot.flow; repeats = p.repeats } in x ∷ []) ≡ marks_of pc (p ∷ [])
+one_mark pc n p labelled e =
+    ap (λ k. let x : Mark = record { pc = k; flow = p.spot.flow; repeats = p.repeats } in x ∷ []) e ∙ ap (λ (b : Bool). if b then mark_of pc p ∷ [] else []) (sym labelled)
+
+-- the table of labels, with one more
+pub tabled_more : (table one both : List Configuration) (ms : List Mark) (m : Mark) (start : List Configuration) → Tabled start ms table → Added m.flow.current table one → Added m.flow.next one both → Tabled start (ms ++ m ∷ []) both
+tabled_more table one both [] m start t a b = (one, both, subst (λ (x : List Configuration). Added m.flow.current x one) t a, b, refl)
+tabled_more table one both (x ∷ ms) m start t a b = (t.0, t.1, t.2, t.3, tabled_more table one both ms m t.1 t.4 a b)
+
+-- ---- the labels that stand at marks
+
+pub labels_at : (table : List Configuration) (needs : List ℕ) (ms : List ShortMark) → AreWithin (length table) ms → AreLabelsOf table (map (mark_in table) ms) (map (label_at needs) ms)
+labels_at table needs [] h = refl
+labels_at table needs (m ∷ ms) h = (
+  record { place = refl; current = at_within table m.cur h.0; following = at_within table m.next h.1; pending = refl; counters = refl },
+  labels_at table needs ms h.2,
+)
+
+pub priced_at : (needs : List ℕ) (ms : List ShortMark) → Priced needs (map (label_at needs) ms)
+priced_at needs [] = λ l has. absurd (omega (arith, has.1))
+priced_at needs (m ∷ ms) = λ l has. by (priced_at needs ms) l has.0 has.1 has.2
+  where
+    by : Priced needs (map (label_at needs) ms) → (l : Label) (i : ℕ) → i < length (map (label_at needs) (m ∷ ms)) → get_or (map (label_at needs) (m ∷ ms)) i l ≡ l → l.cost ≡ slice_index needs l.pc
+    by ih l zero lt e = subst (λ (y : Label). y.cost ≡ slice_index needs y.pc) e refl
+    by ih l (suc i) lt e = ih l (i, omega (arith, lt), e)
+
+pub shallow_marks : (table : List Configuration) (most : ℕ) (ms : List ShortMark) → IsDeepAtMost most (map (mark_in table) ms) → AreShallow most ms
+shallow_marks table most [] h = tt
+shallow_marks table most (m ∷ ms) h = (h.0, shallow_marks table most ms h.1)
+
+pub too_deep : (most : ℕ) (ms : List ShortMark) (k : ℕ) (d : ShortMark) → k < length ms → most < (get_or ms k d).repeats → AreShallow most ms → ⊥
+too_deep most [] k d lt deep h = absurd (omega (arith, lt))
+too_deep most (x ∷ ms) zero d lt deep h = let few = h.0 in absurd (omega (arith, deep, few))
+too_deep most (x ∷ ms) (suc k) d lt deep h = too_deep most ms k d (omega (arith, lt)) deep h.1
+
+pub ok_each : {A B : Type 0} (x : Result A B) {P Q : A → Type 0} → ((y : A) → P y → Q y) → IfOk x P → IfOk x Q
+ok_each (Ok y) m h = m y h
+ok_each (Err f) m h = h
