@@ -7,7 +7,6 @@
 
 mod apply;
 pub mod config;
-pub mod conformance;
 pub mod edit;
 mod edits;
 pub mod entry;

@@ -1,8 +1,8 @@
 //! The faults, printed by their names.
 
-use mux_config::conformance::parts::sub_id;
 use mux_config::{ConfigFault, EditFault};
 use std::test::Fail;
+use store_conformance::parts::sub_id;
 
 #[test]
 fn faults_of_edits(rt: HostRuntime) -> Result<(), Fail> {

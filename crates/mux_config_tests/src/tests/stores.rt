@@ -1,8 +1,8 @@
 //! A `Config` passes what every store has to pass.
 
-use mux_config::conformance::{edits, items, soundness};
 use mux_config::{Config, Packet, Service, Sub, laws};
 use std::test::Fail;
+use store_conformance::{edits, items, soundness};
 
 #[test]
 fn each_fault_comes_before_the_later_ones() -> Result<(), Fail> {

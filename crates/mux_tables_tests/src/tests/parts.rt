@@ -1,9 +1,9 @@
 //! Sub-channels of 4-A for tests, by their numbers, beside the parts that tests of every store share.
 
-pub use mux_config::conformance::parts::{packet, sc_id, sound, sub_id};
-use mux_config::{Sub, conformance};
+use mux_config::Sub;
+pub use store_conformance::parts::{packet, sc_id, sound, sub_id};
 
 /// A sub-channel of 4-A.
 pub fn sub(id: u8, start: u16, kbits: u16) -> Sub {
-    conformance::parts::sub(id, start, 4, kbits)
+    store_conformance::parts::sub(id, start, 4, kbits)
 }

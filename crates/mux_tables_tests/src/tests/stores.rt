@@ -1,9 +1,9 @@
 //! `Tables` passes what every store has to pass, beside a `Config` that does.
 
 use mux_config::Config;
-use mux_config::conformance::{edits, items, soundness};
 use mux_tables::Tables;
 use std::test::Fail;
+use store_conformance::{edits, items, soundness};
 
 #[test]
 fn each_fault_comes_before_the_later_ones() -> Result<(), Fail> {

@@ -2,7 +2,9 @@
 
 ghost use Rattle.std.specs.Prelude.{◌≡◌, ◌↔◌, true, IsOk};
 
-use crate::{Carrier, Component, Edit, NewSub, Packet, ScId, ScTy, Sid, StartAddress, Sub, SubId};
+use mux_config::{
+    Carrier, Component, Edit, NewSub, Packet, ScId, ScTy, Sid, StartAddress, Sub, SubId,
+};
 use mux_eep::{EepSet, Protection};
 use std::fmt::Display;
 use std::test::Fail;

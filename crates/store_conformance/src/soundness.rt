@@ -1,10 +1,10 @@
 //! Soundness of configurations, and what the step from one to another changes.
 
-use super::parts::{
+use crate::parts::{
     add_component, carried, drop_component, holds, move_sub, packet, rate_sub, sc_id, sound, sub,
     sub_id,
 };
-use crate::{Carrier, Change, ConfigFault, Edit, Sid, Store, Sub, change, soundness};
+use mux_config::{Carrier, Change, ConfigFault, Edit, Sid, Store, Sub, change, soundness};
 use std::test::Fail;
 
 /// Only these sub-channels.

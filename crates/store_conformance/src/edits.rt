@@ -1,10 +1,10 @@
 //! Edits of full sets: the faults in their order, that nothing changes at one, and that the twins do the same.
 
-use super::parts::{
+use crate::parts::{
     add_component, add_sub, carried, drop_component, holds, move_sub, packet, rate_sub, sc_id,
     sound, sub, sub_id,
 };
-use crate::{Carrier, Edit, EditFault, Sid, Store};
+use mux_config::{Carrier, Edit, EditFault, Sid, Store};
 use std::test::Fail;
 
 /// Sub-channels 0 to 63 of 4-A 8 kbit/s, one after the other, from capacity unit 0 on; the services with the

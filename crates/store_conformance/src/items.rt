@@ -1,8 +1,8 @@
 //! The members of each set in their order, and copies.
 
-use super::edits::full;
-use super::parts::{holds, packet, sc_id, sound, sub, sub_id};
-use crate::{Config, Sid, Store};
+use crate::edits::full;
+use crate::parts::{holds, packet, sc_id, sound, sub, sub_id};
+use mux_config::{Config, Sid, Store};
 use std::test::Fail;
 
 /// The members of each set stand in ascending order of SubChId, SId (16-bit ones first) and SCId, however they
