@@ -91,7 +91,7 @@ class Ended:
 
 
 def run(words, folder, stdin=b"", stack=None, memory=None, environment=None, pass_fds=()):
-    """Runs a program in a folder, with at most so many KB of stack and of memory where they are given."""
+    """Runs a program in a folder, with at most this many KB of stack and of memory where they are given."""
     def limit():
         if stack is not None:
             resource.setrlimit(resource.RLIMIT_STACK, (stack * 1024, stack * 1024))

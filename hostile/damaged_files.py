@@ -2,7 +2,7 @@
 """Damaged files.
 
 Code files cut at each length and with each byte changed to each other value: a named fault, or a code that `verify`
-judges, and what is accepted is played for 100 frames, each of whose FIBs has a right check word and grammar. The code
+judges, and what is accepted is played for 100 frames, each of whose FIBs has a right CRC and grammar. The code
 of a contact in version 1, and one of version 2 with a label at which a swap is perhaps pending.
 
 And files of each kind with random changes, from a seed that is printed: each command ends with 0 or 1, and prints one
@@ -89,7 +89,7 @@ def mutated(chance, content):
 
 
 def resealed(chance, content):
-    """FIBs with random changes whose check words are right again, so that they are looked into."""
+    """FIBs with random changes whose CRCs are right again, so that they are looked into."""
     content = bytearray(mutated(chance, content))
     del content[len(content) // 32 * 32:]
     for start in range(0, len(content), 32):
@@ -98,7 +98,7 @@ def resealed(chance, content):
 
 
 def check_word(data):
-    """The check word of the 30 bytes of a FIB (EN 300 401 clause 5.2.1)."""
+    """The CRC of the 30 bytes of a FIB (EN 300 401 clause 5.2.1)."""
     register = 0xFFFF
     for byte in data:
         register ^= byte << 8
@@ -127,7 +127,7 @@ def kinds(folder):
          r"([0-9A-F]{64}\n){2}[0-9A-F]{64}|record: (Short|Field \d+|Order|trailing)"
          r"|refused: (Overlap \d+ \d+|Orphan|AddressUsed|EmptyService)"),
         ("FIBs", fibs, mutated, ["listen", "a.file"], rf"{LISTED}|refused: (not whole FIBs|Full)"),
-        ("FIBs with right check words", fibs, resealed, ["listen", "a.file"], rf"{LISTED}|refused: Full"),
+        ("FIBs with right CRCs", fibs, resealed, ["listen", "a.file"], rf"{LISTED}|refused: Full"),
         ("events", events, mutated, ["play", "small.code", "a.file", "b.fib"], rf"played \d+ frames|events {text_fault}"),
         ("commands", commands, mutated, ["debug", "small.code", "a.file"], rf"{REPORTED}|commands {text_fault}"),
     ]

@@ -1,7 +1,7 @@
 #!/usr/bin/env python3
 """Files and outputs of the system that fail, as the program meets them.
 
-Output that takes nothing (`/dev/full`), that is closed, or that ends after so many bytes; files that can't be read or
+Output that takes nothing (`/dev/full`), that is closed, or that ends after this many bytes; files that can't be read or
 made; files that end the disk; no memory for the address space. The last line is 'N passed, M failed'.
 """
 import pathlib
@@ -35,7 +35,7 @@ def try_outputs(tally, program, folder):
 
 
 def try_pipes(tally, program, folder):
-    """A reader that goes away after so many bytes: nothing more is printed, and the status is 1."""
+    """A reader that goes away after this many bytes: nothing more is printed, and the status is 1."""
     for most in (0, 1, 2047, 2048, 2049, 100_000):
         script = f"set -o pipefail; '{program}' debug '{CODE}' a.commands | head -c {most} >b.text; echo ${{PIPESTATUS[0]}}"
         ended = common.run(["bash", "-c", f"trap '' PIPE; {script}"], folder)
@@ -44,7 +44,7 @@ def try_pipes(tally, program, folder):
 
 
 def try_small_disk(tally, program, folder):
-    """A file that takes so many bytes and no more: the numbers are those of what it took."""
+    """A file that takes this many bytes and no more: the numbers are those of what it took."""
     common.write(folder, "a.events", "frames 3000")
 
     def run(most):

@@ -45,7 +45,7 @@ def label(pc, cur, upcoming, cost, swap=b"\x00\x00\x00\x00\x00", counters=0):
 
 
 def crc_is_right(digits):
-    """Whether the last two bytes of a FIB are the check word of the others (EN 300 401 clause 5.2.1)."""
+    """Whether the last two bytes of a FIB are the CRC of the others (EN 300 401 clause 5.2.1)."""
     fib = bytes.fromhex(digits)
     register = 0xFFFF
     for byte in fib[:30]:
@@ -56,7 +56,7 @@ def crc_is_right(digits):
 
 
 def filled(start, part, size=MOST, end=""):
-    """A text of so many bytes: `start`, then `part` as often as it fits, then blanks, then `end`."""
+    """A text of this many bytes: `start`, then `part` as often as it fits, then blanks, then `end`."""
     room = size - len(start) - len(end)
     text = start + part * (room // len(part))
     return text + " " * (size - len(end) - len(text)) + end

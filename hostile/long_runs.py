@@ -20,7 +20,7 @@ forever { rate sub 1 96 commit in 24 join wait 276 rate sub 1 128 commit in 24 j
 
 
 def frames(count):
-    """A text of events of so many frames."""
+    """A text of events of this many frames."""
     return "frames 3600000\n" * (count // 3_600_000) + (f"frames {count % 3_600_000}\n" if count % 3_600_000 else "")
 
 
@@ -33,7 +33,7 @@ def measured(words, folder):
 
 
 def try_frames(tally, program, folder, count, least):
-    """Plays so many frames into nothing, in as much memory as `least` KB and 256 more."""
+    """Plays this many frames into nothing, in as much memory as `least` KB and 256 more."""
     common.write(folder, "a.events", frames(count))
     printed, memory, seconds = measured([program, "play", CODE, "a.events", "/dev/null"], folder)
     print(f"{count} frames: {memory} KB, {seconds:.0f} s", flush=True)

@@ -59,7 +59,7 @@ impl<'a> Reader<'a> {
         self.rest
     }
 
-    /// Passes over bytes, of which so many must be left.
+    /// Passes over bytes, of which this many must be left.
     pub fn skip(&mut self, count: usize)
         requires { count ≤ length self.old.rest }
         ensures rest { self.new.rest ≡ drop count self.old.rest }
@@ -83,7 +83,7 @@ impl<'a> Reader<'a> {
     }
 
     /// Reads a number of two bytes.
-    pub fn word(&mut self) -> Result<u16, RecordFault>
+    pub fn u16(&mut self) -> Result<u16, RecordFault>
         ensures read { Takes (number_at w16 self.old.rest) result self.new }
         ensures total { self.new.total ≡ self.old.total }
     {
@@ -96,7 +96,7 @@ impl<'a> Reader<'a> {
     }
 
     /// Reads a number of four bytes.
-    pub fn long(&mut self) -> Result<u32, RecordFault>
+    pub fn u32(&mut self) -> Result<u32, RecordFault>
         ensures read { Takes (number_at w32 self.old.rest) result self.new }
         ensures total { self.new.total ≡ self.old.total }
     {
@@ -125,12 +125,12 @@ impl<'a> Reader<'a> {
     }
 
     /// Reads a number of two bytes from `low` to `high`.
-    pub fn word_within(&mut self, low: u16, high: u16) -> Result<u16, RecordFault>
+    pub fn u16_within(&mut self, low: u16, high: u16) -> Result<u16, RecordFault>
         ensures read { Takes (word_within self.old.total low high self.old.rest) result self.new }
         ensures total { self.new.total ≡ self.old.total }
     {
         let place = self.place();
-        let word = self.word()?;
+        let word = self.u16()?;
         if word < low {
             return Err(RecordFault::Field(place));
         }
@@ -174,7 +174,7 @@ impl<'a> Reader<'a> {
         ensures total { self.new.total ≡ self.old.total }
     {
         let place = self.place();
-        let word = self.word()?;
+        let word = self.u16()?;
         ScId::new(word).ok_or(RecordFault::Field(place))
     }
 
@@ -201,9 +201,9 @@ impl<'a> Reader<'a> {
         ensures total { self.new.total ≡ self.old.total }
     {
         if self.byte_within(0, 1)? == 0 {
-            Ok(Sid::Short(self.word()?))
+            Ok(Sid::Short(self.u16()?))
         } else {
-            Ok(Sid::Long(self.long()?))
+            Ok(Sid::Long(self.u32()?))
         }
     }
 

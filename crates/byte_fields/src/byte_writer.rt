@@ -10,7 +10,7 @@ use mux_types::{Component, Sid};
 use std::alloc::AllocError;
 
 /// Writes a number of two bytes.
-pub fn put_word(out: &mut Vec<u8>, number: u16) -> Result<(), AllocError>
+pub fn put_u16(out: &mut Vec<u8>, number: u16) -> Result<(), AllocError>
     ensures { OnOk result (out.new.items ≡ out.old.items ++ word_bytes number) }
 {
     let mut bytes = [0; 2];
@@ -19,7 +19,7 @@ pub fn put_word(out: &mut Vec<u8>, number: u16) -> Result<(), AllocError>
 }
 
 /// Writes a number of four bytes.
-pub fn put_long(out: &mut Vec<u8>, number: u32) -> Result<(), AllocError>
+pub fn put_u32(out: &mut Vec<u8>, number: u32) -> Result<(), AllocError>
     ensures { OnOk result (out.new.items ≡ out.old.items ++ to_be_bytes w32 number) }
 {
     let mut bytes = [0; 4];
@@ -45,11 +45,11 @@ pub fn put_sid(out: &mut Vec<u8>, sid: Sid) -> Result<(), AllocError>
     match sid {
         Sid::Short(id) => {
             out.push(0)?;
-            put_word(out, id)
+            put_u16(out, id)
         }
         Sid::Long(id) => {
             out.push(1)?;
-            put_long(out, id)
+            put_u32(out, id)
         }
     }
 }
@@ -63,7 +63,7 @@ pub fn put_component(out: &mut Vec<u8>, component: &Component) -> Result<(), All
         Component::Stream { ty, sub } => out.extend_from_slice(&[1, ty.get(), sub.get()]),
         Component::Packet { scid } => {
             out.push(3)?;
-            put_word(out, scid.get())
+            put_u16(out, scid.get())
         }
     }
 }

@@ -10,5 +10,5 @@ pub mod byte_writer;
 pub mod record;
 
 pub use byte_reader::Reader;
-pub use byte_writer::{put_component, put_long, put_protection, put_sid, put_word};
+pub use byte_writer::{put_component, put_protection, put_sid, put_u16, put_u32};
 pub use record::RecordFault;

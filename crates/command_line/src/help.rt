@@ -80,7 +80,7 @@ pub const LISTEN_USAGE: &str = "dabplan listen <FILE>";
 
 pub const AFTER_LISTEN: &str = "\
 The lines:
-  fibs 1203 damaged 0                 damaged: a wrong check word, or no whole FIGs
+  fibs 1203 damaged 0                 damaged: a wrong CRC, or no whole FIGs
   current                             then what was heard with C/N 0
   sub 1 at 0 size 96 eep 3-A          a sub-channel: first capacity unit, size, protection
   sub 2 at 96 switch 0 table 35       one with unequal error protection

@@ -4,7 +4,7 @@ ghost use Rattle.std.specs.Prelude.{◌≡◌, ◌≤◌, IsErr};
 
 use crate::{compile, debug, play, verify};
 use command_line::{Request, UsageError, request_of};
-use console::ending::{Failure, Status};
+use console::exit::{Failure, Status};
 use console::files::Files;
 use console::output::Output;
 use listings::{frame, listen};

@@ -7,7 +7,7 @@ ghost use Rattle.commands.specs.Compiled.{IsCompiled, counts_line};
 
 use crate::play::text_of;
 use command_line::CompileRequest;
-use console::ending::{Failure, Status};
+use console::exit::{Failure, Status};
 use console::files::Files;
 use console::output::write_out;
 use plan_code::encode;

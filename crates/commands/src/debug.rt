@@ -12,7 +12,7 @@ ghost use Rattle.commands.specs.Transcript.{remaining_text, place_text, swap_tex
 
 use crate::play::text_of;
 use command_line::{DebugRequest, StartOptions};
-use console::ending::{Failure, Status};
+use console::exit::{Failure, Status};
 use console::files::Files;
 use mux_tables::Tables;
 use plan_code::CodeFault;

@@ -1,7 +1,7 @@
 //! `dabplan play`: a plan code played over events, its frames written to a file.
 
 use command_line::PlayRequest;
-use console::ending::{Failure, Status};
+use console::exit::{Failure, Status};
 use console::files::Files;
 use plan_code::CodeFault;
 use plan_events::EventFault;

@@ -1,6 +1,6 @@
 //! `dabplan verify`: whether the plan code in a file is accepted.
 
-use console::ending::{Failure, Status};
+use console::exit::{Failure, Status};
 use console::files::Files;
 use plan_code::CodeFault;
 use plan_playback::{RunFault, typed_code};

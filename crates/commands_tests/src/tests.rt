@@ -1,13 +1,5 @@
-mod compile;
-mod debug;
-mod failures;
-mod fake;
 mod frame;
 mod listen;
 mod output;
-mod play;
-mod rows;
-mod scripts;
-mod shelf;
 mod usage;
 mod verify;

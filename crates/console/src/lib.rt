@@ -2,7 +2,7 @@
 //! and hexadecimal digits.
 #![tactic(auto)]
 
-pub mod ending;
+pub mod exit;
 pub mod files;
 pub mod hexadecimal;
 pub mod output;

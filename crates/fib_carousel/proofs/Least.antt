@@ -63,7 +63,7 @@ pub record Leaves (mode : Mode) (e : Marked) (p : PackState) : Type 0 where
   pub fits : size_of e ≤ 28 → 2 + size_of e ≤ room mode to
   pub first : (k : ℕ) → p.fib < k → 2 + size_of e ≤ room mode k → to ≤ k
 
--- whatever the size is, a step stays, or goes on by one FIB or two
+-- whatever the size is, a step stays, or continues by one FIB or two
 pub placed_cases : (mode : Mode) (e : Marked) (p : PackState) → Stays mode e p ⊎ Leaves mode e p
 placed_cases mode e p =
     elim (cases_lt (room mode p.fib) (p.used + cost p.head e)) [
@@ -112,7 +112,7 @@ pub numbers_rise : (mode : Mode) (p : PackState) (es : List Marked) (k : ℕ) �
 numbers_rise mode p [] k h = tt
 numbers_rise mode p (e ∷ es) k h = (omega (arith, h, placed_above mode e p), numbers_rise mode (placed mode e p) es (placed mode e p).fib (omega arith))
 
--- small entries go on as a division does
+-- small entries continue as a division does
 pub greedy_goes : (mode : Mode) (p : PackState) (es : List Marked) → AreSmall es → Goes mode p es (numbers_from mode p es)
 greedy_goes mode p [] small = tt
 greedy_goes mode p (e ∷ es) small =
@@ -219,7 +219,7 @@ pub packing_is_one : (mode : Mode) (es : List Marked) (ns ms : List ℕ) → IsP
 packing_is_one mode es ns ms p q =
     ext_get_or 0 ns ms (p.division.each ∙ sym q.division.each) (λ i h. omega (arith, p.least ms q.division i, q.least ns p.division i))
 
--- the first entry brings two bytes of its own, so whatever goes on is small
+-- the first entry brings two bytes of its own, so whatever continues is small
 abbrev pub Begun : PackState → Type 0
 Begun p = (p.head ≡ None) ⊎ (2 ≤ p.used)
 

@@ -23,7 +23,7 @@ use Rattle.fib_carousel.proofs.Least.{room_cases, placed_cases, Leaves}
 use Rattle.fib_carousel.proofs.Sent.{same_head_own}
 use Rattle.fib_carousel.proofs.Sendable.{each_map, service_small, length-component_entries}
 
--- a FIB takes so many entries of a kind, a page's first one a of them and each other one b, where a page has w FIBs
+-- a FIB takes this many entries of a kind, a page's first one a of them and each other one b, where a page has w FIBs
 abbrev cap : ℕ → ℕ → ℕ → ℕ → ℕ
 cap w a b n = if n % w == 0 then a else b
 
@@ -188,7 +188,7 @@ further_stays mode a b s f i h m q kind c = record {
       ];
 }
 
--- the FIB that a step goes on to, and those that it passes over
+-- the FIB that a step continues to, and those that it passes over
 passed_over : (mode : Mode) (a b s : ℕ) (h : Head) (m : Marked) (q : PackState) → Holds mode a b s → IsOfKind a b s h m → (c : Leaves mode m q) → total (fib_count mode) a b c.to ≡ total (fib_count mode) a b (suc q.fib)
 passed_over mode a b s h m q holds kind c =
     elim (cases_lt c.to (q.fib + 2)) [
@@ -281,7 +281,7 @@ comes_within mode a b s f n k h q comes few enough =
           ]
     ]
 
--- so many FIBs more take 64 entries of a kind: of sub-channels, of services, and of packet components
+-- this many FIBs more take 64 entries of a kind: of sub-channels, of services, and of packet components
 abbrev subs_most : Mode → ℕ
 subs_most I = 11
 subs_most II = 11
@@ -437,7 +437,7 @@ behind-append : (mode : Mode) (p : PackState) (xs ys : List Marked) → behind m
 behind-append mode p [] ys = refl
 behind-append mode p (x ∷ xs) ys = behind-append mode (placed mode x p) xs ys
 
--- a configuration takes so many FIBs more
+-- a configuration takes this many FIBs more
 abbrev subs_entries : Configuration → Bool → List Marked
 subs_entries c next = map (marked next) (map sub_entry c.subs)
 

@@ -8,7 +8,7 @@ use Rattle.fib_codec.specs.Spelling.{head_of}
 use Rattle.fib_carousel.specs.Packing.{room, size_of, cost, figs_size, entries_in_fib, NeverFalls, IsDivision}
 use Rattle.fib_carousel.specs.Greedy.{extended, opened, start}
 
--- from place p on, each entry goes on in its FIB or opens a later one
+-- from place p on, each entry continues in its FIB or opens a later one
 abbrev pub Goes : (mode : Mode) → PackState → List Marked → List ℕ → Type 0
 Goes mode p [] [] = Unit {0}
 Goes mode p [] (m ∷ ms) = ⊥

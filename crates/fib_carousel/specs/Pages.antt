@@ -22,7 +22,7 @@ page_set_of content current next = page_set (content current) (option_map conten
 abbrev pub rounds : Mode → List Marked → ℕ
 rounds mode es = rounds_of mode (packing mode es)
 
--- the page after page k, where there are so many pages: page 0 again after the last
+-- the page after page k, where there are this many pages: page 0 again after the last
 abbrev pub page_after : ℕ → ℕ → ℕ
 page_after pages k = if nat_lt (k + 1) pages then k + 1 else 0
 

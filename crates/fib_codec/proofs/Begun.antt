@@ -6,7 +6,7 @@ use Rattle.std.proofs.Math.Seq.{take-append-add}
 use Rattle.fib_codec.specs.Begun.{IsBegun}
 use Rattle.fib_codec.specs.Spelling.{filled}
 
--- the zeros behind so many more bytes
+-- the zeros behind this many more bytes
 zeros_after : (size more : ℕ) (bytes : List ℕ) → IsBegun size bytes → drop (size + suc more) bytes ≡ replicate (31 - size - more) 0
 zeros_after size more bytes is = sym (drop-drop (suc more) size bytes) ∙ ap (drop (suc more)) is.rest ∙ drop-replicate more (31 - size) 0
 

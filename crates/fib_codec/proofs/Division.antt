@@ -205,7 +205,7 @@ after_all-more bytes i r h = ap (λ t. after_all t r) (drop_more bytes i 0 h)
 all_ones : (w : ℕ) → w < 16 → bit_at 65535 w ≡ 1
 all_ones w h = bit_at_ones 16 w h
 
--- the register turned is the check word
+-- the register turned is the CRC
 turned : (w r : ℕ) → w ≤ 16 → map (λ b. 1 - b) (bits_of w r) ≡ bits_of w (bit_xor r 65535)
 unfolding bits_of
 turned zero r h = refl

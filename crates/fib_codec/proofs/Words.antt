@@ -62,7 +62,7 @@ word_behind bytes word h =
     let behind : drop 2 (drop 30 (bytes ++ 0 ∷ 0 ∷ [])) ≡ [] = ap (drop 2) (drop_at bytes (0 ∷ 0 ∷ []) 30 h) in
     ap₂ (λ xs ys. xs ++ (word ++ ys)) front behind ∙ ap (λ t. bytes ++ t) (append-nil word)
 
--- ---- the check word is a word
+-- ---- the CRC is a word
 length-divided : (n : ℕ) (xs : List ℕ) → length (divided n xs) ≡ length xs - n
 length-divided zero xs =
     let all : length xs ≡ length xs - 0 = omega arith in
@@ -101,7 +101,7 @@ check_len bytes =
     length-map (divided (8 * length bytes) (dividend bytes)) (λ (b : ℕ). 1 - b)
     ∙ length-divided (8 * length bytes) (dividend bytes) ∙ ap (λ n. n - 8 * length bytes) whole ∙ left
 
--- so bytes with a check word at their end are 32
+-- so bytes with a CRC at their end are 32
 pub fib_len : (bytes : List ℕ) → IsChecked bytes → length bytes ≡ 32
 fib_len bytes checked =
     let sixteen : 8 * length (drop 30 bytes) ≡ 16 =
@@ -143,7 +143,7 @@ check_word_below bytes =
     number_below (check_bits bytes) (turned_bits (divided (8 * length bytes) (dividend bytes))) in
     subst (λ (k : ℕ). check_word bytes < 2 ^ k) (check_len bytes) below
 
--- thirty bytes and their check word are checked
+-- thirty bytes and their CRC are checked
 pub checked_is : (bytes : List ℕ) → length bytes ≡ 30 → IsChecked (checked bytes)
 checked_is bytes h =
     let word = check_word bytes in
@@ -166,7 +166,7 @@ sealed_bytes bytes moved buf word h same fits bits written =
     ∙ word_behind bytes (big_bytes 2 word) h
     ∙ ap (λ w. bytes ++ big_bytes 2 w) (word_checked bytes word fits bits)
 
--- the check word written over the last two of thirty-two bytes
+-- the CRC written over the last two of thirty-two bytes
 pub sealed_row : (row buf : List ℕ) (word : ℕ) → length row ≡ 32 → word < 65536
     → bits_of 16 word ≡ check_bits (take 30 row)
     → buf ≡ word / 256 % 256 ∷ word % 256 ∷ drop 2 (take 2 (drop 30 row))
@@ -201,7 +201,7 @@ piece_into offset bytes piece is same =
     ap (λ n. drop n (drop offset bytes)) count ∙ drop-drop 32 offset bytes in
     ap₂ (λ xs ys. take offset bytes ++ (xs ++ ys)) same behind
 
--- the same where they get their check word there
+-- the same where they get their CRC there
 pub sealed_into : (offset word : ℕ) (bytes row copied buf : List ℕ) → length row ≡ 32 → copied ≡ row → word < 65536
     → bits_of 16 word ≡ check_bits (take 30 row)
     → buf ≡ word / 256 % 256 ∷ word % 256 ∷ drop 2 (take (length copied - 30) (drop 30 copied))

@@ -1,4 +1,4 @@
--- The check word of a FIB as a long division over lists of bits (EN 300 401 clause 5.2.1 and annex E).
+-- The CRC of a FIB as a long division over lists of bits (EN 300 401 clause 5.2.1 and annex E).
 -- A bit is 0 or 1, and the first bit of a list is the most significant one, which goes on air first.
 use Rattle.std.specs.Prelude.{◌≡◌, ℕ, zero, suc, ◌+◌, ◌-◌, ◌*◌, ◌%◌, ◌^◌, ◌<◌, List, [], ◌∷◌, ◌++◌, length, map, flat_map, take, drop, replicate}
 use Rattle.std.specs.Int.{bit_at}
@@ -31,7 +31,7 @@ abbrev pub without_leading : ℕ → List ℕ → List ℕ
 without_leading zero rest = rest
 without_leading (suc b) rest = plus rest generator
 
--- so many steps of the division; what is left is the remainder
+-- this many steps of the division; what is left is the remainder
 unfoldable pub divided : ℕ → List ℕ → List ℕ
 divided zero bits = bits
 divided (suc steps) [] = []
@@ -41,11 +41,11 @@ divided (suc steps) (b ∷ bits) = divided steps (without_leading b bits)
 abbrev pub dividend : List ℕ → List ℕ
 dividend bytes = plus (bits_of_bytes bytes ++ replicate 16 0) (replicate 16 1)
 
--- the check word's bits: those of the remainder, each turned
+-- the CRC's bits: those of the remainder, each turned
 abbrev pub check_bits : List ℕ → List ℕ
 check_bits bytes = map (λ b. 1 - b) (divided (8 * length bytes) (dividend bytes))
 
--- the number that bits spell, and so the check word as a number
+-- the number that bits spell, and so the CRC as a number
 abbrev pub number_of_bits : List ℕ → ℕ
 number_of_bits [] = 0
 number_of_bits (b ∷ bits) = b * 2 ^ length bits + number_of_bits bits
@@ -53,6 +53,6 @@ number_of_bits (b ∷ bits) = b * 2 ^ length bits + number_of_bits bits
 abbrev pub check_word : List ℕ → ℕ
 check_word bytes = number_of_bits (check_bits bytes)
 
--- of 32 bytes, the last two are the check word of the others
+-- of 32 bytes, the last two are the CRC of the others
 abbrev pub IsChecked : List ℕ → Type 0
 IsChecked bytes = bits_of_bytes (drop 30 bytes) ≡ check_bits (take 30 bytes)

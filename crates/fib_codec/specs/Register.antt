@@ -1,4 +1,4 @@
--- The register by which the check word is computed: sixteen bits, and a bit or more bytes of the message a step.
+-- The register by which the CRC is computed: sixteen bits, and a bit or more bytes of the message a step.
 use Rattle.std.specs.Prelude.{ℕ, zero, suc, ◌*◌, ◌%◌, ◌==◌, Bool, true, ◌&&◌, if◌then◌else◌, List, [], ◌∷◌, bit_xor}
 use Rattle.std.specs.Int.{bit_at}
 
@@ -17,7 +17,7 @@ abbrev pub after_all : List ℕ → ℕ → ℕ
 after_all [] register = register
 after_all (byte ∷ bytes) register = after_all bytes (after 8 byte register)
 
--- the register after so many bytes of zeros
+-- the register after this many bytes of zeros
 abbrev pub later : ℕ → ℕ → ℕ
 later zero register = register
 later (suc count) register = after 8 0 (later count register)

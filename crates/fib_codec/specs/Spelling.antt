@@ -156,7 +156,7 @@ figs_bytes figs = flat_map (λ (fig : Written). fig_bytes fig.head fig.entries) 
 abbrev pub filled : List ℕ → List ℕ
 filled bytes = if nat_lt (length bytes) 30 then bytes ++ 255 ∷ replicate (29 - length bytes) 0 else bytes
 
--- a FIB: thirty data bytes and their check word
+-- a FIB: thirty data bytes and their CRC
 abbrev pub checked : List ℕ → List ℕ
 checked bytes = bytes ++ big_bytes 2 (check_word bytes)
 

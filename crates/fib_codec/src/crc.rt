@@ -1,4 +1,4 @@
-//! The check word of a FIB, bit by bit, and by tables six bytes at a time (EN 300 401 clause 5.2.1).
+//! The CRC of a FIB, bit by bit, and by tables six bytes at a time (EN 300 401 clause 5.2.1).
 
 ghost use Rattle.std.specs.Prelude.{◌≡◌, ◌↔◌, [], ◌∷◌, IsTrue};
 ghost use Rattle.fib_codec.specs.Crc.{bits_of, check_bits, IsChecked};
@@ -25,7 +25,7 @@ fn byte_step_by_bits(mut register: u16, byte: u8) -> u16
     register
 }
 
-/// The check word of these bytes as it is sent, complemented: the same word as `crc16`, computed bit by bit.
+/// The CRC of these bytes as it is sent, complemented: the same word as `crc16`, computed bit by bit.
 pub fn crc16_by_bits(bytes: &[u8]) -> u16
     ensures { bits_of 16 result ≡ check_bits bytes.now }
 {
@@ -65,7 +65,7 @@ fn six_step(register: u16, a: u8, b: u8, c: u8, d: u8, e: u8, f: u8) -> u16
     behind ^ (slice_4(low ^ b) ^ slice_5(top ^ a))
 }
 
-/// The check word of these bytes as it is sent: the remainder of the long division by
+/// The CRC of these bytes as it is sent: the remainder of the long division by
 /// x^16 + x^12 + x^5 + 1, complemented.
 pub fn crc16(bytes: &[u8]) -> u16
     ensures { bits_of 16 result ≡ check_bits bytes.now }
@@ -82,7 +82,7 @@ pub fn crc16(bytes: &[u8]) -> u16
     bytes_step(register, rest) ^ 0xffff
 }
 
-/// Whether the last two of these 32 bytes are the check word of the others.
+/// Whether the last two of these 32 bytes are the CRC of the others.
 pub fn is_checked(fib: &[u8; 32]) -> bool
     ensures { IsTrue result ↔ IsChecked fib.now }
 {

@@ -1,4 +1,4 @@
-//! The tables of the check word: what each byte makes of an empty register, alone and with up to five bytes
+//! The tables of the CRC: what each byte makes of an empty register, alone and with up to five bytes
 //! of zeros behind it.
 
 ghost use Rattle.std.specs.Prelude.{◌≡◌};

@@ -27,7 +27,7 @@ impl Model for Data {
     ghost invariant = { λ d. IsBegun d.len d.bytes };
 }
 
-/// The FIB of these bytes, of which the last two become the check word of the others.
+/// The FIB of these bytes, of which the last two become the CRC of the others.
 fn with_crc(mut bytes: [u8; 32]) -> [u8; 32]
     requires { length bytes ≡ 32 }
     ensures { result ≡ checked (take 30 bytes) }
@@ -116,7 +116,7 @@ impl Data {
         self.bytes[place] += more;
     }
 
-    /// The 32 bytes of the FIB, of which the last two aren't its check word yet.
+    /// The 32 bytes of the FIB, of which the last two aren't its CRC yet.
     pub(crate) fn row(&self) -> &[u8; 32]
         ensures filled { take 30 result.now ≡ filled self.now }
         ensures whole { length result.now ≡ 32 }

@@ -154,7 +154,7 @@ impl Fib {
         self.bytes.push_two(1 + len as u8, head_byte(head));
     }
 
-    /// Makes the FIG that begins at a place of the data bytes so many bytes longer: those of an entry that the caller
+    /// Makes the FIG that begins at a place of the data bytes this many bytes longer: those of an entry that the caller
     /// appends next. It is for the last FIG that was begun, where there is room for the entry.
     pub fn lengthen_fig(&mut self, place: usize, more: u8)
         requires place { place < length self.old }
@@ -218,7 +218,7 @@ impl Fib {
         self.bytes.as_slice()
     }
 
-    /// The 32 bytes of the FIB as far as it is written, without its check word.
+    /// The 32 bytes of the FIB as far as it is written, without its CRC.
     pub(crate) fn row(&self) -> &[u8; 32]
         ensures filled { take 30 result.now ≡ filled self.now }
         ensures whole { length result.now ≡ 32 }
@@ -227,7 +227,7 @@ impl Fib {
     }
 
     /// The 32 bytes of the FIB: its FIGs, the end marker and zeros where there is room for them, and the
-    /// check word. In the grammar they are exactly the FIGs that were appended, in order; those with OE 1
+    /// CRC. In the grammar they are exactly the FIGs that were appended, in order; those with OE 1
     /// are there as FIGs that aren't looked into, and without such a one the FIB is valid.
     pub fn finish(self) -> [u8; 32]
         ensures spelled { result ≡ checked (filled self) }

@@ -52,7 +52,7 @@ fn write_at(bytes: &mut [u8], offset: usize, fib: &[u8; 32])
     bytes[offset..offset + 32].copy_from_slice(fib);
 }
 
-/// Writes the FIB of these bytes, of which the last two become the check word of the others, over the 32 bytes from an
+/// Writes the FIB of these bytes, of which the last two become the CRC of the others, over the 32 bytes from an
 /// offset on.
 fn write_sealed(bytes: &mut [u8], offset: usize, row: &[u8; 32])
     requires within { offset + 32 ≤ length bytes.old }
@@ -86,7 +86,7 @@ fn join<const LEN: usize>(fib: &mut [u8], fig: &[u8; LEN], plain: &[u8; 32])
     fib[LEN..30].copy_from_slice(&plain[..30 - LEN]);
 }
 
-/// Writes the check word of the first thirty bytes of a FIB behind them.
+/// Writes the CRC of the first thirty bytes of a FIB behind them.
 fn seal(fib: &mut [u8])
     requires { length fib.old ≡ 32 }
     ensures { fib.new ≡ checked (take 30 fib.old) }
@@ -147,7 +147,7 @@ impl FibFrame {
     }
 
     /// Writes a FIB of a FIG and of as many bytes of another FIB as thirty data bytes have room for behind it, with
-    /// their check word, over the one at this index, from 0.
+    /// their CRC, over the one at this index, from 0.
     pub fn join_fib<const LEN: usize>(&mut self, index: usize, fig: &[u8; LEN], plain: &[u8; 32])
         requires there { 32 * index + 32 ≤ length self.old }
         requires few { LEN ≤ 30 }

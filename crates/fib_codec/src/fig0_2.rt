@@ -66,7 +66,7 @@ fn head_len(long: bool) -> usize
     if long { LONG_HEAD_LEN } else { SHORT_HEAD_LEN }
 }
 
-/// How many bytes an entry takes, with an SId of 32 bits or of 16 and so many components.
+/// How many bytes an entry takes, with an SId of 32 bits or of 16 and this many components.
 pub fn len(long: bool, count: usize) -> usize
     requires { count ≤ 15 }
     ensures { result ≡ (if long then 5 + 2 * count else 3 + 2 * count) }

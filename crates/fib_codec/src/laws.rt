@@ -12,7 +12,7 @@ pub fn one_list()
     ensures { OneList }
 {}
 
-/// The law of lengths: bytes that hold a list of FIGs, with their check word, are 32.
+/// The law of lengths: bytes that hold a list of FIGs, with their CRC, are 32.
 pub fn fib_length()
     ensures { FibHas32Bytes }
 {}

@@ -1,11 +1,11 @@
 //! Fast Information Blocks as they go on air (EN 300 401 clauses 5.2.1 and 5.2.2): entries of FIG 0/0 to
-//! 0/3 are put into FIGs, FIGs into a FIB of 32 bytes, and its check word closes it.
+//! 0/3 are put into FIGs, FIGs into a FIB of 32 bytes, and its CRC closes it.
 //!
 //! Each FIG's entries have their layout in one file, `fig0_0` to `fig0_3`: their length, how they are encoded
 //! and decoded, and as the contract of `decode` the law that these agree. Readers call the same functions.
 //!
 //! The definitions that contracts cite stand in `specs/`: `Spelling` says how entries and FIGs are
-//! written, `Grammar` which FIGs 32 bytes hold, `Crc` what the check word is, apart from any table, and
+//! written, `Grammar` which FIGs 32 bytes hold, `Crc` what the CRC is, apart from any table, and
 //! `Heard` which entries a receiver hears in a FIB.
 #![tactic(auto)]
 

@@ -15,7 +15,7 @@ use Rattle.fib_reader.proofs.EntryFaults.{body_found, body_given}
 use Rattle.fib_reader.proofs.FaultSteps.{no_fault_in_nothing}
 use Rattle.fib_reader.proofs.FigLists.{fig_header, sound_fig, sound_figs, past_tests, complete_fig, no_fault_twice}
 
--- a fault of data bytes, whose check word is good
+-- a fault of data bytes, whose CRC is good
 abbrev pub IsDataFault : List ℕ → FibFault → Type 0
 IsDataFault bytes Crc = ⊥
 IsDataFault bytes (Overrun place) = IsOverrun bytes place

@@ -68,7 +68,7 @@ each_weaker : (P Q : Raw → Type 0) (xs : List Raw) → ((x : Raw) → P x → 
 each_weaker P Q [] f all = tt
 each_weaker P Q (x ∷ xs) f all = (f x all.0, each_weaker P Q xs f all.1)
 
--- so many numbers fit between two
+-- this many numbers fit between two
 few_between :
     (low high : ℕ) (xs : List Raw) → IsAscending identifier_of xs → Each (λ x. low ≤ identifier_of x) xs
     → Each (λ x. identifier_of x < high) xs → length xs ≤ high - low

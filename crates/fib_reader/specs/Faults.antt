@@ -70,7 +70,7 @@ pub record IsFigFault (bytes : List ℕ) (place : ℕ) : Type 0 where
 abbrev pub IsEntryFault : List ℕ → ℕ → Type 0
 IsEntryFault bytes place = ((rest : List ℕ) × StandsAt bytes place 0 rest) ⊎ IsFigFault bytes place
 
--- the check word comes before all others
+-- the CRC comes before all others
 abbrev pub IsFault : List ℕ → FibFault → Type 0
 IsFault bytes Crc = IsChecked bytes → ⊥
 IsFault bytes (Overrun place) = IsChecked bytes × IsOverrun (take 30 bytes) place

@@ -10,7 +10,7 @@ pub record IsKnownTo (l : Listening) (e : EnsembleInformation) : Type 0 where
   pub not_made : is_made l.awaited e ≡ false
   pub awaits : (e.change == 0) ≡ false → e.occurrence ≡ l.awaited
 
--- entries that were known still are, and at most so many are new
+-- entries that were known still are, and at most this many are new
 pub record HasGrown (most : ℕ) (old new : List Raw) : Type 0 where
   pub few : length new ≤ length old + most
   pub known : (raw : Raw) → is_known raw old ≡ true → is_known raw new ≡ true
@@ -19,7 +19,7 @@ pub record HasGrownBy (most : ℕ) (old new : Pictured) : Type 0 where
   pub services : HasGrown most old.services new.services
   pub packets : HasGrown most old.packets new.packets
 
--- no swap was made and none is awaited anew, and each picture has grown by so many entries of a kind at most
+-- no swap was made and none is awaited anew, and each picture has grown by this many entries of a kind at most
 pub record HasGrownFrom (most : ℕ) (old new : Listening) : Type 0 where
   pub tuned : new.tuned ≡ old.tuned
   pub awaited : new.awaited ≡ old.awaited

@@ -1,4 +1,4 @@
-//! The test of a FIB: its check word, and then its FIGs and entries from the front.
+//! The test of a FIB: its CRC, and then its FIGs and entries from the front.
 
 ghost use Rattle.std.specs.Prelude.{◌≡◌, ℕ, ◌+◌, ◌<◌, ◌≤◌, List, length, Ok, IfOk, IfErr};
 ghost use Rattle.fib_codec.specs.Grammar.{Fig, IsFib};
@@ -113,14 +113,14 @@ fn figs_fault_of(bytes: &[u8]) -> Option<FibFault>
     None
 }
 
-/// Checks a FIB: its check word, and then its FIGs from the front to the end of the data bytes or to an
+/// Checks a FIB: its CRC, and then its FIGs from the front to the end of the data bytes or to an
 /// end marker in a header's place (EN 300 401 clauses 5.2.1 and 5.2.2). Where all is well, the FIGs are
 /// lent in order.
 ///
 /// FIGs of types 1 to 7, of extensions above 3 and of other ensembles aren't looked into. Those of
 /// extensions 0 to 3 must be whole entries, and FIG 0/0 exactly one with a CIF count in range; besides
 /// that every value of a field is good. Of several faults the first is told:
-/// - `Crc`: the last two bytes aren't the check word of the others;
+/// - `Crc`: the last two bytes aren't the CRC of the others;
 /// - `Overrun`, at the header of a FIG that is longer than the data bytes that are left;
 /// - `Entry`, at the first byte of an entry at fault, or at the header of a FIG of type 0 without a second byte.
 pub fn check(bytes: &[u8; 32]) -> Result<Figs<'_>, FibFault>

@@ -105,7 +105,7 @@ impl EntryTable {
         }
     }
 
-    /// How many entries are new where this one is kept after others, of which so many were new at most; None where
+    /// How many entries are new where this one is kept after others, of which this many were new at most; None where
     /// there may be no room for it.
     pub(crate) fn new_members(&self, others: usize, entry: &RawEntry<'_>) -> Option<usize>
         ensures known { IfSome result (λ all. is_known entry.now self.now ≡ true → all ≡ others) }

@@ -2,11 +2,11 @@
 
 use thiserror::Error;
 
-/// Why 32 bytes are no FIB. Of several faults the first is told: the check word before all others, then from
+/// Why 32 bytes are no FIB. Of several faults the first is told: the CRC before all others, then from
 /// the front. Places are byte numbers in the FIB, from 0.
 #[derive(Clone, Copy, Debug, PartialEq, Eq, Error)]
 pub enum FibFault {
-    /// The last two bytes aren't the check word of the thirty before them (clause 5.2.1).
+    /// The last two bytes aren't the CRC of the thirty before them (clause 5.2.1).
     #[error("Crc")]
     Crc,
     /// The FIG whose header stands at this place is longer than the data bytes that are left.

@@ -207,7 +207,7 @@ impl Listener {
         true
     }
 
-    /// How many members would be new where this entry is heard after others, of which so many were new; None where
+    /// How many members would be new where this entry is heard after others, of which this many were new; None where
     /// there may be no room for it, and at ensemble information that it does not know.
     fn new_at_entry(&self, next: bool, others: usize, entry: &RawEntry<'_>) -> Option<usize>
         ensures { IfSome result (λ all.

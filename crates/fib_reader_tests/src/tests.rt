@@ -5,7 +5,7 @@ use fib_codec::crc16;
 mod hearing;
 mod reading;
 
-/// The FIB of these data bytes, which zeros follow up to the thirtieth, with its check word.
+/// The FIB of these data bytes, which zeros follow up to the thirtieth, with its CRC.
 fn fib_of(data: &[u8]) -> [u8; 32] {
     let mut filled = [0u8; 30];
     for place in 0..30usize {

@@ -4,7 +4,7 @@ ghost use Rattle.std.specs.Prelude.{◌≡◌};
 ghost use Rattle.listings.specs.Frame.{frame_of, page_or_fault, sent};
 
 use command_line::FrameRequest;
-use console::ending::{Failure, Status};
+use console::exit::{Failure, Status};
 use console::files::Files;
 use console::hexadecimal::digits_of_fib;
 use fib_carousel::{page, pages};

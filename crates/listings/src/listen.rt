@@ -3,7 +3,7 @@
 ghost use Rattle.listings.specs.Stream.{HearsStream};
 
 use crate::listing::print_entry;
-use console::ending::{Failure, Status};
+use console::exit::{Failure, Status};
 use console::files::Files;
 use fib_reader::{ListenFault, Listener, Picture};
 use std::alloc::Global;
@@ -73,7 +73,7 @@ pub fn listen_to(stream: &[u8]) -> Result<Heard, StreamFault>
     Ok(Heard { damaged, listener })
 }
 
-/// Prints what was heard of so many FIBs.
+/// Prints what was heard of this many FIBs.
 fn print_heard<W: Write>(fibs: usize, heard: &Heard, out: &mut W) -> io::Result<()> {
     let damaged = heard.damaged;
     writeln!(out, "fibs {fibs} damaged {damaged}")?;

@@ -1,3 +1,5 @@
+-- Each bit rate has capacity units, and a size in capacity units belongs to one bit rate.
+
 use Rattle.std.proofs.Common.{◌≡◌, ℕ, ◌*◌, ◌/◌, ◌%◌, ◌<◌, Bool, true, false, cond, eqb, sym, ap, ◌∙◌, arith}
 use Rattle.std.proofs.Math.Nat.{mul-div_cancel_left}
 use Rattle.mux_eep.specs.declared.sizes.EepSet.{EepSet}

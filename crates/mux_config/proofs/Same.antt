@@ -1,3 +1,5 @@
+-- What the tests of equality find the same is equal: parts, lists of them, and whole configurations.
+
 use Rattle.std.proofs.Common.{◌≡◌, ℕ, ◌↔◌, Bool, true, false, not, ◌&&◌, eqb, List, [], ◌∷◌, map, refl, sym, ap, subst}
 use Rattle.std.proofs.lemmas.Bool.{false≢true, eqb-true, eq-eqb}
 use Rattle.mux_eep.specs.declared.sizes.EepSet.{EepSet}

@@ -1,3 +1,5 @@
+-- Entries tell configurations apart: where the facts are the same, so is what they speak of.
+
 use Rattle.std.proofs.Common.{◌≡◌, ℕ, ◌-◌, Bool, true, false, List, [], ◌∷◌, ◌++◌, map, refl, sym, ap, ◌∙◌, subst, None, arith}
 use Rattle.std.proofs.lemmas.Bool.{false≢true}
 use Rattle.mux_eep.specs.declared.sizes.EepSet.{EepSet}

@@ -44,10 +44,10 @@ impl Member for Sub {
             return Err(RecordFault::Order);
         }
         let start_place = reader.place();
-        let start = reader.word()?;
+        let start = reader.u16()?;
         let protection = reader.protection()?;
         let rate_place = reader.place();
-        let kbits = reader.word()?;
+        let kbits = reader.u16()?;
         let Ok(size) = size_of(protection, kbits) else {
             return Err(RecordFault::Field(rate_place));
         };
@@ -109,7 +109,7 @@ impl Member for Packet {
         let dg = reader.flag()?;
         let ty = reader.sc_ty()?;
         let sub = reader.sub_id()?;
-        let address = reader.word_within(1, 1023)?;
+        let address = reader.u16_within(1, 1023)?;
         Ok(Packet {
             scid,
             dg,

@@ -8,7 +8,7 @@ ghost use Rattle.mux_config.specs.Spelling.{sub_bytes, service_bytes, packet_byt
 ghost use Rattle.mux_config.specs.Reading.{config_at};
 
 use crate::config::Config;
-use byte_fields::{put_component, put_protection, put_sid, put_word};
+use byte_fields::{put_component, put_protection, put_sid, put_u16};
 use mux_types::{Component, Packet, Service, Sub};
 use std::alloc::{AllocError, Global};
 
@@ -28,9 +28,9 @@ impl Spelled for Sub {
 
     fn put(&self, out: &mut Vec<u8>) -> Result<(), AllocError> {
         out.push(self.id.get())?;
-        put_word(out, self.start)?;
+        put_u16(out, self.start)?;
         put_protection(out, self.protection)?;
-        put_word(out, self.kbits)
+        put_u16(out, self.kbits)
     }
 }
 
@@ -56,9 +56,9 @@ impl Spelled for Packet {
     ghost text = { packet_bytes };
 
     fn put(&self, out: &mut Vec<u8>) -> Result<(), AllocError> {
-        put_word(out, self.scid.get())?;
+        put_u16(out, self.scid.get())?;
         out.extend_from_slice(&[u8::from(self.dg), self.ty.get(), self.sub.get()])?;
-        put_word(out, self.address)
+        put_u16(out, self.address)
     }
 }
 

@@ -21,7 +21,7 @@ walked xs i le = drop_of_length-le xs le
 pub same_step : {T : Type 0} (same : T → T → Bool) (xs ys : List T) (i : ℕ) (x y : T) → slice_get xs i ≡ Some x → slice_get ys i ≡ Some y → is_same_list same (drop i xs) (drop i ys) ≡ (same x y && is_same_list same (drop (i + 1) xs) (drop (i + 1) ys))
 same_step same xs ys i x y e f = rw (cut xs i x e, cut ys i y f) refl
 
--- the walk so far settles nothing, and then goes on or ends
+-- the walk so far settles nothing, and then continues or ends
 pub same_more : {T : Type 0} (same : T → T → Bool) (xs ys : List T) (i : ℕ) (x y : T) (b : Bool) → is_same_list same (drop i xs) (drop i ys) ≡ b → slice_get xs i ≡ Some x → slice_get ys i ≡ Some y → same x y ≡ true → is_same_list same (drop (i + 1) xs) (drop (i + 1) ys) ≡ b
 same_more same xs ys i x y b left e f here =
     ap (λ (t : Bool). t && is_same_list same (drop (i + 1) xs) (drop (i + 1) ys)) (sym here) ∙ sym (same_step same xs ys i x y e f) ∙ left

@@ -107,7 +107,7 @@ impl<T: Copy + Drop, const CAP: usize> BoundedVec<T, CAP> {
         self.extend(&old.as_slice()[place + 1..]);
     }
 
-    /// Keeps so many of the first values.
+    /// Keeps this many of the first values.
     fn truncate(&mut self, len: usize)
         requires { len ≤ length self.old }
         ensures { self.new ≡ take len self.old }

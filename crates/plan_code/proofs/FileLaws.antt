@@ -201,7 +201,7 @@ line_parsing total = record {
   again = λ l rest formed. ok_read 0 _ (l, rest) (line_again total l rest formed);
 }
 
--- what was read after these items is so many more
+-- what was read after these items is this many more
 pub record AreItemsRead {T : Type 0} (spell : T → List ℕ) (P : T → Type 0) (before : List T) (count : ℕ) (bytes : List ℕ) (x : List T × List ℕ) : Type 0 where
   pub more : List T
   pub is : x.0 ≡ before ++ more

@@ -102,7 +102,7 @@ byte_small bytes n rest fits f = let here : IsBytes (n ∷ rest) = subst IsBytes
 abbrev counters_of : ℕ → Counters
 counters_of n = record { 0 = n }
 
--- what was read is a label at `low` or later, where the table has so many configurations
+-- what was read is a label at `low` or later, where the table has this many configurations
 pub record IsLabelRead (count low : ℕ) (bytes : List ℕ) (x : Label × List ℕ) : Type 0 where
   pub front : Front bytes (label_bytes x.0) x.1
   pub formed : IsLabel count x.0

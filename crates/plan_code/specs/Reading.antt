@@ -127,7 +127,7 @@ config_in total bytes = read_from (place total bytes) (config_at bytes)
 abbrev pub line_in : (total : ℕ) → List ℕ → Parses Line
 line_in total bytes = in_file (line_from total bytes)
 
--- so many items after those that were read before
+-- this many items after those that were read before
 unfoldable pub items_at : {T : Type 0} → (item_at : List ℕ → Parses T) → (before : List T) → (count : ℕ) → List ℕ → Parses (List T)
 items_at item_at before zero bytes = Ok (before, bytes)
 items_at item_at before (suc count) bytes = do

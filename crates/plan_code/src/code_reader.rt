@@ -25,7 +25,7 @@ fn magic(reader: &mut Reader) -> Result<u32, CodeFault>
     ensures read { GivesNext (λ n. n) result reader.new (magic_at reader.old.rest) }
     ensures total { reader.new.total ≡ reader.old.total }
 {
-    let letters = reader.long()?;
+    let letters = reader.u32()?;
     if letters != MAGIC {
         return Err(CodeFault::Magic);
     }
@@ -55,7 +55,7 @@ fn plan(reader: &mut Reader) -> Result<Plan, CodeFault>
     ensures total { reader.new.total ≡ reader.old.total }
 {
     let mode = mode(reader)?;
-    let eid = reader.word()?;
+    let eid = reader.u16()?;
     let period = reader.byte_within(1, 60)?;
     let notice = reader.byte_within(12, 248)?;
     let budget = reader.byte_within(1, 255)?;
@@ -76,7 +76,7 @@ fn count(reader: &mut Reader, limit: u16) -> Result<u16, CodeFault>
     ensures some { IfOk result (λ n. 1 ≤ n) }
 {
     let place = reader.place();
-    let number = reader.word()?;
+    let number = reader.u16()?;
     if number == 0 {
         return Err(CodeFault::Field(place));
     }
@@ -156,7 +156,7 @@ impl Item for Line {
     }
 }
 
-/// Reads so many items.
+/// Reads this many items.
 fn items<T: Item>(alloc: Global, reader: &mut Reader, count: u16) -> Result<Vec<T>, CodeFault>
     ensures read { GivesNext (λ v. v.items) result reader.new
         (items_at (T.item_at reader.old.total) [] count reader.old.rest) }
@@ -170,7 +170,7 @@ fn items<T: Item>(alloc: Global, reader: &mut Reader, count: u16) -> Result<Vec<
     Ok(items)
 }
 
-/// Reads so many labels, where the table has so many configurations.
+/// Reads this many labels, where the table has this many configurations.
 fn labels(
     alloc: Global,
     reader: &mut Reader,

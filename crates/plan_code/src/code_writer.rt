@@ -16,7 +16,7 @@ use crate::instr::{Instr, Line};
 use crate::label::{Label, Swap};
 use crate::opcode::Opcode;
 use crate::plan::Plan;
-use byte_fields::{put_component, put_long, put_protection, put_sid, put_word};
+use byte_fields::{put_component, put_protection, put_sid, put_u16, put_u32};
 use fib_codec::Mode;
 use mux_config::record_writer::put_config;
 use mux_config::{Carrier, Config, Edit, NewSub, Packet};
@@ -38,7 +38,7 @@ fn put_plan(out: &mut Vec<u8>, plan: Plan) -> Result<(), AllocError>
     ensures { OnOk result (out.new.items ≡ out.old.items ++ plan_bytes plan) }
 {
     put_mode(out, plan.mode)?;
-    put_word(out, plan.eid)?;
+    put_u16(out, plan.eid)?;
     out.extend_from_slice(&[plan.period, plan.notice, plan.budget])
 }
 
@@ -48,18 +48,18 @@ fn put_swap(out: &mut Vec<u8>, swap: Swap) -> Result<(), AllocError>
     match swap {
         Swap::Idle => {
             out.push(0)?;
-            put_word(out, 0)?;
-            put_word(out, 0)
+            put_u16(out, 0)?;
+            put_u16(out, 0)
         }
         Swap::Within(low, high) => {
             out.push(1)?;
-            put_word(out, low)?;
-            put_word(out, high)
+            put_u16(out, low)?;
+            put_u16(out, high)
         }
         Swap::Perhaps(high) => {
             out.push(2)?;
-            put_word(out, 0)?;
-            put_word(out, high)
+            put_u16(out, 0)?;
+            put_u16(out, high)
         }
     }
 }
@@ -69,17 +69,17 @@ fn put_new_sub(out: &mut Vec<u8>, new_sub: NewSub) -> Result<(), AllocError>
 {
     let sub = new_sub.get();
     out.push(sub.id.get())?;
-    put_word(out, sub.start)?;
+    put_u16(out, sub.start)?;
     put_protection(out, sub.protection)?;
-    put_word(out, sub.kbits)
+    put_u16(out, sub.kbits)
 }
 
 fn put_new_packet(out: &mut Vec<u8>, packet: Packet) -> Result<(), AllocError>
     ensures { OnOk result (out.new.items ≡ out.old.items ++ packet_bytes packet) }
 {
-    put_word(out, packet.scid.get())?;
+    put_u16(out, packet.scid.get())?;
     out.extend_from_slice(&[u8::from(packet.dg), packet.ty.get(), packet.sub.get()])?;
-    put_word(out, packet.address)
+    put_u16(out, packet.address)
 }
 
 fn put_carrier(out: &mut Vec<u8>, carrier: Carrier) -> Result<(), AllocError>
@@ -88,11 +88,11 @@ fn put_carrier(out: &mut Vec<u8>, carrier: Carrier) -> Result<(), AllocError>
     match carrier {
         Carrier::Sub(id) => {
             out.push(0)?;
-            put_word(out, u16::from(id.get()))
+            put_u16(out, u16::from(id.get()))
         }
         Carrier::Packet(scid) => {
             out.push(1)?;
-            put_word(out, scid.get())
+            put_u16(out, scid.get())
         }
     }
 }
@@ -116,7 +116,7 @@ fn put_with_word(out: &mut Vec<u8>, opcode: Opcode, word: u16) -> Result<(), All
         (out.new.items ≡ out.old.items ++ opcode_byte opcode ∷ word_bytes word) }
 {
     put_opcode(out, opcode)?;
-    put_word(out, word)
+    put_u16(out, word)
 }
 
 /// Writes an opcode, and operands of one and of two bytes.
@@ -125,7 +125,7 @@ fn put_with_both(out: &mut Vec<u8>, opcode: Opcode, byte: u8, word: u16) -> Resu
         (out.new.items ≡ out.old.items ++ opcode_byte opcode ∷ byte ∷ word_bytes word) }
 {
     put_with_byte(out, opcode, byte)?;
-    put_word(out, word)
+    put_u16(out, word)
 }
 
 fn put_edit(out: &mut Vec<u8>, edit: Edit) -> Result<(), AllocError>
@@ -174,7 +174,7 @@ fn put_instr(out: &mut Vec<u8>, instr: Instr) -> Result<(), AllocError>
         Instr::Wait(frames) => put_with_word(out, Opcode::Wait, frames.get()),
         Instr::Until(frame) => {
             put_opcode(out, Opcode::Until)?;
-            put_long(out, frame.get())
+            put_u32(out, frame.get())
         }
         Instr::WaitContact { contact, closed } => {
             put_with_byte(out, Opcode::WaitContact, contact.get())?;
@@ -221,7 +221,7 @@ fn put_lines(out: &mut Vec<u8>, lines: &[Line]) -> Result<(), AllocError>
     ensures { OnOk result (out.new.items ≡ out.old.items ++ flat_map line_bytes lines.now) }
 {
     for line in lines {
-        put_word(out, line.number)?;
+        put_u16(out, line.number)?;
         put_instr(out, line.instr)?;
     }
     Ok(())
@@ -230,9 +230,9 @@ fn put_lines(out: &mut Vec<u8>, lines: &[Line]) -> Result<(), AllocError>
 fn put_label(out: &mut Vec<u8>, label: Label) -> Result<(), AllocError>
     ensures { OnOk result (out.new.items ≡ out.old.items ++ label_bytes label) }
 {
-    put_word(out, label.pc)?;
-    put_word(out, label.cur)?;
-    put_word(out, label.next)?;
+    put_u16(out, label.pc)?;
+    put_u16(out, label.cur)?;
+    put_u16(out, label.next)?;
     put_swap(out, label.pending)?;
     let Counters(counters) = label.counters;
     out.extend_from_slice(&[counters, label.cost])
@@ -244,11 +244,11 @@ fn file(alloc: Global, code: &Code) -> Result<Vec<u8>, AllocError>
 {
     let plan = code.plan();
     let mut out = Vec::new(alloc);
-    put_long(&mut out, MAGIC)?;
+    put_u32(&mut out, MAGIC)?;
     put_plan(&mut out, plan)?;
-    put_word(&mut out, code.configs().len() as u16)?;
-    put_word(&mut out, code.labels().len() as u16)?;
-    put_word(&mut out, code.lines().len() as u16)?;
+    put_u16(&mut out, code.configs().len() as u16)?;
+    put_u16(&mut out, code.labels().len() as u16)?;
+    put_u16(&mut out, code.lines().len() as u16)?;
     put_configs(&mut out, code.configs())?;
     put_labels(&mut out, code.labels())?;
     put_lines(&mut out, code.lines())?;

@@ -34,7 +34,7 @@ pub(crate) fn start(reader: &mut Reader) -> Result<StartAddress, RecordFault>
     ensures total { reader.new.total ≡ reader.old.total }
 {
     let place = reader.place();
-    let number = reader.word()?;
+    let number = reader.u16()?;
     StartAddress::new(number).ok_or(RecordFault::Field(place))
 }
 
@@ -44,7 +44,7 @@ pub(crate) fn frames(reader: &mut Reader) -> Result<Frames, RecordFault>
     ensures total { reader.new.total ≡ reader.old.total }
 {
     let place = reader.place();
-    let number = reader.word()?;
+    let number = reader.u16()?;
     Frames::new(number).ok_or(RecordFault::Field(place))
 }
 
@@ -54,7 +54,7 @@ pub(crate) fn times(reader: &mut Reader) -> Result<Times, RecordFault>
     ensures total { reader.new.total ≡ reader.old.total }
 {
     let place = reader.place();
-    let number = reader.word()?;
+    let number = reader.u16()?;
     Times::new(number).ok_or(RecordFault::Field(place))
 }
 
@@ -64,7 +64,7 @@ pub(crate) fn delay(reader: &mut Reader) -> Result<Delay, RecordFault>
     ensures total { reader.new.total ≡ reader.old.total }
 {
     let place = reader.place();
-    let number = reader.word()?;
+    let number = reader.u16()?;
     Delay::new(number).ok_or(RecordFault::Field(place))
 }
 
@@ -74,7 +74,7 @@ pub(crate) fn day_frame(reader: &mut Reader) -> Result<DayFrame, RecordFault>
     ensures total { reader.new.total ≡ reader.old.total }
 {
     let place = reader.place();
-    let number = reader.long()?;
+    let number = reader.u32()?;
     DayFrame::new(number).ok_or(RecordFault::Field(place))
 }
 
@@ -86,7 +86,7 @@ pub(crate) fn new_sub(reader: &mut Reader) -> Result<NewSub, RecordFault>
     let id = reader.sub_id()?;
     let start = start(reader)?;
     let protection = reader.protection()?;
-    let kbits = reader.word()?;
+    let kbits = reader.u16()?;
     Ok(NewSub::from_parts(id, start, protection, kbits))
 }
 
@@ -99,7 +99,7 @@ pub(crate) fn new_packet(reader: &mut Reader) -> Result<Packet, RecordFault>
     let dg = reader.flag()?;
     let ty = reader.sc_ty()?;
     let sub = reader.sub_id()?;
-    let address = reader.word()?;
+    let address = reader.u16()?;
     Ok(Packet {
         scid,
         dg,
@@ -115,7 +115,7 @@ fn wide_sub_id(reader: &mut Reader) -> Result<SubId, RecordFault>
     ensures total { reader.new.total ≡ reader.old.total }
 {
     let at = reader.place();
-    let word = reader.word()?;
+    let word = reader.u16()?;
     if word > 63 {
         return Err(RecordFault::Field(at));
     }

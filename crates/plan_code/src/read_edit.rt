@@ -42,7 +42,7 @@ pub(crate) fn rate_sub(reader: &mut Reader) -> Result<Edit, RecordFault>
     ensures total { reader.new.total ≡ reader.old.total }
 {
     let id = reader.sub_id()?;
-    let kbits = reader.word()?;
+    let kbits = reader.u16()?;
     Ok(Edit::RateSub { id, kbits })
 }
 

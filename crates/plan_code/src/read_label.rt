@@ -16,18 +16,18 @@ fn swap(reader: &mut Reader) -> Result<Swap, RecordFault>
 {
     match reader.byte_within(0, 2)? {
         0 => {
-            reader.word_within(0, 0)?;
-            reader.word_within(0, 0)?;
+            reader.u16_within(0, 0)?;
+            reader.u16_within(0, 0)?;
             Ok(Swap::Idle)
         }
         1 => {
-            let low = reader.word_within(1, u16::MAX)?;
-            let high = reader.word_within(low, u16::MAX)?;
+            let low = reader.u16_within(1, u16::MAX)?;
+            let high = reader.u16_within(low, u16::MAX)?;
             Ok(Swap::Within(low, high))
         }
         _ => {
-            reader.word_within(0, 0)?;
-            let high = reader.word_within(1, u16::MAX)?;
+            reader.u16_within(0, 0)?;
+            let high = reader.u16_within(1, u16::MAX)?;
             Ok(Swap::Perhaps(high))
         }
     }
@@ -40,14 +40,14 @@ fn place_from(reader: &mut Reader, low: u32) -> Result<u16, RecordFault>
     ensures total { reader.new.total ≡ reader.old.total }
 {
     let place = reader.place();
-    let word = reader.word()?;
+    let word = reader.u16()?;
     if u32::from(word) < low {
         return Err(RecordFault::Field(place));
     }
     Ok(word)
 }
 
-/// Reads a label at `low` or later, where there are so many configurations.
+/// Reads a label at `low` or later, where there are this many configurations.
 #[tactic(auto, unfolding(crate::specs::Parts::label_from))]
 pub(crate) fn label(reader: &mut Reader, configs: u16, low: u32) -> Result<Label, RecordFault>
     requires { 1 ≤ configs }
@@ -56,8 +56,8 @@ pub(crate) fn label(reader: &mut Reader, configs: u16, low: u32) -> Result<Label
     ensures total { reader.new.total ≡ reader.old.total }
 {
     let pc = place_from(reader, low)?;
-    let cur = reader.word_within(0, configs - 1)?;
-    let next = reader.word_within(0, configs - 1)?;
+    let cur = reader.u16_within(0, configs - 1)?;
+    let next = reader.u16_within(0, configs - 1)?;
     let pending = swap(reader)?;
     let counters = Counters(reader.byte()?);
     let cost = reader.byte_within(1, u8::MAX)?;

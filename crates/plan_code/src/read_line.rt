@@ -55,7 +55,7 @@ fn commit_at(reader: &mut Reader) -> Result<Instr, RecordFault>
     ensures read { Takes (commit_at_at reader.old.rest) result reader.new }
     ensures total { reader.new.total ≡ reader.old.total }
 {
-    let count = reader.word()?;
+    let count = reader.u16()?;
     Ok(Instr::CommitAt(count))
 }
 
@@ -65,7 +65,7 @@ fn test(reader: &mut Reader) -> Result<Instr, RecordFault>
     ensures total { reader.new.total ≡ reader.old.total }
 {
     let contact = contact(reader)?;
-    let target = reader.word()?;
+    let target = reader.u16()?;
     Ok(Instr::Test { contact, target })
 }
 
@@ -74,7 +74,7 @@ fn jump(reader: &mut Reader) -> Result<Instr, RecordFault>
     ensures read { Takes (jump_at reader.old.rest) result reader.new }
     ensures total { reader.new.total ≡ reader.old.total }
 {
-    let target = reader.word()?;
+    let target = reader.u16()?;
     Ok(Instr::Jump(target))
 }
 
@@ -94,7 +94,7 @@ fn loop_back(reader: &mut Reader) -> Result<Instr, RecordFault>
     ensures total { reader.new.total ≡ reader.old.total }
 {
     let counter = counter(reader)?;
-    let target = reader.word()?;
+    let target = reader.u16()?;
     Ok(Instr::Loop { counter, target })
 }
 
@@ -159,7 +159,7 @@ pub(crate) fn line(reader: &mut Reader) -> Result<Line, RecordFault>
     ensures read { Takes (line_from reader.old.total reader.old.rest) result reader.new }
     ensures total { reader.new.total ≡ reader.old.total }
 {
-    let number = reader.word()?;
+    let number = reader.u16()?;
     let instr = instr(reader)?;
     Ok(Line { number, instr })
 }

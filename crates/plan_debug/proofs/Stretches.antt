@@ -27,7 +27,7 @@ announced_join p s (Frame ∷ es) more =
     ap (λ (l : List Announcement). listed (frame_announcement p s) ++ l) (announced_join p (after_frame p s) es more)
     ∙ sym (append_assoc (listed (frame_announcement p s)) (announced p (after_frame p s) es) (announced p (run p (after_frame p s) es) more))
 
--- ---- so many frames of a command were played
+-- ---- this many frames of a command were played
 
 pub record IsStretch (old : Playing) (before : List Announcement) (stop : Option ℕ) (command : Command) (n : ℕ) (player : Playing) (log : List Announcement) (last : List ℕ) (ended : Bool) : Type 0 where
   pub within : n ≤ most_frames command

@@ -22,14 +22,14 @@ pub record Debugging : Type 0 where
 
 -- ---- events
 
--- so many frames
+-- this many frames
 abbrev pub frames : ℕ → List Event
 frames n = replicate n Frame
 
 abbrev pub after_frames : Program → State → ℕ → State
 after_frames p s n = run p s (frames n)
 
--- what a command stands for, where it plays so many frames
+-- what a command stands for, where it plays this many frames
 abbrev pub events_of : Command → ℕ → List Event
 events_of (Contact c closed) n = ContactEvent c closed ∷ []
 events_of (Run most) n = frames n
@@ -71,7 +71,7 @@ EndsAt p stop command s (suc n) =
     let after = after_frames p s (suc n) in
     Ends stop command before.pc after.pc (line_at p after.pc)
 
--- a command plays so many frames: up to and with the first that ends it, and at most as many as it may
+-- a command plays this many frames: up to and with the first that ends it, and at most as many as it may
 pub record IsCount (p : Program) (stop : Option ℕ) (command : Command) (s : State) (n : ℕ) : Type 0 where
   pub within : n ≤ most_frames command
   pub none_before : (m : ℕ) → m < n → EndsAt p stop command s m → ⊥
@@ -101,7 +101,7 @@ stop_after (Break line) stop = Some line
 stop_after Clear stop = None
 stop_after Show stop = stop
 
--- the bytes of the last of so many frames
+-- the bytes of the last of this many frames
 abbrev pub last_bytes : Program → State → ℕ → Option (List ℕ)
 last_bytes p s zero = None
 last_bytes p s (suc n) = Some (frame_bytes p (after_frames p s n))

@@ -50,7 +50,7 @@ HoldsOneList = (text : List ℕ) (steps others : List Step) → Holds text steps
 
 -- ---- events
 
--- the events of a step: one contact change, or so many frames
+-- the events of a step: one contact change, or this many frames
 abbrev pub events_of_step : Step → List Event
 events_of_step (Contact c closed) = ContactChanges c closed ∷ []
 events_of_step (Frames n) = replicate n Frame

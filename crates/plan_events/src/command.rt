@@ -7,7 +7,7 @@ use plan_code::ContactId;
 pub enum Command {
     /// Closes a contact, or opens it where the flag is false; no frame is played.
     Contact(ContactId, bool),
-    /// Plays frames up to one that meets the break line, at most so many. A frame meets it where the place of the next
+    /// Plays frames up to one that meets the break line, at most this many. A frame meets it where the place of the next
     /// instruction has changed in it, and is in that line after it.
     Run(u32),
     /// Plays frames up to one in which the place of the next instruction changes, at most 5,000.

@@ -7,6 +7,6 @@ use plan_code::ContactId;
 pub enum Step {
     /// `contact C closed`, or `contact C open` where the flag is false.
     Contact(ContactId, bool),
-    /// `frames N`: so many frames one after another, 1 to 3,600,000.
+    /// `frames N`: this many frames one after another, 1 to 3,600,000.
     Frames(u32),
 }

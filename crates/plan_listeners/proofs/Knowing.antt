@@ -73,7 +73,7 @@ begun c n m C N M awaited l none h =
     let empty : IsPartial (whole_of m) M blank = weaker (whole_of m) (λ x. ⊥) M blank none (empty_is_partial (whole_of m)) in
     record { is_tuned = h.is_tuned; current = h.current; next = subst (λ (p : Pictured). IsPartial (whole_of m) M p) (sym h.next) empty; awaits = h.awaits }
 
--- what is kept of the next picture where a notice goes on
+-- what is kept of the next picture where a notice continues
 abbrev pub Still : Plan → Option ℕ → (Raw → Type 0) → Raw → Type 0
 Still plan left N x = (is_first_noticed plan.notice left ≡ false) × N x
 

@@ -1,4 +1,4 @@
--- A typed code can always go on.
+-- A typed code can always continue.
 use Rattle.std.proofs.Common.{◌≡◌, ℕ, ◌<◌, ◌≤◌, Bool, true, false, cond, [], ◌∷◌, Option, Some, None, refl, ap, ◌∙◌, arith}
 use Rattle.mux_config.specs.Configuration.{Configuration}
 use Rattle.fib_carousel.specs.Pages.{page_set, rounds}

@@ -6,7 +6,7 @@ use Rattle.plan_runs.specs.Frames.{is_running, Executes, burst, burst_steps}
 use Rattle.plan_runs.proofs.Bursts.{bursts_are_one}
 use Rattle.plan_machine.specs.Positions.{CanRun}
 
--- so many instructions have led from the first state to this one, and the rest of the frame's is still to come
+-- this many instructions have led from the first state to this one, and the rest of the frame's is still to come
 pub record Remains (p : Program) (first : State) (steps : ℕ) (s : State) : Type 0 where
   pub left : ℕ
   pub counted : steps + left ≡ burst_steps p.plan.budget p first

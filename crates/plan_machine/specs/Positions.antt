@@ -41,6 +41,6 @@ pub record CanGoOn (p : Program) (s : State) : Type 0 where
   pub sent : CanBeSent p.plan (shown p s)
   pub few : sent_rounds p.plan (shown p s) ≤ 60
 
--- a typed code can always go on
+-- a typed code can always continue
 abbrev pub TypedCodeGoesOn : Type 0
 TypedCodeGoesOn = (p : Program) (s : State) → IsPlayed p s → CanGoOn p s

@@ -48,7 +48,7 @@ fn day_after(day: u32) -> u32
     ((u64::from(day) + 1) % u64::from(FRAMES_A_DAY)) as u32
 }
 
-/// The page after page k, where there are so many pages, at most 256: page 0 again after the last.
+/// The page after page k, where there are this many pages, at most 256: page 0 again after the last.
 pub fn page_after(pages: usize, page: u8) -> u8
     requires { pages ≤ 256 }
     ensures { result ≡ page_after pages page }
@@ -74,7 +74,7 @@ pub fn pass<S: Store>(turn: u8, machine: &mut Machine<S>)
     machine.turn = turn;
 }
 
-/// Ends a frame whose page set takes so many pages, at most 256: the next CIF count and the next frame of the day, one
+/// Ends a frame whose page set takes this many pages, at most 256: the next CIF count and the next frame of the day, one
 /// frame fewer until a pending swap and of a wait, and the next page in turn.
 pub fn advance<S: Store>(plan: &Plan, rounds: usize, machine: &mut Machine<S>)
     requires rounds { rounds ≡ sent_rounds plan.now (state_of S.content machine.old) }

@@ -40,7 +40,7 @@ fn commit_at<S: Store>(plan: &Plan, count: u16, machine: &mut Machine<S>)
     machine.pc += 1;
 }
 
-/// Waits for the swap where one is pending; else goes on.
+/// Waits for the swap where one is pending; else continues.
 fn settle<S: Store>(plan: &Plan, machine: &mut Machine<S>)
     requires { machine.old.pc < 65535 }
     ensures { state_of S.content machine.new ≡ effect plan.now Settle

@@ -2,7 +2,7 @@
 
 ghost use Rattle.plan_machine.specs.Positions.{TypedCodeGoesOn};
 
-/// The law of going on: in every state that a typed code comes to, the instructions of the next frame can be run
+/// The law of continuing: in every state that a typed code comes to, the instructions of the next frame can be run
 /// without a test of any trap or of the budget, and then what the frame sends can be sent, in 60 pages or fewer.
 pub fn goes_on()
     ensures { TypedCodeGoesOn }

@@ -12,7 +12,7 @@ use fib_carousel::pages;
 use mux_config::{Ensemble, Store};
 use plan_code::Plan;
 
-/// Whether a frame is one of the notice: from so many frames before the swap to the last one before it.
+/// Whether a frame is one of the notice: from this many frames before the swap to the last one before it.
 pub fn is_noticed(notice: u8, left: Option<u16>) -> bool
     ensures { result ≡ is_noticed notice left }
 {
@@ -66,7 +66,7 @@ pub fn rounds<S: Store>(plan: &Plan, machine: &Machine<S>) -> usize
     pages(plan.mode, &machine.current, next_sent(plan, machine))
 }
 
-/// The low part of the CIF count of a swap that comes after so many frames: the count modulo 250.
+/// The low part of the CIF count of a swap that comes after this many frames: the count modulo 250.
 fn low_of_swap(count: u16, left: Option<u16>) -> u8
     ensures { result ≡ low_of_swap count left }
 {

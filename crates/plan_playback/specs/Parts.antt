@@ -12,7 +12,7 @@ use Rattle.plan_playback.specs.declared.fault.RunFault.{RunFault}
 use Rattle.plan_playback.specs.declared.fault.RunFault.TheVariants.{Code, Refused, Start, Events, Write}
 use Rattle.plan_playback.specs.Playback.{IsFileOf, or_zero}
 
--- the player after these events, and the sink with their bytes; so many frames
+-- the player after these events, and the sink with their bytes; this many frames
 pub record Delivered (old new : Playing) (events : List Event) (before after : Option (List ℕ)) (frames : ℕ) : Type 0 where
   pub state : new ≡ played old events
   pub out : Appends before after (bytes_of old events)

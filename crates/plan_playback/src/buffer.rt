@@ -108,7 +108,7 @@ impl<W: Write> Sink for Buffer<W> {
     }
 }
 
-/// Writes until all is written or a write fails. `Err`: so many bytes were taken, fewer than all.
+/// Writes until all is written or a write fails. `Err`: this many bytes were taken, fewer than all.
 fn write_out<W: Write>(bytes: &[u8], out: &mut W) -> Result<(), usize>
     ensures all { OnOk result (Appends (W.contents out.old) (W.contents out.new) bytes.now) }
     ensures bound { IfErr result (λ n. n < length bytes.now) }
@@ -126,7 +126,7 @@ fn write_out<W: Write>(bytes: &[u8], out: &mut W) -> Result<(), usize>
     Ok(())
 }
 
-/// What is left of so many frames of this size, and bytes of the next one, without the last `held` bytes of all.
+/// What is left of this many frames of this size, and bytes of the next one, without the last `held` bytes of all.
 pub(crate) fn without(frames: u128, bytes: usize, held: usize, size: usize) -> (u128, usize)
     requires { held + size ≤ 100000 }
     ensures whole { held ≤ frames * size + bytes

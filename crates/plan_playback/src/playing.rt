@@ -11,7 +11,7 @@ use mux_config::Store;
 use plan_events::Step;
 use plan_player::{Event, PlayFault, Player, Sink, play};
 
-/// How far playing came where the sink failed: so many frames went out whole, and so many bytes of the one after them.
+/// How far playing came where the sink failed: this many frames went out whole, and this many bytes of the one after them.
 #[derive(Clone, Copy, Debug, PartialEq, Eq)]
 pub(crate) struct Cut {
     pub(crate) frames: u128,
@@ -61,7 +61,7 @@ fn play_some<'a, S: Store, K: Sink>(
     play_events(player, &frames[..count as usize], sink)
 }
 
-/// Plays so many frames, up to 64 of them at a time.
+/// Plays this many frames, up to 64 of them at a time.
 fn play_frames<'a, S: Store, K: Sink>(
     player: &mut Player<'a, S>,
     count: u32,

@@ -1,4 +1,4 @@
--- Playing goes on: events, and then one more.
+-- Playing continues: events, and then one more.
 use Rattle.std.proofs.Common.{◌≡◌, ℕ, ◌+◌, ◌<◌, ◌≤◌, List, [], ◌∷◌, ◌++◌, length, take, drop, Option, refl, sym, ap, subst, ◌∙◌, arith, append_assoc, length-append, take-append-drop}
 use Rattle.std.specs.List.{concat}
 use Rattle.std.specs.Io.KnownBytes.{Appends}
@@ -35,7 +35,7 @@ concat_join (x ∷ xs) ys = ap (λ (l : List ℕ). x ++ l) (concat_join xs ys) �
 pub bytes_join : (p : Playing) (events more : List Event) → bytes_of p (events ++ more) ≡ bytes_of p events ++ bytes_of (played p events) more
 bytes_join p events more = ap (λ (fs : List (List ℕ)). concat fs) (frames_join p events more) ∙ concat_join (frames_of p events) (frames_of (played p events) more)
 
--- ---- so many events done
+-- ---- this many events done
 
 pub record Delivered (old new : Playing) (events : List Event) (index : ℕ) (before after : Option (List ℕ)) (frames : ℕ) : Type 0 where
   pub state : new ≡ played old (take index events)

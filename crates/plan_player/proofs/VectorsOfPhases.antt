@@ -94,7 +94,7 @@ second = after_frame waits first
 abbrev noticed : State
 noticed = record second { next = with_sub 96; left = Some 23 }
 
--- so many sub-channels of 8 kbit/s, one after the other: 24 take two pages
+-- this many sub-channels of 8 kbit/s, one after the other: 24 take two pages
 abbrev small_subs : ℕ → ℕ → List Sub
 small_subs zero id = []
 small_subs (suc n) id = record { id = id; start = 6 * id; protection = record { set = A; level = 3 }; kbits = 8 } ∷ small_subs n (id + 1)

@@ -21,7 +21,7 @@ abbrev pub next_frame : Playing → List ℕ
 next_frame p = frame_bytes p.code p.state
 
 -- playing stopped in a frame that the sink didn't take whole: the events before it are done and it too, no later one
--- is; so many frames went out before it, and so many of its bytes, fewer than all
+-- is; this many frames went out before it, and this many of its bytes, fewer than all
 pub record Stopped (old new : Playing) (events : List Event) (before after : Option (List ℕ)) (frames bytes : ℕ) : Type 0 where
   pub done : List Event
   pub rest : List Event

@@ -13,7 +13,7 @@ use crate::sink::Sink;
 use mux_config::Store;
 use plan_runs::{Event, laws};
 
-/// Plays one event. How many frames it made is the result. `Err`: the event is a frame, of which the sink took so many
+/// Plays one event. How many frames it made is the result. `Err`: the event is a frame, of which the sink took this many
 /// bytes, fewer than all.
 fn play_event<'a, S: Store, K: Sink>(
     player: &mut Player<'a, S>,

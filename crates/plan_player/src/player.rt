@@ -144,7 +144,7 @@ impl<'a, S: Store> Player<'a, S> {
         *self.pages.frame()
     }
 
-    /// Makes the next frame, and puts it into the sink. `Err`: the sink took so many of its bytes, fewer than all.
+    /// Makes the next frame, and puts it into the sink. `Err`: the sink took this many of its bytes, fewer than all.
     pub(crate) fn put_frame<K: Sink>(&mut self, sink: &mut K) -> Result<(), usize>
         requires working { K.has_failed sink.old ≡ false }
         ensures state { self.new ≡ played self.old (Frame ∷ []) }

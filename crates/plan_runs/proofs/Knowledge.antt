@@ -27,7 +27,7 @@ pub record IsPendingAs (a b : Configuration) (first least greatest : ℕ) (left 
   pub current : c ≡ a
   pub next : n ≡ b
 
--- a swap is pending and comes after so many frames at most; after it, both configurations are these
+-- a swap is pending and comes after this many frames at most; after it, both configurations are these
 pub record IsPendingTo (a b : Configuration) (limit : ℕ) (left : Option ℕ) (n : Configuration) : Type 0 where
   pub frames : ℕ
   pub is : left ≡ Some frames

@@ -148,7 +148,7 @@ notice_is plan (suc k) a base s left count turn within =
     let rest = notice_is plan k (suc a) base t left_next count_next turn_next (omega (arith, within)) in
     ap (λ (x : List ℕ). x ∷ notice_frames plan k t) (shown_as plan s base a left count turn) ∙ ap (λ xs. f a ∷ xs) rest
 
--- the CIF count at which the notice began whose swap comes after so many frames
+-- the CIF count at which the notice began whose swap comes after this many frames
 abbrev pub base_of : Plan → ℕ → ℕ → ℕ
 base_of plan count l = (count + l + 5000 - plan.notice) % 5000
 

@@ -33,12 +33,12 @@ abbrev pub heard_after : Program → State → List (List ℕ) → List (List �
 heard_after p s heard =
     if is_noticed p.plan.notice (shown p s).left then heard_before s heard ++ frame_bytes p s ∷ [] else heard_before s heard
 
--- the same by the state alone: so many frames from this state on, each with its page in turn
+-- the same by the state alone: this many frames from this state on, each with its page in turn
 abbrev pub notice_frames : Plan → ℕ → State → List (List ℕ)
 notice_frames plan zero s = []
 notice_frames plan (suc n) s = shown_bytes plan s ∷ notice_frames plan n (with_next_counts plan s)
 
--- the first frame of the notice whose swap comes after so many frames more
+-- the first frame of the notice whose swap comes after this many frames more
 abbrev pub notice_begin : Plan → ℕ → State → State
 notice_begin plan frames s =
     record s { count = (s.count + frames + 5000 - plan.notice) % 5000; left = Some plan.notice; turn = 0 }

@@ -127,7 +127,7 @@ sent_entries plan s = page_set s.current (announced_next plan s)
 abbrev pub sent_rounds : Plan → State → ℕ
 sent_rounds plan s = rounds plan.mode (sent_entries plan s)
 
--- the low part of the count of a swap that comes after so many frames
+-- the low part of the count of a swap that comes after this many frames
 abbrev pub low_of_swap : ℕ → Option ℕ → ℕ
 low_of_swap count None = 0
 low_of_swap count (Some left) = (count + left) % 5000 % 250

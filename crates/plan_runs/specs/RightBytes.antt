@@ -25,7 +25,7 @@ IsHeader (Other bytes) = ⊥
 abbrev pub IsNoHeader : Fig → Type 0
 IsNoHeader fig = IsHeader fig → ⊥
 
--- the count of the swap that comes after so many frames
+-- the count of the swap that comes after this many frames
 abbrev pub IsFlaggedBy : State → Option ℕ → EnsembleInformation → Type 0
 IsFlaggedBy s None e = ⊥
 IsFlaggedBy s (Some left) e = IsFlagged s.current s.next ((s.count + left) % 5000) e

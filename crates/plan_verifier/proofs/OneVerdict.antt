@@ -121,7 +121,7 @@ comes_in code end typing below pc i u lt at known on =
       arrives = subst (λ (n : ℕ). Arrives code typing n (label_at code n) (leaves code.plan i u)) up (s.onward on (omega (arith, lt)));
     }
 
--- the one before goes on to an instruction without a label
+-- the one before continues to an instruction without a label
 reached_from : (code : Program) (end : ℕ) (typing : List Known) → IsTypingBelow code end typing → (pc : ℕ) → suc pc < end → label_at code (suc pc) ≡ None
     → (i : Instr) × (u : Known) × ComesIn code typing pc i u
 reached_from code end typing below pc lt none =

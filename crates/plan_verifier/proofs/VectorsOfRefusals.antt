@@ -169,7 +169,7 @@ jumps_to_no_label = refl
 joins_a_swap : (cause : Cause) → InstrRefused joins Join committed cause → ⊥
 joins_a_swap cause h = h.0 tt
 
--- the last instruction, where it goes on
+-- the last instruction, where it continues
 falls_off : KnownRefused joins 3 Join committed FallsOff
 falls_off = (known_computes joins 3 Join committed joins_tabled).told FallsOff refl
 
@@ -202,7 +202,7 @@ label_before_an_end cause h =
     let same : h.0 ≡ opened = declared_once joins (label 0 3) _ _ h.1 its_label_declares in
     takes_what_there_is cause (subst (λ (t : Known). TakenRefused joins 0 End (label 0 3) t cause) same h.2)
 
--- no label, and nothing goes on to it
+-- no label, and nothing continues to it
 neither_label_nor_way : PlaceRefused joins 2 Join None None Table
 neither_label_nor_way = refl
 

@@ -42,7 +42,7 @@ one_sub = record { subs = sub ∷ []; services = []; packets = [] }
 abbrev pub overlapping : Configuration
 overlapping = record { subs = sub ∷ record sub { id = 2 } ∷ []; services = []; packets = [] }
 
--- so many sub-channels of 8 kbit/s, one after the other
+-- this many sub-channels of 8 kbit/s, one after the other
 abbrev pub small_subs : ℕ → ℕ → List Sub
 small_subs zero id = []
 small_subs (suc n) id = record { id = id; start = 6 * id; protection = record { set = A; level = 3 }; kbits = 8 } ∷ small_subs n (id + 1)

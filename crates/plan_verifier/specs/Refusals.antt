@@ -90,7 +90,7 @@ LabelRefused code pc i label given =
     (declared : Known) × Declares code label declared × TakenRefused code pc i label declared given
 
 -- at an instruction but the first, with the label that stands there, if any, and what the instruction before
--- leaves, if it goes on to this one
+-- leaves, if it continues to this one
 abbrev pub PlaceRefused : Program → ℕ → Instr → Option Label → Option Known → Cause → Type 0
 PlaceRefused code pc i None None given = given ≡ Table
 PlaceRefused code pc i None (Some t) given = KnownRefused code pc i t given
@@ -113,7 +113,7 @@ OpeningRefused code i (Some label) given = (t : Known) × Declares code label t 
 
 -- ---- the first instruction at which a cause holds
 
--- what holds at an instruction below a place: IsSafe, where it goes on to the place itself aside
+-- what holds at an instruction below a place: IsSafe, where it continues to the place itself aside
 pub record IsSafeBelow (code : Program) (end : ℕ) (typing : List Known) (pc : ℕ) (i : Instr) (t : Known) : Type 0 where
   pub allowance : 1 ≤ t.allowance
   pub fine : IsFine code.plan i t
@@ -129,7 +129,7 @@ pub record IsTypingBelow (code : Program) (end : ℕ) (typing : List Known) : Ty
   pub safe : (pc : ℕ) (i : Instr) (t : Known) → instr_at code pc ≡ Some i → slice_get typing pc ≡ Some t → IsSafeBelow code end typing pc i t
   pub reached : (pc : ℕ) → pc < end → label_at code pc ≡ None → IsAfter code pc
 
--- what an instruction leaves, where it goes on
+-- what an instruction leaves, where it continues
 abbrev pub left_by : Plan → Option Instr → Option Known → Option Known
 left_by plan None known = None
 left_by plan (Some i) None = None

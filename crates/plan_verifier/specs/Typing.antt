@@ -120,7 +120,7 @@ spent t = record t { allowance = t.allowance - 1 }
 abbrev pub rested : Plan → Known → Known
 rested plan t = record t { allowance = plan.budget }
 
--- where it goes on to the instruction after it: a `Settle` may go on in the same frame, so it renews nothing
+-- where it continues to the instruction after it: a `Settle` may continue in the same frame, so it renews nothing
 abbrev pub leaves : Plan → Instr → Known → Known
 leaves plan (Edits edit) t = spent (record t { next = changed edit t.next })
 leaves plan (CommitIn delay) t =
@@ -144,7 +144,7 @@ target_of (Jump target) = Some target
 target_of (Loop counter target) = Some target
 target_of _ = None
 
--- it can go on to the instruction after it
+-- it can continue to the instruction after it
 abbrev pub continues : Instr → Bool
 continues (Jump target) = false
 continues End = false
@@ -228,7 +228,7 @@ pub record Reaches (code : Program) (target : ℕ) (t : Known) : Type 0 where
   pub there : label_at code target ≡ Some label
   pub comes : ComesTo code label t
 
--- the instruction before this place goes on to it
+-- the instruction before this place continues to it
 pub record IsAfter (code : Program) (pc : ℕ) : Type 0 where
   pub before : ℕ
   pub instr : Instr
@@ -237,7 +237,7 @@ pub record IsAfter (code : Program) (pc : ℕ) : Type 0 where
   pub onward : continues instr ≡ true
 
 -- what holds at an instruction of which this is known: there is an allowance, it can't go wrong, and what it
--- leaves is what is known where the machine goes on; the last instruction doesn't go on to the one after it
+-- leaves is what is known where the machine continues; the last instruction doesn't continue to the one after it
 pub record IsSafe (code : Program) (typing : List Known) (pc : ℕ) (i : Instr) (t : Known) : Type 0 where
   pub allowance : 1 ≤ t.allowance
   pub fine : IsFine code.plan i t

@@ -200,7 +200,7 @@ entered code (suc pc) came = place_of code (label_at code (suc pc)) came
 abbrev pub refused_at : ℕ → Cause → Option Refusal
 refused_at pc cause = Some (record { pc = pc; cause = cause })
 
--- what is known, where the instruction before goes on to this one
+-- what is known, where the instruction before continues to this one
 abbrev pub came_of : Bool → Known → Option Known
 came_of comes t = if comes then Some t else None
 

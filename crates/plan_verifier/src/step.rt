@@ -239,7 +239,7 @@ pub(crate) fn step<S: Store>(
     Ok(())
 }
 
-/// Whether an instruction can go on to the one after it.
+/// Whether an instruction can continue to the one after it.
 pub(crate) fn continues(instr: Instr) -> bool
     ensures { result ≡ continues instr }
 {
@@ -260,7 +260,7 @@ pub(crate) fn instr_at(code: &Code, pc: u16) -> Instr
     }
 }
 
-/// Whether the instruction here goes on to the one after it, and is the last.
+/// Whether the instruction here continues to the one after it, and is the last.
 fn falls_off(code: &Code, pc: u16) -> bool
     ensures { result ≡ (continues (instr_of (instr_at code.now pc)) &&
         (pc + 1 == length code.now.lines)) }

@@ -72,7 +72,7 @@ widest_bounded (Perhaps hi) Idle h k = omega (arith, h)
 widest_bounded (Perhaps hi) (Within least most) h k = omega (arith, h)
 widest_bounded (Perhaps hi) (Perhaps most) h k = omega (arith, h)
 
--- of a way, where it goes on
+-- of a way, where it continues
 abbrev pub AllWay : Option Spot → Type 0
 AllWay None = Unit {0}
 AllWay (Some s) = IsBounded s.flow.pending

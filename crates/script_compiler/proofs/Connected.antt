@@ -1,4 +1,4 @@
--- An instruction without a label follows one that goes on to it.
+-- An instruction without a label follows one that continues to it.
 use Rattle.std.proofs.Common.{◌≡◌, ℕ, ◌+◌, Bool, true, false, if◌then◌else◌, List, [], ◌∷◌, ◌++◌, length, Option, Some, None, refl, sym, ap, ◌∙◌}
 use Rattle.plan_code.specs.declared.instr.Instr.TheVariants.{End, Jump, Loop}
 use Rattle.plan_code.specs.declared.plan.Plan.{Plan}
@@ -9,7 +9,7 @@ use Rattle.script_front.specs.Block.{Block, nothing, basic, stop, when, either, 
 use Rattle.script_scheme.specs.declared.flow.Spot.{Spot}
 use Rattle.script_scheme.specs.Scheme.{Place, moved, past, at_label, meet, join, onward, head, after, placed, alone, places, all_places, instr_of, falls_out}
 
--- what comes before goes on to this spot, or a label stands there
+-- what comes before continues to this spot, or a label stands there
 abbrev pub Follows : Bool → Spot → Type 0
 Follows came s = s.labelled ≡ false → came ≡ true
 

@@ -83,7 +83,7 @@ widest_ranged (Perhaps hi) Idle h k = omega (arith, h)
 widest_ranged (Perhaps hi) (Within least most) h k = omega (arith, h, k)
 widest_ranged (Perhaps hi) (Perhaps most) h k = omega (arith, h, k)
 
--- of a way, where it goes on
+-- of a way, where it continues
 abbrev WayRanged : Option Spot → Type 0
 WayRanged None = Unit {0}
 WayRanged (Some s) = IsRanged s.flow.pending

@@ -203,7 +203,7 @@ room_right table a b room = room_fewer table (b ∷ []) (a ∷ b ∷ []) (λ c h
 pub room_next : (table one : List Configuration) (a b : Configuration) → Added a table one → HasRoomFor table (a ∷ b ∷ []) → HasRoomFor one (b ∷ [])
 room_next table one a b added room = room_right one a b (room_added a table one (a ∷ b ∷ []) added (0, refl) room)
 
--- ---- a way that goes on
+-- ---- a way that continues
 
 pub err_each : {A : Type 0} (x : Result A CompileFault) {P Q : CompileFault → Type 0} → ((y : CompileFault) → P y → Q y) → IfErr x P → IfErr x Q
 err_each (Ok f) m h = h

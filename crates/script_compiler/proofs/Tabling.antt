@@ -24,7 +24,7 @@ added_old c table i e = inl ((i, e), refl)
 pub last_new : (c : Configuration) (table new : List Configuration) (i : ℕ) → i ≡ length table → new ≡ table ++ c ∷ [] → slice_get new i ≡ Some c
 last_new c table new i e f = ap (λ xs. slice_get xs i) f ∙ ap (λ n. slice_get (table ++ c ∷ []) n) e ∙ stands_last table c
 
--- not among so many
+-- not among this many
 none_at : (xs : List Configuration) (k : ℕ) (c : Configuration) → slice_get xs k ≢ Some c → ((i : ℕ) → i < k → slice_get xs i ≢ Some c) → (i : ℕ) → i < k + 1 → slice_get xs i ≢ Some c
 none_at xs k c differs before i le e = elim (below i k (omega (arith, le))) [
   | inl less ↦ before i less e

@@ -1,4 +1,4 @@
--- What each statement of a tree is as a block, and what goes on after it.
+-- What each statement of a tree is as a block, and what continues after it.
 use Rattle.std.proofs.Common.{◌∙◌, Bool, true, false, ◌&&◌, ◌||◌, ◌≡◌, ℕ, ◌+◌, ◌<◌, List, ◌∷◌, refl, sym, ap, subst, drop, length, get_or, drop-cons, ◌≤◌, add-one}
 use Rattle.std.proofs.lemmas.List.{drop_all}
 use Rattle.script_front.specs.declared.tree.Statement.{Statement}

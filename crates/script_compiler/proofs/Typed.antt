@@ -176,7 +176,7 @@ module _ (code : Program) (whole : List Place) where
   abbrev need : ℕ → ℕ
   need pc = longest instrs (plan.budget + 1) pc
 
-  -- what is known at a place, where so many instructions may still run
+  -- what is known at a place, where this many instructions may still run
   abbrev known_there : ℕ → Place → ℕ → Known
   known_there pc p came = known_with p.spot.flow (first_counters p.repeats) (if p.spot.labelled then need pc else came)
 
@@ -197,7 +197,7 @@ module _ (code : Program) (whole : List Place) where
     connected : (q : Place) → following ≡ Some q → q.spot.labelled ≡ false → continues p.instr ≡ true
 
   module _ (within : IsWithin plan.budget instrs) where
-    -- an instruction leaves what may run at any place that it goes on to
+    -- an instruction leaves what may run at any place that it continues to
     enough : (pc to : ℕ) (p : Place) (a : ℕ) → slice_get whole pc ≡ Some p → need pc ≤ a → (rests p.instr ≡ false → GoesTo p.instr pc to) → need to ≤ left_over plan p.instr a
     enough pc to p a e h g = by (rests p.instr) refl
       where

@@ -29,7 +29,7 @@ pub record Lays (old new : Work) (ps : List Place) : Type 0 where
   pub marks : new.marks.items ≡ old.marks.items ++ marks_of (length old.lines.items) ps
   pub saved : new.saved.items ≡ old.saved.items
 
--- where the code has come to, if it goes on
+-- where the code has come to, if it continues
 abbrev pub way : Bool → Work → Option Spot
 way goes_on w = if goes_on then Some w.now else None
 

@@ -1,4 +1,4 @@
--- The longest paths of at most so many instructions, round by round. No public contract needs this to be believed.
+-- The longest paths of at most this many instructions, round by round. No public contract needs this to be believed.
 use Rattle.std.specs.Prelude.{◌≡◌, ℕ, zero, suc, ◌+◌, max, if◌then◌else◌, List, slice_get, slice_index, Contains, Option, Some, None}
 use Rattle.plan_code.specs.declared.instr.Instr.{Instr}
 use Rattle.plan_code.specs.declared.label.Label.{Label}

@@ -42,7 +42,7 @@ label_at needs m =
       cost = slice_index needs m.pc;
     }
 
--- at most so many repeats stand around each mark
+-- at most this many repeats stand around each mark
 abbrev pub AreShallow : ℕ → List ShortMark → Type 0
 AreShallow most [] = Unit {0}
 AreShallow most (m ∷ ms) = (m.repeats ≤ most) × AreShallow most ms

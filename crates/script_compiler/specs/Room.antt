@@ -22,7 +22,7 @@ named_by (m ∷ ms) = m.flow.current ∷ m.flow.next ∷ named_by ms
 abbrev pub Leaves : List Configuration → List Configuration → List Mark → Type 0
 Leaves table new ms = (more : List Configuration) → HasRoomFor table (named_by ms ++ more) → HasRoomFor new more
 
--- at most so many repeats stand around each label
+-- at most this many repeats stand around each label
 abbrev pub IsDeepAtMost : ℕ → List Mark → Type 0
 IsDeepAtMost most [] = Unit {0}
 IsDeepAtMost most (m ∷ ms) = (m.repeats ≤ most) × IsDeepAtMost most ms

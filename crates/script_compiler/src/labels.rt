@@ -12,7 +12,7 @@ use crate::short::ShortMark;
 use plan_code::{CounterId, Counters, Label};
 use std::alloc::Global;
 
-/// The first so many counters; None where there are not that many.
+/// As many of the first counters as are asked for; None where there are not that many.
 fn first_counters(count: u8) -> Option<Counters>
     ensures value { IfSome result (λ c. c ≡ first_counters count) }
     ensures none { result ≡ None → 8 < count }

@@ -68,7 +68,7 @@ fn are_same(numbers: &[u16], others: &[u16]) -> bool
     numbers == others
 }
 
-/// The longest paths of at most so many instructions and one. Where none is over the budget, they are the needs. Once
+/// The longest paths of at most this many instructions and one. Where none is over the budget, they are the needs. Once
 /// a round changes none of them, no round does.
 pub(crate) fn needs(alloc: Global, lines: &[Line], budget: u8) -> Result<Vec<u16>, AllocError>
     requires room { length lines.now ≤ 4096 }

@@ -235,7 +235,7 @@ impl Work {
         self.close_else(first_falls, second_falls, line, jump)
     }
 
-    /// A loop that is gone round so many times.
+    /// A loop that is gone round this many times.
     #[cycle(work)]
     fn repeat(
         &mut self,

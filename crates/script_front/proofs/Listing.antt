@@ -8,7 +8,7 @@ use Rattle.script_front.specs.Block.{Block, nothing, basic, stop, when, either, 
 use Rattle.script_front.specs.Tree.{Fits, AllFit}
 use Rattle.script_front.specs.Parsing.{bodies}
 
--- what fits where so many blocks are known fits where more are
+-- what fits where this many blocks are known fits where more are
 pub more_known : (known more depth : ℕ) (b : Block) → known ≤ more → Fits known depth b → Fits more depth b
 more_known known more depth nothing le h = tt
 more_known known more depth (basic line act rest) le h = (h.0, more_known known more depth rest le h.1)

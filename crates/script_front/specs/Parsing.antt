@@ -39,7 +39,7 @@ pub record IsPassed (old new : ℕ) (after : Spelled) (b : Block) (rest : Spelle
   pub words : after ≡ rest
   pub counts : counted b + new ≡ old
 
--- no block in range, of so many statements at most, has these words
+-- no block in range, of this many statements at most, has these words
 abbrev pub NoBlock : (names : List (List ℕ)) (depth left : ℕ) → Spelled → Type 0
 NoBlock names depth left words = All IsName names → (b : Block) (rest : Spelled) → counted b ≤ left → CanBe names depth words b rest → ⊥
 
@@ -63,7 +63,7 @@ pub record BeginsItem (words : Spelled) : Type 0 where
   pub among : begins_item first ≡ true
   pub begins : words ≡ letters first ∷ rest
 
--- so many items at most, before what is none, are not what these words are
+-- this many items at most, before what is none, are not what these words are
 abbrev pub NoItems : (left : ℕ) → Spelled → Type 0
 NoItems left words = (items : List Item) (after : Spelled) → All IsItem items → length items ≤ left → BeginsNoItem after → words ≢ items_words items ++ after
 

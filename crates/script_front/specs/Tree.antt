@@ -63,7 +63,7 @@ AreDifferent names = AllPairs (λ one other. one ≢ other) names
 
 -- ---- blocks
 
--- every number is in range, so many blocks are known, and braces stand at most so deep
+-- every number is in range, this many blocks are known, and braces stand at most so deep
 abbrev pub Fits : (known depth : ℕ) → Block → Type 0
 Fits known depth nothing = Unit {0}
 Fits known depth (basic line act rest) = IsAct act × Fits known depth rest

@@ -122,7 +122,7 @@ fn put_repeat(out: &mut String, times: Times, depth: u8) -> Result<(), AllocErro
     write!(out, "repeat {times} {{\n")
 }
 
-/// A statement, at most so many braces deep.
+/// A statement, at most this many braces deep.
 #[cycle(put_statements)]
 #[tactic(auto, using(crate::proofs::Printed::act_put, crate::proofs::Printed::stop_put, crate::proofs::Printed::when_put, crate::proofs::Printed::either_put, crate::proofs::Printed::repeat_put, crate::proofs::Printed::forever_put, crate::proofs::Printed::apply_put))]
 fn put_statement(
@@ -184,7 +184,7 @@ fn put_statement(
     }
 }
 
-/// Statements, at most so many braces deep.
+/// Statements, at most this many braces deep.
 #[cycle(put_statements)]
 #[tactic(auto, using(crate::proofs::Printed::put_more, crate::proofs::Printed::all_put))]
 fn put_statements(

@@ -50,7 +50,7 @@ module _ (p : Program) where
   abbrev pub Comes : Reading → Reading → Type 0
   Comes x y = (n : ℕ) (z : Reading) → Performs p.plan y n z → (m : ℕ) × Performs p.plan x m z
 
-  -- over so many instructions from this place on, each that is carried out is something of these statements
+  -- over this many instructions from this place on, each that is carried out is something of these statements
   abbrev pub Follows : ℕ → ℕ → List ℕ → Block → Type 0
   Follows zero pc cs b = Unit {0}
   Follows (suc n) pc cs b =
@@ -172,7 +172,7 @@ module _ (p : Program) where
             next q (slice_set ds r (slice_index ds r - 1)) (omega (arith, le)) count' (set_below r (slice_index ds r - 1) cs0 ds below),
           ))
 
-      -- the rounds of a loop that is gone round so many times more
+      -- the rounds of a loop that is gone round this many times more
       rounds : Stand whole (pc + 1) (places p.plan (r + 1) (pc + 1) body start) → Out → There →
           (c m : ℕ) (cs : List ℕ) → m ≤ n → slice_index cs r ≡ c + 1 → SameBelow r cs0 cs → Follows m (pc + 1) cs (followed body (repeat line c body left))
       rounds st out here zero m cs le count below =

@@ -128,7 +128,7 @@ IsFineToDo plan _ x = Unit {0}
 
 -- ---- frames and events
 
--- so many statements lead from one reading to another, in which something is waited for or all has ended
+-- this many statements lead from one reading to another, in which something is waited for or all has ended
 abbrev pub Performs : Plan → Reading → ℕ → Reading → Type 0
 Performs plan x zero y = (is_running x.scene.hold ≡ false) × (x ≡ y)
 Performs plan x (suc n) y =
@@ -139,7 +139,7 @@ Performs plan x (suc n) y =
 abbrev pub opens : Scene → Scene
 opens x = scene_of (ready (state_of x))
 
--- a frame ends: the counts go on
+-- a frame ends: the counts continue
 abbrev pub closes : Plan → Scene → Scene
 closes plan x = scene_of (with_next_counts plan (state_of x))
 

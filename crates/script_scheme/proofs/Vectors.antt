@@ -63,7 +63,7 @@ a_test_goes_on = (refl, inl (refl, refl))
 a_wait_suspends : (to : ℕ) → GoesTo (Wait 1) 0 to → ⊥
 a_wait_suspends to h = let e : true ≡ false = h.0 in absurd cc
 
--- a `settle` may go on in the same frame
+-- a `settle` may continue in the same frame
 a_settle_goes_on : GoesTo Settle 4 5
 a_settle_goes_on = (refl, inl (refl, refl))
 

@@ -78,7 +78,7 @@ Tabled table [] new = new ≡ table
 Tabled table (m ∷ ms) new =
     (one both : List Configuration) × Added m.flow.current table one × Added m.flow.next one both × Tabled both ms new
 
--- the first so many counters
+-- as many of the first counters as are asked for
 abbrev pub first_counters : ℕ → Counters
 first_counters zero = record { 0 = 0 }
 first_counters (suc r) = with_counter r (first_counters r)

@@ -17,7 +17,7 @@ suspends _ = false
 abbrev pub GoesTo : Instr → ℕ → ℕ → Type 0
 GoesTo i pc to = (suspends i ≡ false) × (((continues i ≡ true) × (to ≡ pc + 1)) ⊎ (target_of i ≡ Some to))
 
--- a path of so many instructions from this pc, of which none but the last suspends
+-- a path of this many instructions from this pc, of which none but the last suspends
 abbrev pub HasPath : List Instr → ℕ → ℕ → Type 0
 HasPath code pc zero = Unit {0}
 HasPath code pc (suc zero) = IsSome (slice_get code pc)

@@ -63,7 +63,7 @@ meet None (Some t) = Some (at_label t.flow)
 meet (Some s) None = Some (at_label s.flow)
 meet (Some s) (Some t) = Some (at_label (merged s.flow t.flow))
 
--- after two branches: where the first doesn't fall out, the second goes on and no label stands there
+-- after two branches: where the first doesn't fall out, the second continues and no label stands there
 abbrev pub join : Option Spot → Option Spot → Option Spot
 join None second = second
 join (Some s) second = meet second (Some s)
@@ -126,7 +126,7 @@ placed line i r s = record { line = line; instr = i; spot = s; repeats = r }
 abbrev pub alone : ℕ → Instr → ℕ → Spot → List Place
 alone line i r s = placed line i r s ∷ []
 
--- the code of a block inside so many repeats, from this pc on
+-- the code of a block inside this many repeats, from this pc on
 abbrev pub places : Plan → ℕ → ℕ → Block → Spot → List Place
 places plan r pc nothing s = []
 places plan r pc (basic line act rest) s =

@@ -68,6 +68,6 @@ pub struct Mark {
     pub pc: u16,
     /// What is known there.
     pub flow: Flow,
-    /// How many repeats stand around it: so many counters are set, the first ones.
+    /// How many repeats stand around it: this many counters are set, the first ones.
     pub repeats: u8,
 }

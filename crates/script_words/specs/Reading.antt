@@ -20,7 +20,7 @@ pub record Input : Type 0 where
   pub words : List (List ℕ)
   pub lines : List ℕ
 
--- the line of the token from which on so many are left
+-- the line of the token from which on this many are left
 abbrev pub line_at : List ℕ → (left : ℕ) → ℕ
 line_at lines left = slice_index_or lines (length lines - left) 0
 

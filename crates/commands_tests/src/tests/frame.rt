@@ -1,5 +1,5 @@
-use super::fake::{OneFile, bytes_of, run};
 use console::files::FileFault;
+use memory_files::fake::{OneFile, bytes_of, run};
 use std::alloc::{AllocError, Global};
 use std::test::Fail;
 

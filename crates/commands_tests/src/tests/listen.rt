@@ -1,10 +1,10 @@
-use super::fake::{OneFile, bytes_of, run};
 use console::files::FileFault;
 use fib_codec::crc16;
+use memory_files::fake::{OneFile, bytes_of, run};
 use std::alloc::Global;
 use std::test::Fail;
 
-/// A FIB of these data bytes, with zeros after them up to the 30th, and its check word.
+/// A FIB of these data bytes, with zeros after them up to the 30th, and its CRC.
 fn fib_of(alloc: Global, data: &str) -> Result<Vec<u8>, Fail> {
     let mut fib = bytes_of(alloc, data)?;
     fib.resize(30, 0)?;

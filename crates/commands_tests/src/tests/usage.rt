@@ -1,5 +1,5 @@
-use super::fake::{OneFile, run};
 use commands::answer::{answer, answer_without_words};
+use memory_files::fake::{OneFile, run};
 use std::alloc::Global;
 use std::io::{Error, ErrorKind};
 use std::test::Fail;

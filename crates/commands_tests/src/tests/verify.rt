@@ -1,9 +1,9 @@
-use super::fake::{OneFile, bytes_of, run};
 use console::files::FileFault;
+use memory_files::fake::{OneFile, bytes_of, run};
 use std::alloc::Global;
 use std::test::Fail;
 
-/// The header of a code of one configuration, one label and so many instructions, which is still to come.
+/// The header of a code of one configuration, one label and this many instructions, which is still to come.
 const HEADER: &str = "44 41 42 50 01 E1 C5 04 18 14 00 01 00 01 00";
 
 /// Sub-channel 1 at 3-A 128 kbit/s, and service C221 with audio of type 63 on it.
@@ -15,7 +15,7 @@ fn verified(alloc: Global, bytes: &[u8]) -> Result<(u8, String), Fail> {
     Ok(run(alloc, "verify x.code", &mut files)?)
 }
 
-/// What it prints of a code that begins with one programme, with so many instructions.
+/// What it prints of a code that begins with one programme, with this many instructions.
 fn judged(alloc: Global, cost: &str, count: &str, lines: &str) -> Result<(u8, String), Fail> {
     let label = "00 00 00 00 00 00 00 00 00 00 00 00";
     let text = format!(in alloc; "{HEADER} {count} {ONE_PROGRAMME} {label} {cost} {lines}")?;

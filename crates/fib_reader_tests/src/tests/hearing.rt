@@ -275,7 +275,7 @@ fn a_picture_has_room_for_64_services(rt: HostRuntime) -> Result<(), Fail> {
     Ok(())
 }
 
-/// A listener that has heard so many services.
+/// A listener that has heard this many services.
 fn with_services(count: u8) -> Result<Listener, ListenFault> {
     let mut listener = listener_of(&TUNE)?;
     for sid in 0..count {

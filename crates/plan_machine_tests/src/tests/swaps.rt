@@ -77,7 +77,7 @@ fn a_swap_comes_after_its_notice(rt: HostRuntime) -> Result<(), Fail> {
     Ok(())
 }
 
-/// The bit rates of the current and the next configuration after so many frames.
+/// The bit rates of the current and the next configuration after this many frames.
 fn rates_after(alloc: Global, frames: u16) -> Result<(u16, u16), Fail> {
     let code = two_swaps(alloc)?;
     let mut driver: Driver<Config> = Driver::new(&code, START);
@@ -275,7 +275,7 @@ fn settling_goes_on_where_no_swap_is_pending(rt: HostRuntime) -> Result<(), Fail
     Ok(())
 }
 
-/// The page in turn after so many frames of a code that takes one sub-channel of 24 away, in mode II.
+/// The page in turn after this many frames of a code that takes one sub-channel of 24 away, in mode II.
 fn turn_after(alloc: Global, frames: u16) -> Result<u8, Fail> {
     let plan = Plan {
         mode: Mode::II,

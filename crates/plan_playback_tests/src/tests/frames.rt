@@ -15,7 +15,7 @@ fn code_of(alloc: Global, file: &[u8]) -> Result<Verified, Fail> {
     Ok(verified)
 }
 
-/// The bytes of so many frames, one by one, where this contact changes before the frames of these numbers.
+/// The bytes of this many frames, one by one, where this contact changes before the frames of these numbers.
 fn one_by_one(
     alloc: Global,
     code: &Verified,

@@ -15,7 +15,7 @@ enum End {
     Interrupted,
 }
 
-/// A writer that takes so many bytes at a call and so many in all, and then ends.
+/// A writer that takes this many bytes at a call and this many in all, and then ends.
 #[derive(Drop)]
 struct Narrow {
     at_once: usize,

@@ -8,7 +8,7 @@ use std::alloc::Global;
 use std::io::{self, Write};
 use std::test::Fail;
 
-/// A writer that takes so many bytes, and then nothing.
+/// A writer that takes this many bytes, and then nothing.
 #[derive(Drop)]
 struct Full {
     room: usize,

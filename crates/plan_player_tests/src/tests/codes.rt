@@ -171,7 +171,7 @@ pub fn settled_by_the_hour(alloc: Global, plan: Plan) -> Result<Verified, Fail> 
     typed_over(alloc, plan, configs, &[label(0, 3), settling], &instrs)
 }
 
-/// Makes so many frames.
+/// Makes this many frames.
 pub fn pass<S: Store>(player: &mut Player<S>, frames: u16) {
     for _ in 0..frames {
         let _frame = player.frame();

@@ -11,7 +11,7 @@ use plan_verifier::Verified;
 use std::process::Abort;
 use std::test::Fail;
 
-/// The FIG 0/0 of a frame of this count, with so many frames left until a swap.
+/// The FIG 0/0 of a frame of this count, with this many frames left until a swap.
 fn ensemble_of<S: Store>(
     player: &Player<S>,
     mode: Mode,

@@ -11,7 +11,7 @@ use plan_player::{Event, PlayFault, Player, Sink, play};
 use std::alloc::Global;
 use std::test::Fail;
 
-/// Takes up to `most` bytes a call, and in all no more than there is room for, in so many calls.
+/// Takes up to `most` bytes a call, and in all no more than there is room for, in this many calls.
 #[derive(Drop)]
 struct Limited {
     bytes: Vec<u8>,

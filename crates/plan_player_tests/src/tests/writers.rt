@@ -7,7 +7,7 @@ use std::alloc::Global;
 use std::io::{self, Error, ErrorKind, Write};
 use std::test::Fail;
 
-/// A writer that takes up to 48 bytes at a call for so many calls, and then nothing, or fails so.
+/// A writer that takes up to 48 bytes at a call for this many calls, and then nothing, or fails so.
 #[derive(Drop)]
 struct Failing {
     calls: u32,
@@ -36,7 +36,7 @@ impl Write for Failing {
     }
 }
 
-/// Three frames into a writer that fails after so many calls: the fault, what was taken, and the calls that were made.
+/// Three frames into a writer that fails after this many calls: the fault, what was taken, and the calls that were made.
 fn fails_after(
     alloc: Global,
     calls: u32,

@@ -7,7 +7,7 @@ use plan_verifier::Cause;
 use std::alloc::Global;
 use std::test::Fail;
 
-/// A commit, a wait of so many frames, an edit.
+/// A commit, a wait of this many frames, an edit.
 fn waited(alloc: Global, commit: Instr, frames: u16) -> Result<Verdict, Fail> {
     let instrs = [
         Instr::Edit(rate_sub(1, 64)),

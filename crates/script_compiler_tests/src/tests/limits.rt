@@ -4,7 +4,7 @@ use super::fixtures::{HEAD, PROGRAMME, code_of, is_accepted, refusal_of};
 use std::alloc::Global;
 use std::test::Fail;
 
-/// So many repeats, one inside another.
+/// This many repeats, one inside another.
 fn nested(alloc: Global, depth: u8) -> Result<String, Fail> {
     let mut text = String::from_str(alloc, "begin\n")?;
     for _repeat in 0..depth {
@@ -43,7 +43,7 @@ fn a_block_without_an_instruction_is_not_walked_again(rt: HostRuntime) -> Result
     Ok(())
 }
 
-/// So many waits, one after another.
+/// This many waits, one after another.
 fn waits(alloc: Global, count: u16) -> Result<String, Fail> {
     let mut text = String::from_str(alloc, "begin\n")?;
     for _wait in 0..count {
@@ -61,7 +61,7 @@ fn instructions(rt: HostRuntime) -> Result<(), Fail> {
     Ok(())
 }
 
-/// So many tests of a contact, at each of whose ends a label stands.
+/// This many tests of a contact, at each of whose ends a label stands.
 fn tests_of_a_contact(alloc: Global, count: u16) -> Result<String, Fail> {
     let mut text = String::from_str(alloc, "begin\n")?;
     for _test in 0..count {
@@ -82,7 +82,7 @@ fn labels(rt: HostRuntime) -> Result<(), Fail> {
     Ok(())
 }
 
-/// So many moves of a sub-channel, each to another place, with a label after each swap.
+/// This many moves of a sub-channel, each to another place, with a label after each swap.
 fn moves(alloc: Global, count: u16) -> Result<String, Fail> {
     let mut text = String::new(alloc);
     for turn in 0u16..count {
@@ -149,7 +149,7 @@ fn pages_within_the_period_and_the_notice(rt: HostRuntime) -> Result<(), Fail> {
     Ok(())
 }
 
-/// A service with so many components.
+/// A service with this many components.
 fn components(alloc: Global, sid: &str, count: u16) -> Result<String, Fail> {
     let mut text = format!(in alloc; "service {sid}\n")?;
     for id in 0..count {

@@ -1,4 +1,4 @@
-//! Scripts that go on while a swap is pending.
+//! Scripts that continue while a swap is pending.
 
 use super::fixtures::{HEAD, PROGRAMME, code_of, file_of, is_accepted, refusal_of};
 use plan_code::Instr;

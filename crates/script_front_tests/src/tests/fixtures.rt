@@ -45,7 +45,7 @@ pub fn at(line: usize, column: usize) -> Position {
     Position { line, column }
 }
 
-/// This text so many times.
+/// This text this many times.
 pub fn repeated(alloc: Global, text: &str, times: usize) -> Result<String, ScriptFault> {
     let mut all = String::new(alloc);
     for _ in 0..times {

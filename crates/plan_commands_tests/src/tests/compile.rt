@@ -1,5 +1,5 @@
-use super::fake::{PlayFiles, bytes_of, run};
 use commands::compile::compile_text;
+use memory_files::fake::{PlayFiles, bytes_of, run};
 use std::alloc::Global;
 use std::test::Fail;
 
@@ -33,7 +33,7 @@ fn code_files(rt: HostRuntime) -> Result<(), Fail> {
     Ok(())
 }
 
-/// What `compile` prints of a script, where the file that it makes takes 96 bytes for so many calls, or can't be made;
+/// What `compile` prints of a script, where the file that it makes takes 96 bytes for this many calls, or can't be made;
 /// its status; and how often it was made.
 fn printed(alloc: Global, script: &[u8], calls: Option<u32>) -> Result<((u8, String), u32), Fail> {
     let mut files = PlayFiles::new(script, b"", calls);

@@ -1,10 +1,10 @@
 //! Every command, where a file fails at each call, and where the output fails after each write.
 
-use super::fake::{Failing, bytes_of, run, words_of};
 use super::rows::{RATES, RATES_FILE};
-use super::shelf::{Named, Shelf};
 use commands::answer::answer;
 use console::files::FileFault;
+use memory_files::fake::{Failing, bytes_of, run, words_of};
+use memory_files::shelf::{Named, Shelf};
 use std::alloc::Global;
 use std::cell::RefCell;
 use std::io::ErrorKind;
@@ -148,7 +148,7 @@ fn files_that_fail_at_each_call(rt: HostRuntime) -> Result<(), Fail> {
     Ok(())
 }
 
-/// The exit status of a command whose output takes eight bytes at a call for so many calls, and fails as `fault` then;
+/// The exit status of a command whose output takes eight bytes at a call for this many calls, and fails as `fault` then;
 /// and that output.
 fn told<'f>(
     alloc: Global,

@@ -1,4 +1,4 @@
-use super::fake::{PlayFiles, bytes_of, run};
+use memory_files::fake::{PlayFiles, bytes_of, run};
 use std::alloc::Global;
 use std::test::Fail;
 
@@ -12,7 +12,7 @@ const RATES: &str = "44 41 42 50 01 E1 C5 04 18 14 00 01 00 01 00 09 \
 const NOTHING: &str = "44 41 42 50 01 E1 C5 04 18 14 00 01 00 01 00 01 00 00 00 \
     00 00 00 00 00 00 00 00 00 00 00 00 01 00 01 07";
 
-/// What `play` with these options prints of a code and events, where OUT takes 96 bytes for so many calls.
+/// What `play` with these options prints of a code and events, where OUT takes 96 bytes for this many calls.
 fn played(
     alloc: Global,
     code: &str,

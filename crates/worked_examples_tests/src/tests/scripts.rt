@@ -1,6 +1,6 @@
 //! Scripts, from their texts to what a player has come to: both configurations, the frames until the swap, the count.
 
-use super::fake::bytes_of;
+use memory_files::fake::bytes_of;
 use mux_config::{Config, Store, write_config};
 use mux_tables::Tables;
 use plan_code::{ContactId, Contacts};
@@ -37,7 +37,7 @@ const AT_64: &str = "01 01 00 01 00 00 00 03 00 40 00 C2 21 01 00 3F 01";
 struct Moment {
     /// What becomes of contact 3 first: closed, or open.
     contact: Option<bool>,
-    /// Then so many frames are made.
+    /// Then this many frames are made.
     frames: u16,
     /// How many instructions the last of them carried out.
     steps: u8,

@@ -8,7 +8,7 @@ use std::io::{self, Error, ErrorKind, Write};
 /// A name and its bytes.
 pub type Named<'a> = (&'a str, &'a [u8]);
 
-/// These files. What is made is kept in `made`, which takes so many bytes in all.
+/// These files. What is made is kept in `made`, which takes this many bytes in all.
 #[derive(Drop)]
 pub struct Shelf<'f, 'm> {
     files: &'f [Named<'f>],
@@ -70,7 +70,7 @@ impl<'m> Files for Shelf<'_, 'm> {
     }
 }
 
-/// A file that is made: it takes so many bytes in all, and fails then.
+/// A file that is made: it takes this many bytes in all, and fails then.
 #[derive(Drop)]
 pub struct Kept<'a> {
     made: &'a RefCell<Vec<u8>>,

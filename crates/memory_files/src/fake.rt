@@ -52,7 +52,7 @@ impl Files for OneFile<'_> {
     }
 }
 
-/// A code file `x.code` and an event file `x.events`; and what is made takes 96 bytes at a call for so many calls.
+/// A code file `x.code` and an event file `x.events`; and what is made takes 96 bytes at a call for this many calls.
 #[derive(Drop)]
 pub struct PlayFiles<'a> {
     pub code: &'a [u8],

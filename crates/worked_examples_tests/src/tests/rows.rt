@@ -1,7 +1,7 @@
 //! Worked codes, from their files to the bytes that are played.
 
-use super::fake::{bytes_of, run};
-use super::shelf::{Named, Shelf};
+use memory_files::fake::{bytes_of, run};
+use memory_files::shelf::{Named, Shelf};
 use std::alloc::Global;
 use std::cell::RefCell;
 use std::test::Fail;
@@ -34,7 +34,7 @@ const PROGRAMME: &str =
     "00 01 10 01 00 00 00 03 00 80 00 02 14 00 C2 21 00 03 16 00 C2 21 00 3F 01";
 
 /// What a command prints over a code file `x.code` and a text `x.text`, its status, and what it makes, where there is
-/// room for so many bytes.
+/// room for this many bytes.
 fn led(
     alloc: Global,
     line: &str,
@@ -52,7 +52,7 @@ fn led(
 /// Whether the bytes from a place on begin with these.
 fn begins(alloc: Global, bytes: &[u8], place: usize, wanted: &str) -> Result<bool, Fail> {
     let wanted = bytes_of(alloc, wanted)?;
-    let rest = bytes.get(place..).ok_or("so many bytes")?;
+    let rest = bytes.get(place..).ok_or("this many bytes")?;
     Ok(rest.starts_with(wanted.as_slice()))
 }
 

@@ -1,4 +1,4 @@
-use super::fake::{PlayFiles, bytes_of, run};
+use memory_files::fake::{PlayFiles, bytes_of, run};
 use std::alloc::Global;
 use std::test::Fail;
 
@@ -78,7 +78,7 @@ fn few_commands(rt: HostRuntime) -> Result<(), Fail> {
     Ok(())
 }
 
-/// A contact that is closed at first, or by a command, lets the plan go on.
+/// A contact that is closed at first, or by a command, lets the plan continue.
 #[test]
 fn contacts(rt: HostRuntime) -> Result<(), Fail> {
     for (commands, options, wanted) in [

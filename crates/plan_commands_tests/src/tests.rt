@@ -1,0 +1,3 @@
+mod compile;
+mod debug;
+mod play;

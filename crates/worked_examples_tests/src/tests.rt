@@ -1,0 +1,3 @@
+mod failures;
+mod rows;
+mod scripts;
