@@ -1,4 +1,4 @@
-# What the benchmarks share. A script takes it in by `. "$(dirname "$0")/common.sh"` and goes on in the top folder
+# What the benchmarks share. A script takes it in by `. "$(dirname "$0")/common.sh"` and continues in the top folder
 # of the repository, with a folder of its own in $work.
 set -euo pipefail
 cd "$(dirname "${BASH_SOURCE[0]}")/.."
@@ -44,7 +44,7 @@ stream() {
   rm "$work/part"
 }
 
-# best RUNS COMMAND..: the shortest of so many runs, in microseconds
+# best RUNS COMMAND..: the shortest of this many runs, in microseconds
 best() {
   local runs=$1 least=999999999 run start end
   shift

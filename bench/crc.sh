@@ -1,11 +1,11 @@
 #!/usr/bin/env bash
-# The two bodies of the check word on ten million blocks of 30 bytes, in one run: bit by bit, and by tables. The
+# The two bodies of the CRC on ten million blocks of 30 bytes, in one run: bit by bit, and by tables. The
 # blocks are 250 different ones without a pattern, over and over, each time with another first byte.
 # Wanted: the tables at least twenty times as fast.
 . "$(dirname "$0")/common.sh"
 
 run_program crc_bench /dev/null mux_eep mux_types byte_fields mux_config fib_codec >"$work/times" <<'PROGRAM'
-//! Times both bodies of the check word.
+//! Times both bodies of the CRC.
 #![tactic(auto)]
 
 use fib_codec::{crc16, crc16_by_bits};
@@ -54,11 +54,11 @@ fn main(rt: HostRuntime) -> io::Result<()> {
 PROGRAM
 read -r slow fast by_bits by_tables <"$work/times"
 if [ "$by_bits" -ne "$by_tables" ]; then
-  echo "check word: the two bodies differ"
+  echo "CRC: the two bodies differ"
   exit 1
 fi
-echo "check word: bit by bit $slow ms, by tables $fast ms: $((slow / fast)) times as fast"
+echo "CRC: bit by bit $slow ms, by tables $fast ms: $((slow / fast)) times as fast"
 if [ "$slow" -lt $((20 * fast)) ]; then
-  echo "check word: under twenty times as fast"
+  echo "CRC: under twenty times as fast"
   exit 1
 fi

@@ -1,6 +1,6 @@
 #!/usr/bin/env bash
 # Packs all pages of the largest pair of configurations, each of 64 sub-channels, 64 services of 12 components and
-# 64 packet components, a thousand times over in mode I, and computes as many check words of 30 bytes as those pages
+# 64 packet components, a thousand times over in mode I, and computes as many CRCs of 30 bytes as those pages
 # have FIBs, in one run. It says how long each took.
 . "$(dirname "$0")/common.sh"
 
@@ -98,7 +98,7 @@ fn main(rt: HostRuntime) -> io::Result<()> {
     let start = Instant::now(&rt)?;
     let sum = check(&row);
     let checking = start.elapsed(&rt)?.as_micros();
-    println!(rt; "pack: {ROUNDS} times all {count} pages {packing} us, the check words of as many FIBs {checking} us (sums {packed} {sum})")?;
+    println!(rt; "pack: {ROUNDS} times all {count} pages {packing} us, the CRCs of as many FIBs {checking} us (sums {packed} {sum})")?;
     Ok(())
 }
 PROGRAM

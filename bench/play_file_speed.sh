@@ -37,7 +37,7 @@ memory() {
   tail -n 1 "$work/resident"
 }
 
-# measure NAME CODE MOST: plays the code, and says how long it took in thousandths of the time of md5sum, at most so many
+# measure NAME CODE MOST: plays the code, and says how long it took in thousandths of the time of md5sum, at most this many
 measure() {
   local name=$1 code=$2 most=$3 play md5 ratio small big
   play=$(best 5 "$program" play "$code" "$work/million.events" "$ram/out.fib")

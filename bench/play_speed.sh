@@ -272,7 +272,7 @@ if [ "$(wc -l <"$work/figures")" -ne 6 ]; then
   exit 1
 fi
 slow=0
-# report NAME TENTHS PLAY COPIES SWAPS: says how many nanoseconds a frame takes, and where they are more than so many
+# report NAME TENTHS PLAY COPIES SWAPS: says how many nanoseconds a frame takes, and where they are more than this many
 # tenths of those of the copies
 report() {
   echo "play: $1 $(thousandths "$3") ns a frame, copies and CRCs $(thousandths "$4") ns: $(thousandths $((1000 * $3 / $4))) times; $5 swaps in 3000 frames"

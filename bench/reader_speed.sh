@@ -1,6 +1,6 @@
 #!/usr/bin/env bash
 # Checking and walking 1,000,000 FIBs held in memory against md5sum on the same 32 MB, in the same run: the best
-# of twenty runs each. For each FIB the reader tests the check word and the grammar, and then lends each FIG with
+# of twenty runs each. For each FIB the reader tests the CRC and the grammar, and then lends each FIG with
 # its head and each entry with its bytes, whose lengths and first bytes are added up. Wanted: no more time than
 # md5sum takes. Beside it, with no yardstick: the same walk where each entry also gives its value, the fields of
 # which are added up; of the components of a service that is their number and the first one.
