@@ -1,4 +1,4 @@
-//! The tests of `frame`, `listen` and `verify`, of words and of output that fails, over the public calls of `commands`.
+//! The tests of files, memory and output that fail at each call, over the public calls of `commands`.
 #![tactic(auto)]
 
 #[cfg(test)]

@@ -1,5 +1,7 @@
-mod frame;
-mod listen;
+//! Every command, where its files, its memory or its output fail.
+
+mod failures;
+mod fake;
 mod output;
-mod usage;
-mod verify;
+mod shelf;
+mod words;

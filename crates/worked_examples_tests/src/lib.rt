@@ -1,4 +1,4 @@
-//! Worked examples from a text or a file to the bytes that are played, and every command where a call fails.
+//! Worked examples from a script to what its player has come to, frame by frame.
 #![tactic(auto)]
 
 #[cfg(test)]

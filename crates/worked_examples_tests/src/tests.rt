@@ -1,3 +1,1 @@
-mod failures;
-mod rows;
 mod scripts;

@@ -1,5 +1,5 @@
+use super::fake::{Failing, OneFile, bytes_of, words_of};
 use commands::answer::answer;
-use memory_files::fake::{Failing, OneFile, bytes_of, words_of};
 use std::io::ErrorKind;
 use std::test::Fail;
 

@@ -1,6 +1,5 @@
 //! Scripts, from their texts to what a player has come to: both configurations, the frames until the swap, the count.
 
-use memory_files::fake::bytes_of;
 use mux_config::{Config, Store, write_config};
 use mux_tables::Tables;
 use plan_code::{ContactId, Contacts};
@@ -24,13 +23,22 @@ const SETTLED: &str = "rate sub 1 64\ncommit in 24\nwait contact 3 closed\nsettl
 rate sub 1 96\ncommit in 24\nsettle\n";
 
 /// The records of a configuration with nothing, and of the programme at 128, 96 and 64 kbit/s.
-const NOTHING: &str = "00 00 00";
+const NOTHING: &[u8] = &[0x00, 0x00, 0x00];
 
-const AT_128: &str = "01 01 00 01 00 00 00 03 00 80 00 C2 21 01 00 3F 01";
+const AT_128: &[u8] = &[
+    0x01, 0x01, 0x00, 0x01, 0x00, 0x00, 0x00, 0x03, 0x00, 0x80, 0x00, 0xC2, 0x21, 0x01, 0x00, 0x3F,
+    0x01,
+];
 
-const AT_96: &str = "01 01 00 01 00 00 00 03 00 60 00 C2 21 01 00 3F 01";
+const AT_96: &[u8] = &[
+    0x01, 0x01, 0x00, 0x01, 0x00, 0x00, 0x00, 0x03, 0x00, 0x60, 0x00, 0xC2, 0x21, 0x01, 0x00, 0x3F,
+    0x01,
+];
 
-const AT_64: &str = "01 01 00 01 00 00 00 03 00 40 00 C2 21 01 00 3F 01";
+const AT_64: &[u8] = &[
+    0x01, 0x01, 0x00, 0x01, 0x00, 0x00, 0x00, 0x03, 0x00, 0x40, 0x00, 0xC2, 0x21, 0x01, 0x00, 0x3F,
+    0x01,
+];
 
 /// What has become of a script some frames later.
 #[derive(Clone, Copy)]
@@ -45,8 +53,8 @@ struct Moment {
     count: u16,
     left: Option<u16>,
     /// The records of the current and of the next configuration.
-    current: &'static str,
-    next: &'static str,
+    current: &'static [u8],
+    next: &'static [u8],
 }
 
 /// Some frames later, with the contact as it is.
@@ -55,8 +63,8 @@ fn later(
     steps: u8,
     count: u16,
     left: Option<u16>,
-    current: &'static str,
-    next: &'static str,
+    current: &'static [u8],
+    next: &'static [u8],
 ) -> Moment {
     Moment {
         contact: None,
@@ -80,10 +88,9 @@ fn start_at(count: u16, day: u32, contacts: u16) -> Start {
 }
 
 /// Whether the configuration has this record.
-fn is_recorded(alloc: Global, config: &Config, record: &str) -> Result<bool, Fail> {
-    let wanted = bytes_of(alloc, record)?;
+fn is_recorded(alloc: Global, config: &Config, record: &[u8]) -> Result<bool, Fail> {
     let bytes = write_config(alloc, config)?;
-    Ok(bytes.as_slice() == wanted.as_slice())
+    Ok(bytes.as_slice() == record)
 }
 
 /// Contact 3 is set, and frames are made.
@@ -243,8 +250,11 @@ fn five_rounds(rt: HostRuntime) -> Result<(), Fail> {
 #[test]
 fn a_sub_channel_takes_the_place_of_another(rt: HostRuntime) -> Result<(), Fail> {
     let alloc = rt.alloc();
-    let both = "02 00 00 01 00 00 00 03 00 80 02 00 60 00 03 00 40";
-    let second = "01 00 00 02 00 00 00 03 00 40";
+    let both: &[u8] = &[
+        0x02, 0x00, 0x00, 0x01, 0x00, 0x00, 0x00, 0x03, 0x00, 0x80, 0x02, 0x00, 0x60, 0x00, 0x03,
+        0x00, 0x40,
+    ];
+    let second: &[u8] = &[0x01, 0x00, 0x00, 0x02, 0x00, 0x00, 0x00, 0x03, 0x00, 0x40];
     let subs = "sub 1 at 0 eep 3-A 128\nsub 2 at 96 eep 3-A 64";
     let script = format!(in alloc;
         "{HEAD}{subs}\nbegin\nmove sub 2 at 0\ndrop sub 1\ncommit in 24\n"

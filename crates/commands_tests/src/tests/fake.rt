@@ -6,26 +6,20 @@ use std::alloc::{AllocError, Global};
 use std::io::{self, Error, ErrorKind, Write};
 use std::test::Fail;
 
-/// One file for all: what `read` and `input` answer, and which of the two was called how often.
+/// One file for all: what `read` and `input` answer.
 #[derive(Drop)]
 pub struct OneFile<'a> {
     content: Result<&'a [u8], FileFault>,
     path: &'static str,
-    pub reads: u32,
 }
 
 impl<'a> OneFile<'a> {
     /// The file of path `path`, or standard input where that is `-`. No other file can be read.
     pub fn new(path: &'static str, content: Result<&'a [u8], FileFault>) -> Self {
-        OneFile {
-            content,
-            path,
-            reads: 0,
-        }
+        OneFile { content, path }
     }
 
     fn give(&mut self, alloc: Global, path: &str) -> Result<Vec<u8>, FileFault> {
-        self.reads = self.reads.saturating_add(1);
         if path != self.path {
             return Err(FileFault::Failed);
         }
@@ -49,58 +43,6 @@ impl Files for OneFile<'_> {
 
     fn create(&mut self, _path: &str) -> Result<Failing, FileFault> {
         Err(FileFault::Failed)
-    }
-}
-
-/// A code file `x.code` and an event file `x.events`; and what is made takes 96 bytes at a call for this many calls.
-#[derive(Drop)]
-pub struct PlayFiles<'a> {
-    pub code: &'a [u8],
-    pub events: &'a [u8],
-    pub calls: Option<u32>,
-    pub created: u32,
-}
-
-impl<'a> PlayFiles<'a> {
-    /// These files, of which none is made yet; `None`: none can be made.
-    pub fn new(code: &'a [u8], events: &'a [u8], calls: Option<u32>) -> Self {
-        PlayFiles {
-            code,
-            events,
-            calls,
-            created: 0,
-        }
-    }
-}
-
-impl Files for PlayFiles<'_> {
-    type Out = Failing;
-
-    fn read(&mut self, alloc: Global, path: &str) -> Result<Vec<u8>, FileFault> {
-        let content = match path {
-            "x.code" => self.code,
-            "x.events" => self.events,
-            _ => return Err(FileFault::Failed),
-        };
-        content.to_vec(alloc).map_err(|_| FileFault::Memory)
-    }
-
-    fn input(&mut self, _alloc: Global) -> Result<Vec<u8>, FileFault> {
-        Err(FileFault::Failed)
-    }
-
-    fn create(&mut self, _path: &str) -> Result<Failing, FileFault> {
-        self.created = self.created.saturating_add(1);
-        match self.calls {
-            Some(calls) => Ok(Failing {
-                takes: 96,
-                calls,
-                fault: Some(ErrorKind::Other),
-                taken: 0,
-                tried: 0,
-            }),
-            None => Err(FileFault::Failed),
-        }
     }
 }
 

@@ -1,15 +1,25 @@
 //! Every command, where a file fails at each call, and where the output fails after each write.
 
-use super::rows::{RATES, RATES_FILE};
+use super::fake::{Failing, bytes_of, run, words_of};
+use super::shelf::{Named, Shelf};
 use commands::answer::answer;
 use console::files::FileFault;
-use memory_files::fake::{Failing, bytes_of, run, words_of};
-use memory_files::shelf::{Named, Shelf};
 use std::alloc::Global;
 use std::cell::RefCell;
 use std::io::ErrorKind;
 use std::process::Abort;
 use std::test::Fail;
+
+/// A rate is lowered and raised as contact 3 is closed and opened.
+const RATES: &str = "ensemble E1C5\nperiod 4 notice 24 budget 20\nsub 1 at 0 eep 3-A 128\n\
+    service C221\naudio 63 sub 1 in C221\nbegin\nforever {\nwait contact 3 closed\nrate sub 1 96\n\
+    commit in 24\njoin\nwait contact 3 open\nrate sub 1 128\ncommit in 24\njoin\n}\n";
+
+/// Its code file.
+const RATES_FILE: &str = "44 41 42 50 01 E1 C5 04 18 14 00 01 00 01 00 09 \
+    01 01 00 01 00 00 00 03 00 80 00 C2 21 01 00 3F 01 00 00 00 00 00 00 00 00 00 00 00 00 01 \
+    00 08 03 03 01 00 09 13 01 00 60 00 0A 04 00 18 00 0B 06 00 0C 03 03 00 00 0D 13 01 00 80 \
+    00 0E 04 00 18 00 0F 06 00 07 21 00 00";
 
 /// A configuration with one programme.
 const RECORD: &str = "01 01 00 01 00 00 00 03 00 80 00 C2 21 01 00 3F 01";

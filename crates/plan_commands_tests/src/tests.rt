@@ -1,3 +1,0 @@
-mod compile;
-mod debug;
-mod play;

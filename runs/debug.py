@@ -1,0 +1,91 @@
+#!/usr/bin/env python3
+"""'dabplan debug': what it prints command by command, and how it refuses. The last line is 'N passed, M failed'."""
+import rows
+from rows import NOTHING_FILE, RATES_FILE, REFUSED_FILE, hexadecimal
+from verify import HEADER, START
+
+
+def led(rows, code, commands, options, status, wanted):
+    """A code file is led so by the commands of a file."""
+    rows.answers(f"debug x.code x.commands {options}", status, wanted,
+                 {"x.code": hexadecimal(code), "x.commands": commands})
+
+
+def line(frames, steps, pc, line_number, count, remaining="none"):
+    """The line of a report."""
+    return f"frames {frames} steps {steps} pc {pc} line {line_number} count {count} remaining {remaining}\n"
+
+
+def a_change_of_rate_led_by_commands(rows):
+    """A break line, a contact, the next line, and the announcements that went out."""
+    wanted = (
+        line(0, 0, 0, 8, 0) + line(1, 1, 1, 9, 1) + "break\n" + line(0, 1, 1, 9, 1) + line(2, 0, 4, 12, 3, 25)
+        + line(26, 1, 5, 13, 29) + line(0, 1, 5, 13, 29)
+        + "".join(f"announced {count} swap 28 change 1\n" for count in (4, 8, 12, 16, 20, 24))
+    )
+    led(rows, RATES_FILE, "break 9 run 100\ncontact 3 closed run 2 # the notice\nnext show", "", 0, wanted)
+
+
+def few_commands(rows):
+    """A command file of no command prints nothing, and `run` alone one line."""
+    for commands, options, wanted in (
+        ("", "", ""),
+        (" # nothing\n", "", ""),
+        ("run 1", "", line(1, 1, 0, 1, 1)),
+        ("clear", "--count 4999 --day 3599999 --contacts FFFF", line(0, 0, 0, 1, 4999)),
+        ("run 3 next", "--count 4999", line(3, 0, 0, 1, 2) + line(5000, 0, 0, 1, 2)),
+    ):
+        led(rows, NOTHING_FILE, commands, options, 0, wanted)
+
+
+def contacts(rows):
+    """A contact that is closed at first, or by a command, lets the plan continue."""
+    led(rows, RATES_FILE, "run 2", "--contacts 0008", 0, line(2, 3, 4, 12, 2, 26))
+    led(rows, RATES_FILE, "contact 3 closed contact 3 open run 2", "", 0,
+        line(0, 0, 0, 8, 0) + line(0, 0, 0, 8, 0) + line(2, 0, 1, 9, 2))
+
+
+def a_loop_of_three(rows):
+    """A loop of three, of a code with two labels, the second of which has counter 0 set."""
+    header = HEADER.replace("00 01 00 01 00", "00 01 00 02 00")
+    code = f"""{header} 04 00 00 00 {START} 02 00 01 00 00 00 00 00 00 00 00 00 01 01
+        00 01 22 00 00 03 00 02 01 00 01 00 03 23 00 00 01 00 04 07"""
+    led(rows, code, "run 1 " * 5, "", 0,
+        line(1, 2, 2, 3, 1) + line(1, 2, 2, 3, 2) + line(1, 2, 2, 3, 3) + line(1, 2, 3, 4, 4) + line(1, 0, 3, 4, 5))
+
+
+def frames_of_the_day(rows):
+    """Waiting for the first frame of the day, and for its last: that of its own frame is over."""
+    for time, second in (("00 00 00 00", 1), ("00 36 EE 7F", 0)):
+        led(rows, f"{HEADER} 02 00 00 00 {START} 01 00 01 02 {time} 00 02 07", "run 1 " * 3, "--day 3599999", 0,
+            line(1, 1, 1, 2, 1) + line(1, second, 1, 2, 2) + line(1, 0, 1, 2, 3))
+
+
+def faults_in_their_order(rows):
+    """The line of a fault is printed alone: of the code first, then of the start, then of the commands."""
+    for code, commands, options, wanted in (
+        ("", "@", "--count 5000", "code: Truncated\n"),
+        ("45 41 42 50", "@", "--count 5000", "code: Magic\n"),
+        (REFUSED_FILE, "@", "--count 5000", "refused at 0 line 1: JoinIdle\n"),
+        (NOTHING_FILE, "@", "--count 5000 --day 3600000", "start: Count\n"),
+        (NOTHING_FILE, "@", "--day 3600000", "start: Day\n"),
+        (NOTHING_FILE, "next run 0 @", "", "commands 1:12: Byte\n"),
+        (NOTHING_FILE, "next\nrun 0", "", "commands 2:5: Number\n"),
+        (NOTHING_FILE, "next break 65536", "", "commands 1:12: Number\n"),
+        (NOTHING_FILE, "contact 3 shut", "", "commands 1:11: Expected\n"),
+        (NOTHING_FILE, "frames 1", "", "commands 1:1: Expected\n"),
+    ):
+        led(rows, code, commands, options, 1, wanted)
+
+
+def files_that_cannot_be_had(rows):
+    """Files that are not there or are no text."""
+    files = {"x.code": b"DABP", "x.commands": "run 1", "no_text": b"\xff"}
+    rows.answers("debug y.code x.commands", 1, "cannot read y.code\n", files)
+    rows.answers("debug x.code y.commands", 1, "cannot read y.commands\n", files)
+    rows.answers("debug x.code no_text", 1, "cannot read no_text\n", files)
+
+
+if __name__ == "__main__":
+    rows.main([a_change_of_rate_led_by_commands, few_commands, contacts, a_loop_of_three, frames_of_the_day,
+               faults_in_their_order, files_that_cannot_be_had])

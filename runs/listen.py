@@ -1,0 +1,113 @@
+#!/usr/bin/env python3
+"""'dabplan listen': what it tells of FIBs, whole and damaged, and how it refuses a file. The last line is 'N passed, M
+failed'."""
+import rows
+from rows import hexadecimal
+
+# One frame of one audio service: sub-channel 1 at 3-A 128 kbit/s, service C221 with audio of type 63 on it.
+ONE_PROGRAMME = ("05 00 E1 C5 00 00 05 01 04 00 88 60 06 02 C2 21 01 3F 06 FF", "FF", "FF")
+
+
+def crc(data):
+    """The CRC of a FIB's data: the polynomial x^16 + x^12 + x^5 + 1, all ones at first, complemented (EN 300 401, 5.2.1)."""
+    word = 0xFFFF
+    for byte in data:
+        for place in range(7, -1, -1):
+            bit = (byte >> place ^ word >> 15) & 1
+            word = word << 1 & 0xFFFF ^ (0x1021 if bit else 0)
+    return word ^ 0xFFFF
+
+
+def fib(data):
+    """A FIB of these data bytes, with zeros after them up to the 30th, and its CRC."""
+    data = hexadecimal(data).ljust(30, b"\0")
+    return data + crc(data).to_bytes(2, "big")
+
+
+def stream(*data):
+    """FIBs of these data bytes, one behind the other."""
+    return b"".join(fib(each) for each in data)
+
+
+def listings(rows):
+    """What is told of whole FIBs."""
+    for data, wanted in (
+        ((), "fibs 0 damaged 0\ncurrent\nnext\nno swap\n"),
+        (ONE_PROGRAMME, "fibs 3 damaged 0\ncurrent\nsub 1 at 0 size 96 eep 3-A\nservice C221\n"
+                        "  audio 63 sub 1 primary\nnext\nno swap\n"),
+        # Entries before the first FIG 0/0 are passed over.
+        (("04 01 04 00 05 FF", "05 00 E1 C5 00 00 FF"), "fibs 2 damaged 0\ncurrent\nnext\nno swap\n"),
+        (("05 00 E1 C5 00 00 04 01 04 00 05 FF",),
+         "fibs 1 damaged 0\ncurrent\nsub 1 at 0 switch 0 table 5\nnext\nno swap\n"),
+        # A FIG that is no whole entry damages its FIB, earlier FIGs too.
+        (("05 00 E1 C5 00 00 04 01 04 00 88 FF",), "fibs 1 damaged 1\ncurrent\nnext\nno swap\n"),
+    ):
+        rows.answers("listen x.fib", 0, wanted, {"x.fib": stream(*data)})
+
+
+def damaged_fibs(rows):
+    """A FIB with a bit turned is counted, and tells nothing."""
+    for place in range(32):
+        turned = bytearray(fib(ONE_PROGRAMME[0]))
+        turned[place] ^= 1
+        rows.answers("listen x.fib", 0, "fibs 1 damaged 1\ncurrent\nnext\nno swap\n", {"x.fib": bytes(turned)})
+
+
+def all_forms(rows):
+    """Each form of an entry."""
+    data = (
+        "05 00 E1 C5 00 00 09 01 04 00 A8 60 08 60 9C 1E FF",
+        "0A 02 C2 21 03 45 FC 8A BC C0 1E 08 22 E1 C2 00 01 01 3F 06 06 03 00 70 BC 14 01 FF",
+        "06 03 00 80 3C 17 FF FF",
+    )
+    wanted = (
+        "fibs 3 damaged 0\ncurrent\nsub 1 at 0 size 96 option 2 level 3\nsub 2 at 96 size 30 eep 4-B\n"
+        "service C221\n  data 5 sub 63 secondary\n  other 8ABC\n  packet 7 primary\n"
+        "service E1C20001\n  audio 63 sub 1 primary\n"
+        "packet 7 raw type 60 sub 5 address 1\npacket 8 groups type 60 sub 5 address 1023\nnext\nno swap\n"
+    )
+    rows.answers("listen x.fib", 0, wanted, {"x.fib": stream(*data)})
+
+
+def a_reconfiguration(rows):
+    """A reconfiguration from 128 to 96 kbit/s: announced at count 4 for count 28, and made there."""
+    data = (
+        "06 00 E1 C5 40 04 1C 05 01 04 00 88 60 06 02 C2 21 01 3F 06 05 81 04 00 88 48 FF",
+        "06 82 C2 21 01 3F 06 FF",
+        "05 00 E1 C5 00 1C 05 01 04 00 88 48 06 02 C2 21 01 3F 06 FF",
+    )
+    service = "service C221\n  audio 63 sub 1 primary\n"
+    at_128, at_96 = f"sub 1 at 0 size 96 eep 3-A\n{service}", f"sub 1 at 0 size 72 eep 3-A\n{service}"
+    rows.answers("listen x.fib", 0, f"fibs 2 damaged 0\ncurrent\n{at_128}next\n{at_96}swap at low 28\n",
+                 {"x.fib": stream(*data[:2])})
+    rows.answers("listen x.fib", 0, f"fibs 3 damaged 0\ncurrent\n{at_96}next\nno swap\n", {"x.fib": stream(*data)})
+
+
+def sixty_five(are_packets):
+    """FIBs of 65 services or packet components, one in each after the first FIB, which holds FIG 0/0."""
+    data = ["05 00 E1 C5 00 00 FF"]
+    for number in range(65):
+        high, low = number // 16, number % 16 * 16
+        data.append(f"06 03 {high:02X} {low:02X} 3C 14 01 FF" if are_packets else f"04 02 00 {number:02X} 00 FF")
+    return stream(*data)
+
+
+def full_pictures(rows):
+    """64 services or packet components have room in a picture, and a 65th has none."""
+    for are_packets in (False, True):
+        whole = sixty_five(are_packets)
+        rows.answers("listen x.fib", 1, "refused: Full\n", {"x.fib": whole})
+        ended = rows.run("listen x.fib", {"x.fib": whole[:65 * 32]})
+        rows.tally.same("64 have room", (0, b"fibs 65 damaged 0"), (ended.status, ended.printed.split(b"\n")[0]))
+
+
+def refused_files(rows):
+    """Files that are refused: of no whole FIBs, which is tested first, and one that can't be read."""
+    whole = sixty_five(False)
+    for part in (whole[:65], whole[:-1]):
+        rows.answers("listen x.fib", 1, "refused: not whole FIBs\n", {"x.fib": part})
+    rows.answers("listen x.fib", 1, "cannot read x.fib\n")
+
+
+if __name__ == "__main__":
+    rows.main([listings, damaged_fibs, all_forms, a_reconfiguration, full_pictures, refused_files])

@@ -1,0 +1,91 @@
+"""What the scripts of runs/ share: a command line over its files, and the comparison with what has to come out."""
+import pathlib
+import sys
+import tempfile
+
+sys.path.insert(0, str(pathlib.Path(__file__).resolve().parent.parent / "hostile"))
+import common  # noqa: E402
+
+# Sub-channel 1 at 0, 3-A, 128 kbit/s, and service C221 with audio of type 63 on it.
+ONE_PROGRAMME = "01 01 00 01 00 00 00 03 00 80 00 C2 21 01 00 3F 01"
+
+# A rate is lowered and raised as contact 3 is closed and opened.
+RATES = """\
+ensemble E1C5
+period 4 notice 24 budget 20
+sub 1 at 0 eep 3-A 128
+service C221
+audio 63 sub 1 in C221
+begin
+forever {
+wait contact 3 closed
+rate sub 1 96
+commit in 24
+join
+wait contact 3 open
+rate sub 1 128
+commit in 24
+join
+}
+"""
+
+# Its code file, byte by byte as the format has it: header, configuration, label, nine instructions.
+RATES_FILE = f"""
+44 41 42 50 01 E1 C5 04 18 14 00 01 00 01 00 09
+{ONE_PROGRAMME}
+00 00 00 00 00 00 00 00 00 00 00 00 01
+00 08 03 03 01  00 09 13 01 00 60  00 0A 04 00 18  00 0B 06  00 0C 03 03 00
+00 0D 13 01 00 80  00 0E 04 00 18  00 0F 06  00 07 21 00 00
+"""
+
+# A script that ends at once, and its code file.
+NOTHING = "ensemble E1C5 period 4 notice 24 budget 20 begin"
+NOTHING_FILE = """
+44 41 42 50 01 E1 C5 04 18 14 00 01 00 01 00 01
+00 00 00  00 00 00 00 00 00 00 00 00 00 00 00 01  00 01 07
+"""
+
+# A code whose only instruction joins where no swap is pending, in line 1.
+REFUSED_FILE = NOTHING_FILE.replace("00 01 07", "00 01 06")
+
+
+def hexadecimal(text):
+    """The bytes that a text of hexadecimal pairs writes."""
+    return bytes.fromhex(text)
+
+
+class Rows:
+    """The built program, the folder that its rows are run in, and what passed and failed."""
+
+    def __init__(self, folder):
+        self.tally = common.Tally()
+        self.program = common.dabplan()
+        self.folder = folder
+
+    def run(self, line, files=None, stdin=b""):
+        """Runs `dabplan` with the words of a line, cut at blanks, where the folder holds these files and no other."""
+        for path in pathlib.Path(self.folder).iterdir():
+            path.unlink()
+        for name, content in (files or {}).items():
+            common.write(self.folder, name, content)
+        words = line.split() if isinstance(line, str) else line
+        return common.run([self.program, *words], self.folder, stdin=stdin)
+
+    def made(self, name):
+        """The bytes of a file that the last run left in the folder; None where there is none."""
+        path = pathlib.Path(self.folder, name)
+        return path.read_bytes() if path.exists() else None
+
+    def answers(self, line, status, printed, files=None, stdin=b""):
+        """Counts that a command line ends with this status, prints this text and has no other message."""
+        ended = self.run(line, files, stdin)
+        self.tally.same(f"dabplan {line}", (status, printed.encode(), b""), (*ended.lines(), ended.messages))
+
+
+def main(parts):
+    """Runs these parts, each over the rows of one folder, and prints the count."""
+    with tempfile.TemporaryDirectory() as folder:
+        rows = Rows(folder)
+        for part in parts:
+            part(rows)
+    rows.tally.end()

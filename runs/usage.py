@@ -1,0 +1,93 @@
+#!/usr/bin/env python3
+"""Command lines that are wrong, help, and the example that help shows. The last line is 'N passed, M failed'."""
+import re
+
+import rows
+from rows import ONE_PROGRAMME, hexadecimal
+
+FOUR_DIGITS = "four digits 0-9 A-F are wanted"
+
+
+def required(name):
+    """The message of a command line that lacks an argument."""
+    return f"the following required arguments were not provided: {name}"
+
+
+def twice(name):
+    """The message of a command line that has an option twice."""
+    return f"the argument '{name}' cannot be used multiple times"
+
+
+def wrong_command_lines(rows):
+    """Command lines that are wrong, each with its line; no file is read, or there would be another line."""
+    for line, wanted in (
+        ("", "a command is wanted: frame, listen, compile, verify, play, debug or help"),
+        ("fram", "unrecognized subcommand 'fram'; tip: a similar subcommand exists: 'frame'"),
+        ("frame - --ensemble E1C5", required("--count <N>")),
+        ("frame - --ensemble E1C --count 0", f"invalid value 'E1C' for '--ensemble <HHHH>': {FOUR_DIGITS}"),
+        ("frame - --ensemble e1c5 --count 0", f"invalid value 'e1c5' for '--ensemble <HHHH>': {FOUR_DIGITS}"),
+        ("frame - --ensemble 0E1C5 --count 0", f"invalid value '0E1C5' for '--ensemble <HHHH>': {FOUR_DIGITS}"),
+        (["frame", "-", "--ensemble", "E1\nC5", "--count", "0"],
+         f"invalid value 'E1 C5' for '--ensemble <HHHH>': {FOUR_DIGITS}"),
+        ("frame - --ensemble E1C5 --count 5000", "invalid value '5000' for '--count <N>': 5000 is not in 0..=4999"),
+        ("frame - --ensemble E1C5 --count -1", "invalid value '-1' for '--count <N>': -1 is not in 0..=4999"),
+        ("frame - --ensemble E1C5 --count x", "invalid value 'x' for '--count <N>': invalid digit found in string"),
+        ("frame - --ensemble E1C5 --count 0 --page 65536",
+         "invalid value '65536' for '--page <K>': 65536 is not in 0..=65535"),
+        ("frame x.rec --ensemble E1C5 --count 0 --mode 0", "invalid value '0' for '--mode <M>': 0 is not in 1..=4"),
+        ("frame x.rec --ensemble E1C5 --count 0 --mode 5", "invalid value '5' for '--mode <M>': 5 is not in 1..=4"),
+        ("frame - --ensemble E1C5 --count 0 --mode III",
+         "invalid value 'III' for '--mode <M>': invalid digit found in string"),
+        ("frame - --ensemble E1C5 --count 0 --mode 1 --mode 1", twice("--mode <M>")),
+        ("frame - --ensemble E1C5 --count 0 --count 0", twice("--count <N>")),
+        ("listen", required("<FILE>")),
+        ("listen a b", "unexpected argument 'b' found"),
+        ("verify", required("<CODE>")),
+        ("verify a b", "unexpected argument 'b' found"),
+    ):
+        rows.answers(line, 2, f"error: {wanted}\n")
+    rows.answers(["\udcff"], 2, "error: a word of the command line is not UTF-8\n")
+
+
+def wrong_options(rows):
+    """Options of `play` and `debug` that are out of their ranges."""
+    for command in ("play x.code x.events x.fib", "debug x.code x.commands"):
+        for options in ("--contacts 008", "--contacts 000g", "--count 65536", "--day 4294967296", "--count x"):
+            ended = rows.run(f"{command} {options}")
+            rows.tally.same(f"{command} {options}", (2, b"error: invalid value"), (ended.status, ended.printed[:20]))
+    ended = rows.run("debug x.code x.commands x")
+    rows.tally.same("a third file", (2, b"error: unexpected argument 'x' found\n"), ended.lines())
+
+
+def help_is_no_fault(rows):
+    """Help that is asked for names the whole command, and ends well."""
+    for line, usage in (
+        ("--help", "Usage: dabplan <COMMAND>"),
+        ("--version", "dabplan 0.1.0\n"),
+        ("-V", "dabplan 0.1.0\n"),
+        ("compile --help", "Usage: dabplan compile <SCRIPT> <OUT>"),
+        ("debug --help", "Usage: dabplan debug <CODE> <COMMANDS>"),
+        ("-h", "Usage: dabplan <COMMAND>"),
+        ("help", "Usage: dabplan <COMMAND>"),
+        ("frame --help", "Usage: dabplan frame <CONFIG> --ensemble <HHHH> --count <N> [--page <K>] [--mode <M>]"),
+        ("help listen", "Usage: dabplan listen <FILE>"),
+        ("verify --help", "Usage: dabplan verify <CODE>"),
+    ):
+        ended = rows.run(line)
+        rows.tally.same(line, (0, True), (ended.status, usage in ended.printed.decode()))
+
+
+def the_example_of_the_help(rows):
+    """The example that help shows can be pasted: it prints one frame of one audio service."""
+    first = b"0500E1C500000501040088600602C221013F06FF000000000000000000002369"
+    for line in ("--help", "frame --help", "help frame"):
+        shown = rows.run(line).printed.decode()
+        escapes, words = re.search(r"printf '([\\0-7]+)' \|\s+dabplan ([^\n]*)", shown).groups()
+        record = bytes(int(digits, 8) for digits in escapes.split("\\")[1:])
+        ended = rows.run(words, stdin=record)
+        rows.tally.same(f"the example of {line}", (hexadecimal(ONE_PROGRAMME), 0, first),
+                        (record, ended.status, ended.printed.split(b"\n")[0]))
+
+
+if __name__ == "__main__":
+    rows.main([wrong_command_lines, wrong_options, help_is_no_fault, the_example_of_the_help])
