@@ -159,16 +159,44 @@ fn program<'a>(alloc: Global) -> Result<Command<'a>, AllocError> {
 }
 
 fn frame<'a>(alloc: Global) -> Result<Command<'a>, AllocError> {
-    let config = Arg::new(alloc, "config")
-        .value_name("CONFIG")
+    let config_help = "The configuration record: a file, or '-' for standard input";
+    Command::new(alloc, "frame")
+        .about(help::FRAME)
+        .long_about(help::LONG_FRAME)
+        .after_long_help(help::AFTER_FRAME)
+        .override_usage(help::FRAME_USAGE)
+        .arg(file(alloc, "config", "CONFIG", config_help))?
+        .arg(identifier(alloc))?
+        .arg(frame_count(alloc))?
+        .arg(page(alloc))?
+        .arg(mode(alloc))
+}
+
+/// An argument without an option, which is wanted.
+fn file<'a>(
+    alloc: Global,
+    name: &'static str,
+    value_name: &'static str,
+    help: &'static str,
+) -> Arg<'a> {
+    Arg::new(alloc, name)
+        .value_name(value_name)
         .required(true)
-        .help("The configuration record: a file, or '-' for standard input");
-    let ensemble = Arg::new(alloc, "ensemble")
+        .help(help)
+}
+
+/// The option of the ensemble's identifier.
+fn identifier<'a>(alloc: Global) -> Arg<'a> {
+    Arg::new(alloc, "ensemble")
         .long("ensemble")
         .value_name("HHHH")
         .required(true)
-        .help("The identifier of the ensemble: four hexadecimal digits, upper case");
-    let count = Arg::new(alloc, "count")
+        .help("The identifier of the ensemble: four hexadecimal digits, upper case")
+}
+
+/// The option of the one frame's count.
+fn frame_count<'a>(alloc: Global) -> Arg<'a> {
+    Arg::new(alloc, "count")
         .long("count")
         .value_name("N")
         .required(true)
@@ -176,119 +204,82 @@ fn frame<'a>(alloc: Global) -> Result<Command<'a>, AllocError> {
         .value_parser(value_parser!(u16).range(..5000))
         .help(
             "The CIF count of the frame, 0 to 4999; FIG 0/0 is sent where the mode's 4, 1, 1 or 2 divides it",
-        );
-    let page = Arg::new(alloc, "page")
+        )
+}
+
+/// The option of the page.
+fn page<'a>(alloc: Global) -> Arg<'a> {
+    Arg::new(alloc, "page")
         .long("page")
         .value_name("K")
         .default_value("0")
         .allow_negative_numbers(true)
         .value_parser(value_parser!(u16))
-        .help("Which frame of a configuration that needs more than one, from 0");
-    let mode = Arg::new(alloc, "mode")
+        .help("Which frame of a configuration that needs more than one, from 0")
+}
+
+/// The option of the transmission mode.
+fn mode<'a>(alloc: Global) -> Arg<'a> {
+    Arg::new(alloc, "mode")
         .long("mode")
         .value_name("M")
         .default_value("1")
         .allow_negative_numbers(true)
         .value_parser(value_parser!(u16).range(1..5))
-        .help("The transmission mode, 1 to 4; in mode 3 a frame has four FIBs, else three");
-    Command::new(alloc, "frame")
-        .about(help::FRAME)
-        .long_about(help::LONG_FRAME)
-        .after_long_help(help::AFTER_FRAME)
-        .override_usage(help::FRAME_USAGE)
-        .arg(config)?
-        .arg(ensemble)?
-        .arg(count)?
-        .arg(page)?
-        .arg(mode)
+        .help("The transmission mode, 1 to 4; in mode 3 a frame has four FIBs, else three")
 }
 
 fn listen<'a>(alloc: Global) -> Result<Command<'a>, AllocError> {
-    let file = Arg::new(alloc, "file")
-        .value_name("FILE")
-        .required(true)
-        .help("The file of FIBs");
     Command::new(alloc, "listen")
         .about(help::LISTEN)
         .long_about(help::LONG_LISTEN)
         .after_long_help(help::AFTER_LISTEN)
         .override_usage(help::LISTEN_USAGE)
-        .arg(file)
+        .arg(file(alloc, "file", "FILE", "The file of FIBs"))
 }
 
 fn compile<'a>(alloc: Global) -> Result<Command<'a>, AllocError> {
-    let script = Arg::new(alloc, "script")
-        .value_name("SCRIPT")
-        .required(true)
-        .help("The script");
-    let out = Arg::new(alloc, "out")
-        .value_name("OUT")
-        .required(true)
-        .help("The code file that is made");
     Command::new(alloc, "compile")
         .about(help::COMPILE)
         .long_about(help::LONG_COMPILE)
         .after_long_help(help::AFTER_COMPILE)
         .override_usage(help::COMPILE_USAGE)
-        .arg(script)?
-        .arg(out)
+        .arg(file(alloc, "script", "SCRIPT", "The script"))?
+        .arg(file(alloc, "out", "OUT", "The code file that is made"))
 }
 
 fn verify<'a>(alloc: Global) -> Result<Command<'a>, AllocError> {
-    let code = Arg::new(alloc, "code")
-        .value_name("CODE")
-        .required(true)
-        .help("The code file");
     Command::new(alloc, "verify")
         .about(help::VERIFY)
         .long_about(help::LONG_VERIFY)
         .after_long_help(help::AFTER_VERIFY)
         .override_usage(help::VERIFY_USAGE)
-        .arg(code)
+        .arg(file(alloc, "code", "CODE", "The code file"))
 }
 
 fn play<'a>(alloc: Global) -> Result<Command<'a>, AllocError> {
-    let code = Arg::new(alloc, "code")
-        .value_name("CODE")
-        .required(true)
-        .help("The code file");
-    let events = Arg::new(alloc, "events")
-        .value_name("EVENTS")
-        .required(true)
-        .help("The event file");
-    let out = Arg::new(alloc, "out")
-        .value_name("OUT")
-        .required(true)
-        .help("The file that the frames are written to");
+    let out_help = "The file that the frames are written to";
     Command::new(alloc, "play")
         .about(help::PLAY)
         .long_about(help::LONG_PLAY)
         .after_long_help(help::AFTER_PLAY)
         .override_usage(help::PLAY_USAGE)
-        .arg(code)?
-        .arg(events)?
-        .arg(out)?
+        .arg(file(alloc, "code", "CODE", "The code file"))?
+        .arg(file(alloc, "events", "EVENTS", "The event file"))?
+        .arg(file(alloc, "out", "OUT", out_help))?
         .arg(count(alloc))?
         .arg(day(alloc))?
         .arg(contacts(alloc))
 }
 
 fn debug<'a>(alloc: Global) -> Result<Command<'a>, AllocError> {
-    let code = Arg::new(alloc, "code")
-        .value_name("CODE")
-        .required(true)
-        .help("The code file");
-    let commands = Arg::new(alloc, "commands")
-        .value_name("COMMANDS")
-        .required(true)
-        .help("The command file");
     Command::new(alloc, "debug")
         .about(help::DEBUG)
         .long_about(help::LONG_DEBUG)
         .after_long_help(help::AFTER_DEBUG)
         .override_usage(help::DEBUG_USAGE)
-        .arg(code)?
-        .arg(commands)?
+        .arg(file(alloc, "code", "CODE", "The code file"))?
+        .arg(file(alloc, "commands", "COMMANDS", "The command file"))?
         .arg(count(alloc))?
         .arg(day(alloc))?
         .arg(contacts(alloc))
