@@ -1,22 +1,50 @@
-//! Outside vectors: worked examples, FIBs of the standard's lenient forms, and FIBs of another multiplexer.
+//! Outside vectors: worked examples, FIBs of the standard's lenient forms, and FIBs of another
+//! multiplexer.
+//!
+//! A call with a long contract stands in a small function without one, so that no test's proof
+//! carries it.
 
 use fib_codec::crc16;
 
 mod hearing;
 mod reading;
 
-/// The FIB of these data bytes, which zeros follow up to the thirtieth, with its CRC.
-fn fib_of(data: &[u8]) -> [u8; 32] {
+/// The bits of a byte, one in each mask.
+const BITS: [u8; 8] = [1, 2, 4, 8, 16, 32, 64, 128];
+
+/// These data bytes, which zeros follow up to the thirtieth.
+fn filled_of(data: &[u8]) -> [u8; 30] {
     let mut filled = [0u8; 30];
-    for place in 0..30usize {
-        if place < data.len() {
-            filled[place] = data[place];
+    let mut rest = data.iter();
+    for place in &mut filled {
+        if let Some(byte) = rest.next() {
+            *place = *byte;
         }
     }
-    let word = crc16(&filled);
+    filled
+}
+
+/// The CRC of these data bytes, as it is sent.
+fn crc_of(filled: &[u8; 30]) -> [u8; 2] {
+    crc16(filled).to_be_bytes()
+}
+
+/// The FIB of these data bytes, which zeros follow up to the thirtieth, with its CRC.
+fn fib_of(data: &[u8]) -> [u8; 32] {
+    let filled = filled_of(data);
+    let crc = crc_of(&filled);
     let mut fib = [0u8; 32];
-    fib[..30].copy_from_slice(&filled);
-    fib[30] = (word >> 8) as u8;
-    fib[31] = (word % 256) as u8;
+    let (body, last) = fib.split_at_mut(30);
+    body.copy_from_slice(&filled);
+    last.copy_from_slice(&crc);
     fib
+}
+
+/// This FIB with the bits of `mask` turned in the byte at `place`.
+fn turned(fib: &[u8; 32], place: usize, mask: u8) -> [u8; 32] {
+    let mut other = *fib;
+    if let Some(byte) = other.get_mut(place) {
+        *byte ^= mask;
+    }
+    other
 }

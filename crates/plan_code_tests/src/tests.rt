@@ -8,6 +8,7 @@ mod kinds;
 mod largest;
 mod lines;
 mod modes;
+mod seen;
 mod swaps;
 
 /// The file of a code of one instruction, `End` in line 7, with nothing in its one configuration.

@@ -39,109 +39,69 @@ const LABEL: Label = Label {
     cost: 1,
 };
 
+/// Whether a code may have this plan and this label.
+fn may_have(alloc: Global, plan: Plan, label: Label) -> Result<bool, AllocError> {
+    Ok(one(alloc, plan, label)?.is_some())
+}
+
+fn with_period(period: u8) -> Plan {
+    Plan { period, ..PLAN }
+}
+
+fn with_notice(notice: u8) -> Plan {
+    Plan { notice, ..PLAN }
+}
+
+fn with_budget(budget: u8) -> Plan {
+    Plan { budget, ..PLAN }
+}
+
 #[test]
 fn limits_of_a_plan(rt: HostRuntime) -> Result<(), Fail> {
-    assert!(rt; one(rt.alloc(), PLAN, LABEL)?.is_some());
-    assert!(rt; one(rt.alloc(), Plan { period: 0, ..PLAN }, LABEL)?.is_none());
-    assert!(rt; one(rt.alloc(), Plan { period: 1, ..PLAN }, LABEL)?.is_some());
-    assert!(rt; one(rt.alloc(), Plan { period: 60, ..PLAN }, LABEL)?.is_some());
-    assert!(rt; one(rt.alloc(), Plan { period: 61, ..PLAN }, LABEL)?.is_none());
-    assert!(rt;
-        one(
-            rt.alloc(),
-            Plan {
-                notice: 248,
-                ..PLAN
-            },
-            LABEL
-        )?
-        .is_some()
-    );
-    assert!(rt; one(rt.alloc(), Plan { notice: 11, ..PLAN }, LABEL)?.is_none());
-    assert!(rt; one(rt.alloc(), Plan { notice: 12, ..PLAN }, LABEL)?.is_some());
-    assert!(rt;
-        one(
-            rt.alloc(),
-            Plan {
-                notice: 249,
-                ..PLAN
-            },
-            LABEL
-        )?
-        .is_none()
-    );
-    assert!(rt; one(rt.alloc(), Plan { budget: 1, ..PLAN }, LABEL)?.is_some());
-    assert!(rt;
-        one(
-            rt.alloc(),
-            Plan {
-                budget: 255,
-                ..PLAN
-            },
-            LABEL
-        )?
-        .is_some()
-    );
-    assert!(rt; one(rt.alloc(), Plan { budget: 0, ..PLAN }, LABEL)?.is_none());
+    for (plan, wanted) in [
+        (PLAN, true),
+        (with_period(0), false),
+        (with_period(1), true),
+        (with_period(60), true),
+        (with_period(61), false),
+        (with_notice(248), true),
+        (with_notice(11), false),
+        (with_notice(12), true),
+        (with_notice(249), false),
+        (with_budget(1), true),
+        (with_budget(255), true),
+        (with_budget(0), false),
+    ] {
+        assert_eq!(rt; may_have(rt.alloc(), plan, LABEL)?, wanted);
+    }
     Ok(())
+}
+
+/// The label with another swap.
+fn with_swap(pending: Swap) -> Label {
+    Label { pending, ..LABEL }
 }
 
 #[test]
 fn limits_of_a_label(rt: HostRuntime) -> Result<(), Fail> {
-    assert!(rt;
-        one(
-            rt.alloc(),
-            PLAN,
-            Label {
-                pc: 65_535,
-                ..LABEL
-            }
-        )?
-        .is_some()
-    );
-    assert!(rt; one(rt.alloc(), PLAN, Label { cur: 1, ..LABEL })?.is_none());
-    assert!(rt; one(rt.alloc(), PLAN, Label { next: 1, ..LABEL })?.is_none());
-    assert!(rt; one(rt.alloc(), PLAN, Label { cost: 0, ..LABEL })?.is_none());
-    assert!(rt;
-        one(
-            rt.alloc(),
-            PLAN,
-            Label {
-                pending: Swap::Within(1, 1),
-                ..LABEL
-            }
-        )?
-        .is_some()
-    );
-    assert!(rt;
-        one(
-            rt.alloc(),
-            PLAN,
-            Label {
-                pending: Swap::Within(0, 1),
-                ..LABEL
-            }
-        )?
-        .is_none()
-    );
-    assert!(rt;
-        one(
-            rt.alloc(),
-            PLAN,
-            Label {
-                pending: Swap::Within(2, 1),
-                ..LABEL
-            }
-        )?
-        .is_none()
-    );
-    let perhaps = |high| Label {
-        pending: Swap::Perhaps(high),
+    let last = Label {
+        pc: 65_535,
         ..LABEL
     };
-    assert!(rt; one(rt.alloc(), PLAN, perhaps(1))?.is_some());
-    assert!(rt; one(rt.alloc(), PLAN, perhaps(65_535))?.is_some());
-    assert!(rt; one(rt.alloc(), PLAN, perhaps(0))?.is_none());
+    for (label, wanted) in [
+        (last, true),
+        (Label { cur: 1, ..LABEL }, false),
+        (Label { next: 1, ..LABEL }, false),
+        (Label { cost: 0, ..LABEL }, false),
+        (with_swap(Swap::Within(1, 1)), true),
+        (with_swap(Swap::Within(0, 1)), false),
+        (with_swap(Swap::Within(2, 1)), false),
+        (with_swap(Swap::Perhaps(1)), true),
+        (with_swap(Swap::Perhaps(65_535)), true),
+        (with_swap(Swap::Perhaps(0)), false),
+    ] {
+        assert_eq!(rt; may_have(rt.alloc(), PLAN, label)?, wanted);
+    }
     Ok(())
 }
 
@@ -172,28 +132,67 @@ fn labels_ascend(rt: HostRuntime) -> Result<(), Fail> {
     Ok(())
 }
 
+fn frames(number: u16) -> Option<u16> {
+    Some(Frames::new(number)?.get())
+}
+
+fn times(number: u16) -> Option<u16> {
+    Some(Times::new(number)?.get())
+}
+
+fn delay(number: u16) -> Option<u16> {
+    Some(Delay::new(number)?.get())
+}
+
+fn day_frame(number: u32) -> Option<u32> {
+    Some(DayFrame::new(number)?.get())
+}
+
+fn contact(number: u8) -> Option<u8> {
+    Some(ContactId::new(number)?.get())
+}
+
+fn counter(number: u8) -> Option<u8> {
+    Some(CounterId::new(number)?.get())
+}
+
 #[test]
-fn numbers_within_their_limits(rt: HostRuntime) -> Result<(), Fail> {
-    assert_eq!(rt; Frames::new(0), None);
-    assert_eq!(rt; Frames::new(1).ok_or("one frame")?.get(), 1);
-    assert_eq!(rt; Frames::new(65_535).ok_or("frames")?.get(), 65_535);
-    assert_eq!(rt; Times::new(0), None);
-    assert_eq!(rt; Times::new(1).ok_or("once")?.get(), 1);
-    assert_eq!(rt; Times::new(65_535).ok_or("times")?.get(), 65_535);
-    assert_eq!(rt; Delay::new(0), None);
-    assert_eq!(rt; Delay::new(1).ok_or("one frame")?.get(), 1);
-    assert_eq!(rt; Delay::new(60_000).ok_or("frames")?.get(), 60_000);
-    assert_eq!(rt; Delay::new(60_001), None);
-    assert_eq!(rt;
-        DayFrame::new(3_599_999).ok_or("the last")?.get(),
-        3_599_999
-    );
-    assert_eq!(rt; DayFrame::new(3_600_000), None);
-    assert_eq!(rt; ContactId::new(15).ok_or("a contact")?.get(), 15);
-    assert_eq!(rt; ContactId::new(16), None);
-    assert_eq!(rt; CounterId::new(7).ok_or("a counter")?.get(), 7);
-    assert_eq!(rt; CounterId::new(8), None);
-    Ok(())
+fn frames_and_times_are_above_zero(rt: HostRuntime) {
+    for (number, wanted) in [(0, None), (1, Some(1)), (65_535, Some(65_535))] {
+        assert_eq!(rt; frames(number), wanted);
+        assert_eq!(rt; times(number), wanted);
+    }
+}
+
+#[test]
+fn delays_have_60_000_frames_at_most(rt: HostRuntime) {
+    for (number, wanted) in [
+        (0, None),
+        (1, Some(1)),
+        (60_000, Some(60_000)),
+        (60_001, None),
+    ] {
+        assert_eq!(rt; delay(number), wanted);
+    }
+}
+
+#[test]
+fn a_day_has_3_600_000_frames(rt: HostRuntime) {
+    assert_eq!(rt; day_frame(3_599_999), Some(3_599_999));
+    assert_eq!(rt; day_frame(3_600_000), None);
+}
+
+#[test]
+fn sixteen_contacts_and_eight_counters(rt: HostRuntime) {
+    for (number, is_contact, is_counter) in [
+        (7, true, true),
+        (8, true, false),
+        (15, true, false),
+        (16, false, false),
+    ] {
+        assert_eq!(rt; contact(number) == Some(number), is_contact);
+        assert_eq!(rt; counter(number) == Some(number), is_counter);
+    }
 }
 
 #[test]

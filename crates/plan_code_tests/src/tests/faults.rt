@@ -198,33 +198,16 @@ fn each_byte_changed_to_each_other_value(rt: HostRuntime) {
 
 #[test]
 fn names_of_faults(rt: HostRuntime) -> Result<(), Fail> {
-    assert_eq!(rt;
-        format!(in rt.alloc(); "{}", CodeFault::Magic)?.as_str(),
-        "Magic"
-    );
-    assert_eq!(rt;
-        format!(in rt.alloc(); "{}", CodeFault::Version)?.as_str(),
-        "Version"
-    );
-    assert_eq!(rt;
-        format!(in rt.alloc(); "{}", CodeFault::Truncated)?.as_str(),
-        "Truncated"
-    );
-    assert_eq!(rt;
-        format!(in rt.alloc(); "{}", CodeFault::Field(12))?.as_str(),
-        "Field 12"
-    );
-    assert_eq!(rt;
-        format!(in rt.alloc(); "{}", CodeFault::Limit)?.as_str(),
-        "Limit"
-    );
-    assert_eq!(rt;
-        format!(in rt.alloc(); "{}", CodeFault::Trailing)?.as_str(),
-        "Trailing"
-    );
-    assert_eq!(rt;
-        format!(in rt.alloc(); "{}", CodeFault::Memory)?.as_str(),
-        "Memory"
-    );
+    for (fault, text) in [
+        (CodeFault::Magic, "Magic"),
+        (CodeFault::Version, "Version"),
+        (CodeFault::Truncated, "Truncated"),
+        (CodeFault::Field(12), "Field 12"),
+        (CodeFault::Limit, "Limit"),
+        (CodeFault::Trailing, "Trailing"),
+        (CodeFault::Memory, "Memory"),
+    ] {
+        assert_eq!(rt; format!(in rt.alloc(); "{fault}")?.as_str(), text);
+    }
     Ok(())
 }

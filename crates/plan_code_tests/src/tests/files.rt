@@ -1,97 +1,111 @@
 //! Whole files, read and written back.
 
+use super::seen::{label, line, parts, plan, read, sizes, written};
 use super::{LONG_FILE, LOOP_FILE, SHORT_FILE};
 use mux_config::{Edit, SubId};
 use plan_code::{
-    CodeFault, ContactId, CounterId, Counters, Delay, Frames, Instr, Mode, Swap, Times, decode,
-    encode,
+    CodeFault, ContactId, CounterId, Counters, Delay, Frames, Instr, Label, Mode, Plan, Swap,
+    Times, decode,
 };
 use std::test::Fail;
 
 #[test]
 fn a_code_of_one_instruction(rt: HostRuntime) -> Result<(), Fail> {
-    let code = decode(rt.alloc(), &SHORT_FILE)?;
-    let plan = code.plan();
-    assert_eq!(rt; plan.eid, 0xE1C5);
-    assert_eq!(rt; plan.mode, Mode::I);
-    assert_eq!(rt; plan.period, 4);
-    assert_eq!(rt; plan.notice, 24);
-    assert_eq!(rt; plan.budget, 20);
-    assert_eq!(rt; code.configs().len(), 1);
-    assert_eq!(rt; code.labels().len(), 1);
-    assert_eq!(rt; code.lines().len(), 1);
-    assert!(rt; code.config(0).is_some());
-    assert!(rt; code.config(1).is_none());
-    assert_eq!(rt; code.instr(0), Some(Instr::End));
-    assert_eq!(rt; code.instr(1), None);
-    assert_eq!(rt; code.line_at(0), Some(1));
-    assert_eq!(rt; code.line_at(1), None);
-    let label = code.label_at(0).ok_or("a label at 0")?;
-    assert_eq!(rt; label.cost, 1);
-    assert_eq!(rt; label.pending, Swap::Idle);
-    assert_eq!(rt; code.label_at(1), None);
-    let bytes = encode(rt.alloc(), &code)?;
-    assert_eq!(rt; bytes.as_slice(), SHORT_FILE.as_slice());
+    let code = read(rt.alloc(), &SHORT_FILE)?;
+    let wanted = Plan {
+        eid: 0xE1C5,
+        mode: Mode::I,
+        period: 4,
+        notice: 24,
+        budget: 20,
+    };
+    assert_eq!(rt; plan(&code), wanted);
+    assert_eq!(rt; sizes(&code), (1, 1, 1));
+    assert_eq!(rt; parts(&code, 0), Some((0, 0, 0)));
+    assert_eq!(rt; parts(&code, 1), None);
+    assert_eq!(rt; line(&code, 0), (Some(Instr::End), Some(1)));
+    assert_eq!(rt; line(&code, 1), (None, None));
+    let wanted = Label {
+        pc: 0,
+        cur: 0,
+        next: 0,
+        pending: Swap::Idle,
+        counters: Counters(0),
+        cost: 1,
+    };
+    assert_eq!(rt; label(&code, 0), Some(wanted));
+    assert_eq!(rt; label(&code, 1), None);
+    assert_eq!(rt;
+        written(rt.alloc(), &code)?.as_slice(),
+        SHORT_FILE.as_slice()
+    );
     Ok(())
+}
+
+/// The first five instructions of the code that waits for a contact, and its ninth.
+fn waiting_and_changing() -> Option<[Instr; 6]> {
+    let contact = ContactId::new(3)?;
+    let id = SubId::new(1)?;
+    Some([
+        Instr::WaitContact {
+            contact,
+            closed: true,
+        },
+        Instr::Edit(Edit::RateSub { id, kbits: 96 }),
+        Instr::CommitIn(Delay::new(24)?),
+        Instr::Join,
+        Instr::WaitContact {
+            contact,
+            closed: false,
+        },
+        Instr::Edit(Edit::RateSub { id, kbits: 128 }),
+    ])
 }
 
 #[test]
 fn a_code_that_waits_for_a_contact(rt: HostRuntime) -> Result<(), Fail> {
-    let code = decode(rt.alloc(), &LONG_FILE)?;
-    let contact = ContactId::new(3).ok_or("a contact")?;
-    let id = SubId::new(1).ok_or("a sub-channel")?;
-    let delay = Delay::new(24).ok_or("a delay")?;
-    assert_eq!(rt; code.lines().len(), 9);
+    let code = read(rt.alloc(), &LONG_FILE)?;
+    assert_eq!(rt; sizes(&code), (1, 1, 9));
+    let mut pc = 0u16;
+    for instr in waiting_and_changing().ok_or("instructions")? {
+        assert_eq!(rt; line(&code, pc), (Some(instr), Some(pc.saturating_add(8))));
+        pc = pc.saturating_add(1);
+    }
+    assert_eq!(rt; line(&code, 8), (Some(Instr::Jump(0)), Some(7)));
+    assert_eq!(rt; parts(&code, 0), Some((1, 1, 0)));
     assert_eq!(rt;
-        code.instr(0),
-        Some(Instr::WaitContact {
-            contact,
-            closed: true
-        })
+        written(rt.alloc(), &code)?.as_slice(),
+        LONG_FILE.as_slice()
     );
-    assert_eq!(rt;
-        code.instr(1),
-        Some(Instr::Edit(Edit::RateSub { id, kbits: 96 }))
-    );
-    assert_eq!(rt; code.instr(2), Some(Instr::CommitIn(delay)));
-    assert_eq!(rt; code.instr(3), Some(Instr::Join));
-    assert_eq!(rt;
-        code.instr(4),
-        Some(Instr::WaitContact {
-            contact,
-            closed: false
-        })
-    );
-    assert_eq!(rt;
-        code.instr(5),
-        Some(Instr::Edit(Edit::RateSub { id, kbits: 128 }))
-    );
-    assert_eq!(rt; code.instr(8), Some(Instr::Jump(0)));
-    assert_eq!(rt; code.line_at(0), Some(8));
-    assert_eq!(rt; code.line_at(8), Some(7));
-    let config = code.config(0).ok_or("a configuration")?;
-    assert_eq!(rt; config.subs().len(), 1);
-    assert_eq!(rt; config.services().len(), 1);
-    let bytes = encode(rt.alloc(), &code)?;
-    assert_eq!(rt; bytes.as_slice(), LONG_FILE.as_slice());
     Ok(())
+}
+
+/// The first three instructions of the code with two labels.
+fn setting_and_looping() -> Option<[Instr; 3]> {
+    let counter = CounterId::new(0)?;
+    let times = Times::new(3)?;
+    Some([
+        Instr::Set { counter, times },
+        Instr::Wait(Frames::new(1)?),
+        Instr::Loop { counter, target: 1 },
+    ])
 }
 
 #[test]
 fn a_code_with_two_labels(rt: HostRuntime) -> Result<(), Fail> {
-    let code = decode(rt.alloc(), &LOOP_FILE)?;
-    let counter = CounterId::new(0).ok_or("a counter")?;
-    let times = Times::new(3).ok_or("three times")?;
-    let frames = Frames::new(1).ok_or("one frame")?;
-    assert_eq!(rt; code.instr(0), Some(Instr::Set { counter, times }));
-    assert_eq!(rt; code.instr(1), Some(Instr::Wait(frames)));
-    assert_eq!(rt; code.instr(2), Some(Instr::Loop { counter, target: 1 }));
-    let second = code.label_at(1).ok_or("a label at 1")?;
-    assert_eq!(rt; second.counters, Counters::COUNTER_0);
-    assert_eq!(rt; second.cost, 1);
-    assert_eq!(rt; code.label_at(2), None);
-    let bytes = encode(rt.alloc(), &code)?;
-    assert_eq!(rt; bytes.as_slice(), LOOP_FILE.as_slice());
+    let code = read(rt.alloc(), &LOOP_FILE)?;
+    let mut pc = 0u16;
+    for instr in setting_and_looping().ok_or("instructions")? {
+        assert_eq!(rt; line(&code, pc).0, Some(instr));
+        pc = pc.saturating_add(1);
+    }
+    let second = label(&code, 1).ok_or("a label at 1")?;
+    assert_eq!(rt; (second.counters, second.cost), (Counters::COUNTER_0, 1));
+    assert_eq!(rt; label(&code, 2), None);
+    assert_eq!(rt;
+        written(rt.alloc(), &code)?.as_slice(),
+        LOOP_FILE.as_slice()
+    );
     Ok(())
 }
 

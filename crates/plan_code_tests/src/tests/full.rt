@@ -1,7 +1,8 @@
 //! A file with a member of each kind in its tables: what it says, and the first fault of each of its fields.
 
-use mux_config::{Component, ScId, ScTy, Sid, SubId};
-use plan_code::{CodeFault, Counters, Instr, Swap, decode, encode};
+use super::seen::{config, label, line, parts, read, sizes, written};
+use mux_config::{Component, Config, ScId, ScTy, Sid, SubId};
+use plan_code::{CodeFault, Counters, Instr, Label, Swap, decode};
 use std::test::Fail;
 
 /// The file of a code of two configurations and two labels; its configurations are the empty one, and one with
@@ -106,52 +107,73 @@ const LABEL_ROWS: [Row; 17] = [
     (101, 0x09, 101),
 ];
 
+/// The identifiers of the services of a configuration, each with its first component.
+fn services(config: &Config) -> Option<[(Sid, Option<Component>); 3]> {
+    match config.services() {
+        [first, second, third] => Some([
+            (first.sid, first.components.get(0).copied()),
+            (second.sid, second.components.get(0).copied()),
+            (third.sid, third.components.get(0).copied()),
+        ]),
+        _ => None,
+    }
+}
+
+/// The services of its second configuration.
+fn wanted_services() -> Option<[(Sid, Option<Component>); 3]> {
+    let sound = Component::Sound {
+        ty: ScTy::new(63)?,
+        sub: SubId::new(1)?,
+    };
+    let packet = Component::Packet {
+        scid: ScId::new(7)?,
+    };
+    Some([
+        (Sid::Short(0xC221), Some(sound)),
+        (Sid::Short(0xC222), None),
+        (Sid::Long(0xE1C2_0001), Some(packet)),
+    ])
+}
+
 #[test]
 fn what_it_says(rt: HostRuntime) -> Result<(), Fail> {
-    let code = decode(rt.alloc(), &FULL_FILE)?;
-    assert_eq!(rt; code.configs().len(), 2);
-    assert_eq!(rt; code.config(0).ok_or("the first")?.subs().len(), 0);
-    let config = code.config(1).ok_or("the second")?;
-    assert_eq!(rt; config.subs().len(), 2);
-    assert_eq!(rt; config.packets().len(), 2);
-    let [with_audio, without, long] = config.services() else {
-        return Err("three services".into());
-    };
-    assert_eq!(rt; without.sid, Sid::Short(0xC222));
-    assert_eq!(rt; long.sid, Sid::Long(0xE1C2_0001));
-    let sound = Component::Sound {
-        ty: ScTy::new(63).ok_or("a type")?,
-        sub: SubId::new(1).ok_or("a sub-channel")?,
-    };
-    assert_eq!(rt; with_audio.components.get(0), Some(&sound));
-    let packet = Component::Packet {
-        scid: ScId::new(7).ok_or("a packet component")?,
-    };
-    assert_eq!(rt; long.components.get(0), Some(&packet));
-    let bytes = encode(rt.alloc(), &code)?;
-    assert_eq!(rt; bytes.as_slice(), FULL_FILE.as_slice());
+    let code = read(rt.alloc(), &FULL_FILE)?;
+    assert_eq!(rt; sizes(&code), (2, 2, 1));
+    assert_eq!(rt; parts(&code, 0), Some((0, 0, 0)));
+    assert_eq!(rt; parts(&code, 1), Some((2, 3, 2)));
+    let second = config(&code, 1).ok_or("the second")?;
+    assert!(rt; services(second) == wanted_services());
+    assert_eq!(rt;
+        written(rt.alloc(), &code)?.as_slice(),
+        FULL_FILE.as_slice()
+    );
     Ok(())
 }
 
 #[test]
 fn its_labels(rt: HostRuntime) -> Result<(), Fail> {
-    let code = decode(rt.alloc(), &FULL_FILE)?;
-    let first = code.label_at(0).ok_or("a label at 0")?;
-    assert_eq!(rt; first.cur, 0);
-    assert_eq!(rt; first.next, 1);
-    assert_eq!(rt; first.pending, Swap::Within(24, 27));
-    assert_eq!(rt; first.counters, Counters(0b1000_0001));
-    assert_eq!(rt; first.cost, 20);
-    let last = code.label_at(65_535).ok_or("a label at the end")?;
-    assert_eq!(rt; last.cur, 1);
-    assert_eq!(rt; last.next, 0);
-    assert_eq!(rt; last.pending, Swap::Idle);
-    assert_eq!(rt; last.counters, Counters(0));
-    assert_eq!(rt; last.cost, 255);
-    assert_eq!(rt; code.label_at(1), None);
-    assert_eq!(rt; code.label_at(65_534), None);
-    assert_eq!(rt; code.instr(0), Some(Instr::End));
-    assert_eq!(rt; code.line_at(0), Some(65_535));
+    let code = read(rt.alloc(), &FULL_FILE)?;
+    let first = Label {
+        pc: 0,
+        cur: 0,
+        next: 1,
+        pending: Swap::Within(24, 27),
+        counters: Counters(0b1000_0001),
+        cost: 20,
+    };
+    let last = Label {
+        pc: 65_535,
+        cur: 1,
+        next: 0,
+        pending: Swap::Idle,
+        counters: Counters(0),
+        cost: 255,
+    };
+    assert_eq!(rt; label(&code, 0), Some(first));
+    assert_eq!(rt; label(&code, 65_535), Some(last));
+    assert_eq!(rt; label(&code, 1), None);
+    assert_eq!(rt; label(&code, 65_534), None);
+    assert_eq!(rt; line(&code, 0), (Some(Instr::End), Some(65_535)));
     Ok(())
 }
 

@@ -1,7 +1,8 @@
 //! The largest tables: 256 configurations, 1,024 labels, 4,096 instructions.
 
+use super::seen::{label, line, read, sizes, written};
 use mux_config::Config;
-use plan_code::{Code, Counters, Instr, Label, Line, Mode, Plan, Swap, decode, encode};
+use plan_code::{Code, Counters, Instr, Label, Line, Mode, Plan, Swap};
 use std::alloc::{AllocError, Global};
 use std::test::Fail;
 
@@ -103,25 +104,33 @@ fn append_lines(bytes: &mut Vec<u8>) -> Result<(), AllocError> {
     Ok(())
 }
 
-#[test]
-fn the_largest_tables(rt: HostRuntime) -> Result<(), Fail> {
-    let mut file = HEADER.to_vec(rt.alloc())?;
+/// The file of the largest tables.
+fn largest_file(alloc: Global) -> Result<Vec<u8>, AllocError> {
+    let mut file = HEADER.to_vec(alloc)?;
     append_configurations(&mut file)?;
     append_labels(&mut file)?;
     append_lines(&mut file)?;
+    Ok(file)
+}
+
+/// Whether two codes have the same labels and the same instructions.
+fn is_alike(one: &Code, other: &Code) -> bool {
+    one.labels() == other.labels() && one.lines() == other.lines()
+}
+
+#[test]
+fn the_largest_tables(rt: HostRuntime) -> Result<(), Fail> {
+    let file = largest_file(rt.alloc())?;
     assert_eq!(rt; file.len(), 34_576);
     let made = sized(rt.alloc(), 256, 1024, 4096)?.ok_or("a code")?;
-    let written = encode(rt.alloc(), &made)?;
-    assert!(rt; written == file);
-    let code = decode(rt.alloc(), &file)?;
-    assert_eq!(rt; code.configs().len(), 256);
-    assert_eq!(rt; code.labels(), made.labels());
-    assert_eq!(rt; code.lines(), made.lines());
-    assert_eq!(rt; code.label_at(1023).ok_or("a label")?.cur, 255);
-    assert_eq!(rt; code.label_at(1024), None);
-    assert_eq!(rt; code.instr(4095), Some(Instr::Jump(4095)));
-    assert_eq!(rt; code.instr(4096), None);
-    let again = encode(rt.alloc(), &code)?;
-    assert!(rt; again == file);
+    assert!(rt; written(rt.alloc(), &made)? == file);
+    let code = read(rt.alloc(), &file)?;
+    assert_eq!(rt; sizes(&code), (256, 1024, 4096));
+    assert!(rt; is_alike(&code, &made));
+    assert_eq!(rt; label(&code, 1023).ok_or("a label")?.cur, 255);
+    assert_eq!(rt; label(&code, 1024), None);
+    assert_eq!(rt; line(&code, 4095).0, Some(Instr::Jump(4095)));
+    assert_eq!(rt; line(&code, 4096).0, None);
+    assert!(rt; written(rt.alloc(), &code)? == file);
     Ok(())
 }

@@ -1,6 +1,7 @@
 //! A label of a swap that is perhaps pending, and settling.
 
-use plan_code::{CodeFault, Counters, Instr, Label, Swap, decode, encode};
+use super::seen::{label, line, read, written};
+use plan_code::{CodeFault, Counters, Instr, Label, Swap, decode};
 use std::test::Fail;
 
 /// The file of a code that lowers a rate, waits for an hour during the notice, and settles: its second label,
@@ -23,8 +24,8 @@ const SETTLED_FILE: [u8; 111] = [
 
 #[test]
 fn a_swap_that_is_perhaps_pending(rt: HostRuntime) -> Result<(), Fail> {
-    let code = decode(rt.alloc(), &SETTLED_FILE)?;
-    let label = Label {
+    let code = read(rt.alloc(), &SETTLED_FILE)?;
+    let wanted = Label {
         pc: 5,
         cur: 0,
         next: 1,
@@ -32,11 +33,11 @@ fn a_swap_that_is_perhaps_pending(rt: HostRuntime) -> Result<(), Fail> {
         counters: Counters(0),
         cost: 2,
     };
-    assert_eq!(rt; code.label_at(5), Some(label));
-    assert_eq!(rt; code.instr(5), Some(Instr::Settle));
-    assert_eq!(rt; code.instr(6), Some(Instr::End));
-    let again = encode(rt.alloc(), &code)?;
-    assert_eq!(rt; again.as_slice(), SETTLED_FILE.as_slice());
+    assert_eq!(rt; label(&code, 5), Some(wanted));
+    assert_eq!(rt; line(&code, 5).0, Some(Instr::Settle));
+    assert_eq!(rt; line(&code, 6).0, Some(Instr::End));
+    let file = written(rt.alloc(), &code)?;
+    assert_eq!(rt; file.as_slice(), SETTLED_FILE.as_slice());
     Ok(())
 }
 
