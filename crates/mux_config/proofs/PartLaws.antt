@@ -23,7 +23,7 @@ use Rattle.mux_types.specs.Sameness.{is_same_carrier, names}
 use Rattle.byte_fields.specs.FieldSpelling.{word_bytes, protection_bytes, sid_bytes, component_bytes, flag_byte}
 use Rattle.mux_config.specs.Spelling.{sub_bytes, service_bytes, packet_bytes}
 use Rattle.byte_fields.specs.FieldReading.{place, byte_within, word_within, number_at, flag_at, protection_at, sid_at, component_at}
-use Rattle.mux_config.specs.Reading.{size_or_field, sub_at, components_at, service_at, packet_at}
+use Rattle.mux_config.specs.Reading.{size_or_field, read_sub, components_at, read_service, read_packet}
 use Rattle.mux_types.proofs.Tables.{each_pushed}
 use Rattle.byte_fields.proofs.FieldLaws.{IsBytes, Front, front_then, bind_ok, refuse_ok, ok_is, word_front, word_again, byte_within_front, byte_within_again, word_within_front, word_within_again, flag_front, flag_again, protection_front, protection_again, sid_front, sid_again, component_front, component_again}
 
@@ -80,8 +80,8 @@ rate_small B level kbits h =
 abbrev pub IsSubRead : (low : ℕ) (bytes : List ℕ) → Sub × List ℕ → Type 0
 IsSubRead low bytes x = Front bytes (sub_bytes x.0) x.1 × (low ≤ x.0.id) × IsPlaced x.0
 
-pub sub_front : (total low : ℕ) (bytes : List ℕ) (x : Sub × List ℕ) → IsBytes bytes → sub_at total low bytes ≡ Ok x → IsSubRead low bytes x
-unfolding sub_at
+pub sub_front : (total low : ℕ) (bytes : List ℕ) (x : Sub × List ℕ) → IsBytes bytes → read_sub total low bytes ≡ Ok x → IsSubRead low bytes x
+unfolding read_sub
 sub_front total low bytes x fits e =
     let a = bind_ok (byte_within total 0 63 bytes) _ x e in
     let r = refuse_ok _ Order _ x a.2 in
@@ -106,8 +106,8 @@ sub_front total low bytes x fits e =
       record { named = omega (arith, fa.2); from_one = fp.1; to_four = fp.2; sized = s.1; ends = omega (arith, ends, s.0) },
     )
 
-pub sub_again : (total low : ℕ) (s : Sub) (rest : List ℕ) → IsPlaced s → low ≤ s.id → sub_at total low (sub_bytes s ++ rest) ≡ Ok (s, rest)
-unfolding sub_at
+pub sub_again : (total low : ℕ) (s : Sub) (rest : List ℕ) → IsPlaced s → low ≤ s.id → read_sub total low (sub_bytes s ++ rest) ≡ Ok (s, rest)
+unfolding read_sub
 sub_again total low s rest h up =
     let small : s.kbits < 65536 = rate_small s.protection.set s.protection.level s.kbits h.sized.within in
     let ordered : ltb s.id low ≡ false = le-ltb _ _ up in
@@ -200,8 +200,8 @@ components_again total before (c ∷ cs) rest different within =
 abbrev pub IsServiceRead : (low : ℕ) (bytes : List ℕ) → Service × List ℕ → Type 0
 IsServiceRead low bytes x = Front bytes (service_bytes x.0) x.1 × (low ≤ sid_key x.0.sid) × IsService x.0
 
-pub service_front : (total low : ℕ) (bytes : List ℕ) (x : Service × List ℕ) → IsBytes bytes → service_at total low bytes ≡ Ok x → IsServiceRead low bytes x
-unfolding service_at
+pub service_front : (total low : ℕ) (bytes : List ℕ) (x : Service × List ℕ) → IsBytes bytes → read_service total low bytes ≡ Ok x → IsServiceRead low bytes x
+unfolding read_service
 service_front total low bytes x fits e =
     let a = bind_ok (sid_at total bytes) _ x e in
     let r = refuse_ok _ Order _ x a.2 in
@@ -219,12 +219,12 @@ service_front total low bytes x fits e =
     subst (IsServiceRead low bytes) (ok_is made x m.2)
     (rw (count, fm.2) whole, up, record { named = fa.1; within = fm.5; carriers = fm.4; few = omega (arith, count, fn.2) })
 
-pub service_again : (total low : ℕ) (s : Service) (rest : List ℕ) → IsService s → low ≤ sid_key s.sid → service_at total low (service_bytes s ++ rest) ≡ Ok (s, rest)
-unfolding service_at
+pub service_again : (total low : ℕ) (s : Service) (rest : List ℕ) → IsService s → low ≤ sid_key s.sid → read_service total low (service_bytes s ++ rest) ≡ Ok (s, rest)
+unfolding read_service
 service_again total low s rest h up =
     let ordered : ltb (sid_key s.sid) low ≡ false = le-ltb _ _ up in
     let regrouped : service_bytes s ++ rest ≡ sid_bytes s.sid ++ (length s.components ∷ (flat_map component_bytes s.components ++ rest)) = append_assoc (sid_bytes s.sid) (length s.components ∷ flat_map component_bytes s.components) rest in
-    ap (service_at total low) regrouped
+    ap (read_service total low) regrouped
     ∙ rw (
       sid_again total s.sid (length s.components ∷ (flat_map component_bytes s.components ++ rest)) h.named,
       ordered,
@@ -237,8 +237,8 @@ service_again total low s rest h up =
 abbrev pub IsPacketRead : (low : ℕ) (bytes : List ℕ) → Packet × List ℕ → Type 0
 IsPacketRead low bytes x = Front bytes (packet_bytes x.0) x.1 × (low ≤ x.0.scid) × IsAddressed x.0
 
-pub packet_front : (total low : ℕ) (bytes : List ℕ) (x : Packet × List ℕ) → IsBytes bytes → packet_at total low bytes ≡ Ok x → IsPacketRead low bytes x
-unfolding packet_at
+pub packet_front : (total low : ℕ) (bytes : List ℕ) (x : Packet × List ℕ) → IsBytes bytes → read_packet total low bytes ≡ Ok x → IsPacketRead low bytes x
+unfolding read_packet
 packet_front total low bytes x fits e =
     let a = bind_ok (word_within total 0 4095 bytes) _ x e in
     let r = refuse_ok _ Order _ x a.2 in
@@ -262,8 +262,8 @@ packet_front total low bytes x fits e =
       record { named = omega (arith, fa.2); typed = omega (arith, ft.2); carried = omega (arith, fs.2); from_one = fw.1; to_last = fw.2 },
     )
 
-pub packet_again : (total low : ℕ) (p : Packet) (rest : List ℕ) → IsAddressed p → low ≤ p.scid → packet_at total low (packet_bytes p ++ rest) ≡ Ok (p, rest)
-unfolding packet_at
+pub packet_again : (total low : ℕ) (p : Packet) (rest : List ℕ) → IsAddressed p → low ≤ p.scid → read_packet total low (packet_bytes p ++ rest) ≡ Ok (p, rest)
+unfolding read_packet
 packet_again total low p rest h up =
     let ordered : ltb p.scid low ≡ false = le-ltb _ _ up in
     rw (

@@ -9,7 +9,7 @@ use Rattle.byte_fields.specs.declared.record.RecordFault.TheVariants.{Short, Fie
 use Rattle.mux_types.specs.Configuration.{Configuration, sub_key, sid_key, service_key, packet_key, carrier_of, component_limit}
 use Rattle.mux_types.specs.Sameness.{names}
 use Rattle.byte_fields.specs.FieldReading.{Reads, ◌>>=◌, place, component_at}
-use Rattle.mux_config.specs.Reading.{size_or_field, sub_at, components_at, service_at, packet_at, members_at, record_at, config_at}
+use Rattle.mux_config.specs.Reading.{size_or_field, read_sub, components_at, read_service, read_packet, members_at, record_at, config_at}
 use Rattle.mux_config.specs.RecordFaults.{HasFault, ShortBeforePlaces}
 use Rattle.mux_config.proofs.Steady.{faults_are_first}
 use Rattle.byte_fields.proofs.PlacedFields.{Placed, placed_bind, placed_refuse, placed_word, placed_byte_within, placed_word_within, placed_flag, placed_protection, placed_sid, placed_component}
@@ -20,8 +20,8 @@ placed_size : {T : Type 0} (total at : ℕ) (size : Result ℕ EepFault) (k : �
 placed_size total at (Ok size) k within next = next size
 placed_size total at (Err e) k within next = within
 
-placed_sub : (total low : ℕ) (bytes : List ℕ) → length bytes ≤ total → Placed total (sub_at total low bytes)
-unfolding sub_at
+placed_sub : (total low : ℕ) (bytes : List ℕ) → length bytes ≤ total → Placed total (read_sub total low bytes)
+unfolding read_sub
 placed_sub total low bytes left =
     placed_bind total _ _ (placed_byte_within total 0 63 bytes left) (λ id after_id left_id.
     placed_refuse total (ltb id low) Order _ tt (
@@ -42,8 +42,8 @@ placed_components total before (suc count) (b ∷ rest) left =
     placed_refuse total (list_any (names (carrier_of c)) before) (Field (place total (b ∷ rest))) _ (omega (arith, left)) (
     placed_components total (before ++ c ∷ []) count last after))
 
-placed_service : (total low : ℕ) (bytes : List ℕ) → length bytes ≤ total → Placed total (service_at total low bytes)
-unfolding service_at
+placed_service : (total low : ℕ) (bytes : List ℕ) → length bytes ≤ total → Placed total (read_service total low bytes)
+unfolding read_service
 placed_service total low bytes left =
     placed_bind total _ _ (placed_sid total bytes left) (λ sid after_sid left_sid.
     placed_refuse total (ltb (sid_key sid) low) Order _ tt (
@@ -52,8 +52,8 @@ placed_service total low bytes left =
 
 -- ---- packet components
 
-placed_packet : (total low : ℕ) (bytes : List ℕ) → length bytes ≤ total → Placed total (packet_at total low bytes)
-unfolding packet_at
+placed_packet : (total low : ℕ) (bytes : List ℕ) → length bytes ≤ total → Placed total (read_packet total low bytes)
+unfolding read_packet
 placed_packet total low bytes left =
     placed_bind total _ _ (placed_word_within total 0 4095 bytes left) (λ scid after_scid left_scid.
     placed_refuse total (ltb scid low) Order _ tt (
@@ -77,9 +77,9 @@ placed_record total bytes left =
     placed_bind total _ _ (placed_byte_within total 0 64 bytes left) (λ sub_count after_subs left_subs.
     placed_bind total _ _ (placed_byte_within total 0 64 after_subs left_subs) (λ service_count after_services left_services.
     placed_bind total _ _ (placed_byte_within total 0 64 after_services left_services) (λ packet_count after_counts left_counts.
-    placed_bind total _ _ (placed_members total sub_key (sub_at total) (placed_sub total) 0 [] sub_count after_counts left_counts) (λ subs after_sub_set left_sub_set.
-    placed_bind total _ _ (placed_members total service_key (service_at total) (placed_service total) 0 [] service_count after_sub_set left_sub_set) (λ services after_service_set left_service_set.
-    placed_bind total _ _ (placed_members total packet_key (packet_at total) (placed_packet total) 0 [] packet_count after_service_set left_service_set) (λ packets rest after. after))))))
+    placed_bind total _ _ (placed_members total sub_key (read_sub total) (placed_sub total) 0 [] sub_count after_counts left_counts) (λ subs after_sub_set left_sub_set.
+    placed_bind total _ _ (placed_members total service_key (read_service total) (placed_service total) 0 [] service_count after_sub_set left_sub_set) (λ services after_service_set left_service_set.
+    placed_bind total _ _ (placed_members total packet_key (read_packet total) (placed_packet total) 0 [] packet_count after_service_set left_service_set) (λ packets rest after. after))))))
 
 -- what reading these bytes gives
 pub placed_config : (bytes : List ℕ) → Placed (length bytes) (config_at bytes)

@@ -7,7 +7,7 @@ use Rattle.byte_fields.specs.declared.record.RecordFault.{RecordFault}
 use Rattle.mux_types.specs.Configuration.{Configuration, Each, IsAscending, IsPlaced, IsService, IsAddressed, IsConfiguration, sub_key, service_key, packet_key}
 use Rattle.mux_config.specs.Spelling.{sub_bytes, service_bytes, packet_bytes, config_bytes}
 use Rattle.byte_fields.specs.FieldReading.{Reads, byte_within}
-use Rattle.mux_config.specs.Reading.{sub_at, service_at, packet_at, members_at, record_at, config_at}
+use Rattle.mux_config.specs.Reading.{read_sub, read_service, read_packet, members_at, record_at, config_at}
 use Rattle.mux_types.proofs.Tables.{each_weaker, each_pushed, ascends_pushed}
 use Rattle.byte_fields.proofs.FieldLaws.{IsBytes, Front, front_then, bind_ok, ok_is, byte_within_front, byte_within_again}
 use Rattle.mux_config.proofs.PartLaws.{flat_pushed, sub_front, sub_again, service_front, service_again, packet_front, packet_again}
@@ -76,15 +76,15 @@ record_front total bytes x fits e =
     let a = bind_ok (byte_within total 0 64 bytes) _ x e in
     let b = bind_ok (byte_within total 0 64 a.0.1) _ x a.2 in
     let c = bind_ok (byte_within total 0 64 b.0.1) _ x b.2 in
-    let s = bind_ok (members_at sub_key (sub_at total) 0 [] a.0.0 c.0.1) _ x c.2 in
-    let v = bind_ok (members_at service_key (service_at total) 0 [] b.0.0 s.0.1) _ x s.2 in
-    let p = bind_ok (members_at packet_key (packet_at total) 0 [] c.0.0 v.0.1) _ x v.2 in
+    let s = bind_ok (members_at sub_key (read_sub total) 0 [] a.0.0 c.0.1) _ x c.2 in
+    let v = bind_ok (members_at service_key (read_service total) 0 [] b.0.0 s.0.1) _ x s.2 in
+    let p = bind_ok (members_at packet_key (read_packet total) 0 [] c.0.0 v.0.1) _ x v.2 in
     let fa = byte_within_front total 0 64 bytes a.0 fits a.1 in
     let fb = byte_within_front total 0 64 a.0.1 b.0 fa.0.rest_fits b.1 in
     let fc = byte_within_front total 0 64 b.0.1 c.0 fb.0.rest_fits c.1 in
-    let fs = members_front sub_key sub_bytes IsPlaced (sub_at total) (sub_front total) 0 [] a.0.0 c.0.1 s.0 fc.0.rest_fits tt tt tt s.1 in
-    let fv = members_front service_key service_bytes IsService (service_at total) (service_front total) 0 [] b.0.0 s.0.1 v.0 fs.1.rest_fits tt tt tt v.1 in
-    let fp = members_front packet_key packet_bytes IsAddressed (packet_at total) (packet_front total) 0 [] c.0.0 v.0.1 p.0 fv.1.rest_fits tt tt tt p.1 in
+    let fs = members_front sub_key sub_bytes IsPlaced (read_sub total) (sub_front total) 0 [] a.0.0 c.0.1 s.0 fc.0.rest_fits tt tt tt s.1 in
+    let fv = members_front service_key service_bytes IsService (read_service total) (service_front total) 0 [] b.0.0 s.0.1 v.0 fs.1.rest_fits tt tt tt v.1 in
+    let fp = members_front packet_key packet_bytes IsAddressed (read_packet total) (packet_front total) 0 [] c.0.0 v.0.1 p.0 fv.1.rest_fits tt tt tt p.1 in
     let subs_count : length s.0.0 ≡ a.0.0 = omega (arith, fs.3) in
     let services_count : length v.0.0 ≡ b.0.0 = omega (arith, fv.3) in
     let packets_count : length p.0.0 ≡ c.0.0 = omega (arith, fp.3) in
@@ -121,9 +121,9 @@ record_again total c rest h =
       byte_within_again total 0 64 (length c.subs) (length c.services ∷ length c.packets ∷ (subs ++ (services ++ (packets ++ rest)))) (omega arith) h.subs_few,
       byte_within_again total 0 64 (length c.services) (length c.packets ∷ (subs ++ (services ++ (packets ++ rest)))) (omega arith) h.services_few,
       byte_within_again total 0 64 (length c.packets) (subs ++ (services ++ (packets ++ rest))) (omega arith) h.packets_few,
-      members_again sub_key sub_bytes IsPlaced (sub_at total) (sub_again total) 0 [] c.subs (services ++ (packets ++ rest)) h.subs_ascend (any_low sub_key c.subs) h.subs_placed,
-      members_again service_key service_bytes IsService (service_at total) (service_again total) 0 [] c.services (packets ++ rest) h.services_ascend (any_low service_key c.services) h.services_formed,
-      members_again packet_key packet_bytes IsAddressed (packet_at total) (packet_again total) 0 [] c.packets rest h.packets_ascend (any_low packet_key c.packets) h.packets_addressed,
+      members_again sub_key sub_bytes IsPlaced (read_sub total) (sub_again total) 0 [] c.subs (services ++ (packets ++ rest)) h.subs_ascend (any_low sub_key c.subs) h.subs_placed,
+      members_again service_key service_bytes IsService (read_service total) (service_again total) 0 [] c.services (packets ++ rest) h.services_ascend (any_low service_key c.services) h.services_formed,
+      members_again packet_key packet_bytes IsAddressed (read_packet total) (packet_again total) 0 [] c.packets rest h.packets_ascend (any_low packet_key c.packets) h.packets_addressed,
     ) refl
 
 -- ---- what a call answers
@@ -167,8 +167,8 @@ left bytes x fits e =
 pub read_in_turn : (bytes b0 b1 b2 b3 b4 b5 b6 : List ℕ) (t0 t1 t2 t3 t4 t5 m n k : ℕ) (c : Configuration)
     → b0 ≡ bytes → t0 ≡ length bytes → t1 ≡ t0 → t2 ≡ t1 → t3 ≡ t2 → t4 ≡ t3 → t5 ≡ t4
     → byte_within t0 0 64 b0 ≡ Ok (m, b1) → byte_within t1 0 64 b1 ≡ Ok (n, b2) → byte_within t2 0 64 b2 ≡ Ok (k, b3)
-    → members_at sub_key (sub_at t3) 0 [] m b3 ≡ Ok (c.subs, b4) → members_at service_key (service_at t4) 0 [] n b4 ≡ Ok (c.services, b5)
-    → members_at packet_key (packet_at t5) 0 [] k b5 ≡ Ok (c.packets, b6)
+    → members_at sub_key (read_sub t3) 0 [] m b3 ≡ Ok (c.subs, b4) → members_at service_key (read_service t4) 0 [] n b4 ≡ Ok (c.services, b5)
+    → members_at packet_key (read_packet t5) 0 [] k b5 ≡ Ok (c.packets, b6)
     → config_at bytes ≡ Ok (c, b6)
 unfolding record_at
 read_in_turn bytes b0 b1 b2 b3 b4 b5 b6 t0 t1 t2 t3 t4 t5 m n k c start all s1 s2 s3 s4 s5 r1 r2 r3 r4 r5 r6 =
@@ -180,9 +180,9 @@ read_in_turn bytes b0 b1 b2 b3 b4 b5 b6 t0 t1 t2 t3 t4 t5 m n k c start all s1 s
     let q1 : byte_within (length bytes) 0 64 bytes ≡ Ok (m, b1) = subst (λ (b : List ℕ). byte_within (length bytes) 0 64 b ≡ Ok (m, b1)) start (subst (λ (t : ℕ). byte_within t 0 64 b0 ≡ Ok (m, b1)) all r1) in
     let q2 : byte_within (length bytes) 0 64 b1 ≡ Ok (n, b2) = subst (λ (t : ℕ). byte_within t 0 64 b1 ≡ Ok (n, b2)) e1 r2 in
     let q3 : byte_within (length bytes) 0 64 b2 ≡ Ok (k, b3) = subst (λ (t : ℕ). byte_within t 0 64 b2 ≡ Ok (k, b3)) e2 r3 in
-    let q4 : members_at sub_key (sub_at (length bytes)) 0 [] m b3 ≡ Ok (c.subs, b4) = subst (λ (t : ℕ). members_at sub_key (sub_at t) 0 [] m b3 ≡ Ok (c.subs, b4)) e3 r4 in
-    let q5 : members_at service_key (service_at (length bytes)) 0 [] n b4 ≡ Ok (c.services, b5) = subst (λ (t : ℕ). members_at service_key (service_at t) 0 [] n b4 ≡ Ok (c.services, b5)) e4 r5 in
-    let q6 : members_at packet_key (packet_at (length bytes)) 0 [] k b5 ≡ Ok (c.packets, b6) = subst (λ (t : ℕ). members_at packet_key (packet_at t) 0 [] k b5 ≡ Ok (c.packets, b6)) e5 r6 in
+    let q4 : members_at sub_key (read_sub (length bytes)) 0 [] m b3 ≡ Ok (c.subs, b4) = subst (λ (t : ℕ). members_at sub_key (read_sub t) 0 [] m b3 ≡ Ok (c.subs, b4)) e3 r4 in
+    let q5 : members_at service_key (read_service (length bytes)) 0 [] n b4 ≡ Ok (c.services, b5) = subst (λ (t : ℕ). members_at service_key (read_service t) 0 [] n b4 ≡ Ok (c.services, b5)) e4 r5 in
+    let q6 : members_at packet_key (read_packet (length bytes)) 0 [] k b5 ≡ Ok (c.packets, b6) = subst (λ (t : ℕ). members_at packet_key (read_packet t) 0 [] k b5 ≡ Ok (c.packets, b6)) e5 r6 in
     rw (q1, q2, q3, q4, q5, q6) refl
 
 -- what is written is read again, whatever follows it

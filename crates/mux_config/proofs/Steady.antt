@@ -13,7 +13,7 @@ use Rattle.mux_types.specs.Configuration.{Configuration, IsConfiguration, sub_ke
 use Rattle.mux_types.specs.Sameness.{names}
 use Rattle.mux_config.specs.Spelling.{config_bytes}
 use Rattle.byte_fields.specs.FieldReading.{Reads, ◌>>=◌}
-use Rattle.mux_config.specs.Reading.{size_or_field, sub_at, components_at, service_at, packet_at, members_at, record_at, config_at}
+use Rattle.mux_config.specs.Reading.{size_or_field, read_sub, components_at, read_service, read_packet, members_at, record_at, config_at}
 use Rattle.mux_config.specs.RecordFaults.{CutsAreShort, FaultsStay, FaultsAreFirst}
 use Rattle.byte_fields.proofs.FieldLaws.{ok_is}
 use Rattle.mux_config.proofs.RecordLaws.{record_again}
@@ -25,8 +25,8 @@ goes_size : {T : Type 0} (more : List ℕ) (at by : ℕ) (o : Result ℕ EepFaul
 goes_size more at by (Ok n) k l e h = h n
 goes_size more at by (Err f) k l e h = goes_fault _ more (Field at) (Field by) (ap Field e)
 
-goes_sub : (total low : ℕ) (bytes more : List ℕ) → Goes more (sub_at total low bytes) (sub_at (total + length more) low (bytes ++ more))
-unfolding sub_at
+goes_sub : (total low : ℕ) (bytes more : List ℕ) → Goes more (read_sub total low bytes) (read_sub (total + length more) low (bytes ++ more))
+unfolding read_sub
 goes_sub total low bytes more =
     goes_bind more _ _ _ _ (goes_byte_within total 0 63 bytes more) (λ id after_id.
     goes_refuse more (ltb id low) Order Order _ _ refl (
@@ -44,16 +44,16 @@ goes_components total before (suc count) bytes more =
     goes_refuse more (list_any (names (carrier_of c)) before) _ _ _ _ (field_same total bytes more) (
     goes_components total (before ++ c ∷ []) count rest more))
 
-goes_service : (total low : ℕ) (bytes more : List ℕ) → Goes more (service_at total low bytes) (service_at (total + length more) low (bytes ++ more))
-unfolding service_at
+goes_service : (total low : ℕ) (bytes more : List ℕ) → Goes more (read_service total low bytes) (read_service (total + length more) low (bytes ++ more))
+unfolding read_service
 goes_service total low bytes more =
     goes_bind more _ _ _ _ (goes_sid total bytes more) (λ sid after_sid.
     goes_refuse more (ltb (sid_key sid) low) Order Order _ _ refl (
     goes_bind more _ _ _ _ (goes_byte_within total 0 (component_limit sid) after_sid more) (λ count rest.
     goes_bind more _ _ _ _ (goes_components total [] count rest more) (λ components last. refl))))
 
-goes_packet : (total low : ℕ) (bytes more : List ℕ) → Goes more (packet_at total low bytes) (packet_at (total + length more) low (bytes ++ more))
-unfolding packet_at
+goes_packet : (total low : ℕ) (bytes more : List ℕ) → Goes more (read_packet total low bytes) (read_packet (total + length more) low (bytes ++ more))
+unfolding read_packet
 goes_packet total low bytes more =
     goes_bind more _ _ _ _ (goes_word_within total 0 4095 bytes more) (λ scid after_scid.
     goes_refuse more (ltb scid low) Order Order _ _ refl (
@@ -76,9 +76,9 @@ goes_record total bytes more =
     goes_bind more _ _ _ _ (goes_byte_within total 0 64 bytes more) (λ sub_count after_subs.
     goes_bind more _ _ _ _ (goes_byte_within total 0 64 after_subs more) (λ service_count after_services.
     goes_bind more _ _ _ _ (goes_byte_within total 0 64 after_services more) (λ packet_count after_counts.
-    goes_bind more _ _ _ _ (goes_members sub_key (sub_at total) (sub_at (total + length more)) more (λ low b. goes_sub total low b more) 0 [] sub_count after_counts) (λ subs after_sub_set.
-    goes_bind more _ _ _ _ (goes_members service_key (service_at total) (service_at (total + length more)) more (λ low b. goes_service total low b more) 0 [] service_count after_sub_set) (λ services after_service_set.
-    goes_bind more _ _ _ _ (goes_members packet_key (packet_at total) (packet_at (total + length more)) more (λ low b. goes_packet total low b more) 0 [] packet_count after_service_set) (λ packets rest. refl))))))
+    goes_bind more _ _ _ _ (goes_members sub_key (read_sub total) (read_sub (total + length more)) more (λ low b. goes_sub total low b more) 0 [] sub_count after_counts) (λ subs after_sub_set.
+    goes_bind more _ _ _ _ (goes_members service_key (read_service total) (read_service (total + length more)) more (λ low b. goes_service total low b more) 0 [] service_count after_sub_set) (λ services after_service_set.
+    goes_bind more _ _ _ _ (goes_members packet_key (read_packet total) (read_packet (total + length more)) more (λ low b. goes_packet total low b more) 0 [] packet_count after_service_set) (λ packets rest. refl))))))
 
 pub goes_config : (bytes more : List ℕ) → Goes more (config_at bytes) (config_at (bytes ++ more))
 goes_config bytes more =

@@ -22,8 +22,8 @@ size_or_field at (Ok size) = Ok size
 size_or_field at (Err e) = Err (Field at)
 
 -- a sub-channel whose identifier is `low` or more; its size is judged at its rate, and its end at its start
-unfoldable pub sub_at : (total low : ℕ) → List ℕ → Reads Sub
-sub_at total low bytes = do
+unfoldable pub read_sub : (total low : ℕ) → List ℕ → Reads Sub
+read_sub total low bytes = do
   id ← byte_within total 0 63 bytes
   ascends ← refuse (nat_lt id.0 low) Order
   start ← number_at w16 id.1
@@ -43,8 +43,8 @@ components_at total before (suc count) bytes = do
   fresh ← refuse (list_any (names (carrier_of c.0)) before) (Field (place total bytes))
   components_at total (before ++ c.0 ∷ []) count c.1
 
-unfoldable pub service_at : (total low : ℕ) → List ℕ → Reads Service
-service_at total low bytes = do
+unfoldable pub read_service : (total low : ℕ) → List ℕ → Reads Service
+read_service total low bytes = do
   sid ← sid_at total bytes
   ascends ← refuse (nat_lt (sid_key sid.0) low) Order
   count ← byte_within total 0 (component_limit sid.0) sid.1
@@ -53,8 +53,8 @@ service_at total low bytes = do
 
 -- ---- packet components
 
-unfoldable pub packet_at : (total low : ℕ) → List ℕ → Reads Packet
-packet_at total low bytes = do
+unfoldable pub read_packet : (total low : ℕ) → List ℕ → Reads Packet
+read_packet total low bytes = do
   scid ← word_within total 0 4095 bytes
   ascends ← refuse (nat_lt scid.0 low) Order
   dg ← flag_at total scid.1
@@ -78,9 +78,9 @@ record_at total bytes = do
   sub_count ← byte_within total 0 64 bytes
   service_count ← byte_within total 0 64 sub_count.1
   packet_count ← byte_within total 0 64 service_count.1
-  subs ← members_at sub_key (sub_at total) 0 [] sub_count.0 packet_count.1
-  services ← members_at service_key (service_at total) 0 [] service_count.0 subs.1
-  packets ← members_at packet_key (packet_at total) 0 [] packet_count.0 services.1
+  subs ← members_at sub_key (read_sub total) 0 [] sub_count.0 packet_count.1
+  services ← members_at service_key (read_service total) 0 [] service_count.0 subs.1
+  packets ← members_at packet_key (read_packet total) 0 [] packet_count.0 services.1
   Ok (record { subs = subs.0; services = services.0; packets = packets.0 }, packets.1)
 
 -- the record at the front of these bytes; places are counted from their first byte

@@ -4,7 +4,7 @@ ghost use Rattle.std.specs.Prelude.{◌≡◌, ℕ, ◌<◌, ◌≤◌, ◌^◌,
 ghost use Rattle.mux_types.specs.Configuration.{Configuration, IsConfiguration, sid_key, component_limit};
 ghost use Rattle.mux_config.specs.Spelling.{config_bytes};
 ghost use Rattle.byte_fields.specs.FieldReading.{Reads, Takes};
-ghost use Rattle.mux_config.specs.Reading.{sub_at, components_at, service_at, packet_at, members_at, record_at, config_at};
+ghost use Rattle.mux_config.specs.Reading.{read_sub, components_at, read_service, read_packet, members_at, record_at, config_at};
 
 use crate::config::Config;
 use byte_fields::{Reader, RecordFault};
@@ -35,9 +35,9 @@ trait Member: Keyed {
 }
 
 impl Member for Sub {
-    ghost member_at = { sub_at };
+    ghost member_at = { read_sub };
 
-    #[tactic(auto, unfolding(crate::specs::Reading::sub_at))]
+    #[tactic(auto, unfolding(crate::specs::Reading::read_sub))]
     fn read(reader: &mut Reader, low: u64) -> Result<Self, RecordFault> {
         let id = reader.sub_id()?;
         if u64::from(id.get()) < low {
@@ -83,9 +83,9 @@ fn components(reader: &mut Reader, count: u8) -> Result<BoundedVec<Component, 12
 }
 
 impl Member for Service {
-    ghost member_at = { service_at };
+    ghost member_at = { read_service };
 
-    #[tactic(auto, unfolding(crate::specs::Reading::service_at))]
+    #[tactic(auto, unfolding(crate::specs::Reading::read_service))]
     fn read(reader: &mut Reader, low: u64) -> Result<Self, RecordFault> {
         let sid = reader.sid()?;
         if sid_key(sid) < low {
@@ -98,9 +98,9 @@ impl Member for Service {
 }
 
 impl Member for Packet {
-    ghost member_at = { packet_at };
+    ghost member_at = { read_packet };
 
-    #[tactic(auto, unfolding(crate::specs::Reading::packet_at))]
+    #[tactic(auto, unfolding(crate::specs::Reading::read_packet))]
     fn read(reader: &mut Reader, low: u64) -> Result<Self, RecordFault> {
         let scid = reader.sc_id()?;
         if u64::from(scid.get()) < low {
