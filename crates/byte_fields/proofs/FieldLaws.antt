@@ -14,7 +14,7 @@ use Rattle.mux_types.specs.declared.numbers.Sid.TheVariants.{Short as ShortSid, 
 use Rattle.byte_fields.specs.declared.record.RecordFault.{RecordFault}
 use Rattle.byte_fields.specs.declared.record.RecordFault.TheVariants.{Short, Field}
 use Rattle.mux_types.specs.Configuration.{IsSid, IsComponent}
-use Rattle.byte_fields.specs.FieldSpelling.{word_bytes, set_byte, flag_byte, protection_bytes, sid_bytes, component_bytes}
+use Rattle.byte_fields.specs.FieldSpelling.{word_bytes, set_byte, flag_byte, protection_bytes, sid_field, component_bytes}
 use Rattle.byte_fields.specs.FieldReading.{◌>>=◌, refuse, place, byte_at, number_at, judged, byte_within, word_within, flag_at, set_of, protection_at, sid_of_kind, sid_at, component_of, component_at}
 
 abbrev pub IsBytes : List ℕ → Type 0
@@ -205,20 +205,20 @@ protection_again total p rest from to =
 -- ---- SIds
 
 sid_kind_front : (k : ℕ) (bytes : List ℕ) (x : Sid × List ℕ) → k ≤ 1 → IsBytes bytes → sid_of_kind k bytes ≡ Ok x
-    → (text : List ℕ) × Front bytes text x.1 × (sid_bytes x.0 ≡ k ∷ text) × IsSid x.0
+    → (text : List ℕ) × Front bytes text x.1 × (sid_field x.0 ≡ k ∷ text) × IsSid x.0
 sid_kind_front zero bytes x small fits e =
     let b = bind_ok (number_at w16 bytes) (λ n. Ok (ShortSid n.0, n.1)) x e in
     let f = word_front bytes b.0 fits b.1 in
     let made : Sid × List ℕ = (ShortSid b.0.0, b.0.1) in
-    subst (λ (y : Sid × List ℕ). (text : List ℕ) × Front bytes text y.1 × (sid_bytes y.0 ≡ 0 ∷ text) × IsSid y.0) (ok_is made x b.2) (word_bytes b.0.0, f.0, refl, f.1)
+    subst (λ (y : Sid × List ℕ). (text : List ℕ) × Front bytes text y.1 × (sid_field y.0 ≡ 0 ∷ text) × IsSid y.0) (ok_is made x b.2) (word_bytes b.0.0, f.0, refl, f.1)
 sid_kind_front (suc zero) bytes x small fits e =
     let b = bind_ok (number_at w32 bytes) (λ n. Ok (LongSid n.0, n.1)) x e in
     let f = long_front bytes b.0 fits b.1 in
     let made : Sid × List ℕ = (LongSid b.0.0, b.0.1) in
-    subst (λ (y : Sid × List ℕ). (text : List ℕ) × Front bytes text y.1 × (sid_bytes y.0 ≡ 1 ∷ text) × IsSid y.0) (ok_is made x b.2) (to_be_bytes w32 b.0.0, f.0, refl, f.1)
+    subst (λ (y : Sid × List ℕ). (text : List ℕ) × Front bytes text y.1 × (sid_field y.0 ≡ 1 ∷ text) × IsSid y.0) (ok_is made x b.2) (to_be_bytes w32 b.0.0, f.0, refl, f.1)
 sid_kind_front (suc (suc k)) bytes x small fits e = absurd (omega (arith, small))
 
-pub sid_front : (total : ℕ) (bytes : List ℕ) (x : Sid × List ℕ) → IsBytes bytes → sid_at total bytes ≡ Ok x → Front bytes (sid_bytes x.0) x.1 × IsSid x.0
+pub sid_front : (total : ℕ) (bytes : List ℕ) (x : Sid × List ℕ) → IsBytes bytes → sid_at total bytes ≡ Ok x → Front bytes (sid_field x.0) x.1 × IsSid x.0
 unfolding sid_at
 sid_front total bytes x fits e =
     let a = bind_ok (byte_within total 0 1 bytes) _ x e in
@@ -226,7 +226,7 @@ sid_front total bytes x fits e =
     let s = sid_kind_front a.0.0 a.0.1 x f.2 f.0.rest_fits a.2 in
     (rw s.2 (front_then bytes (a.0.0 ∷ []) a.0.1 s.0 x.1 f.0 s.1), s.3)
 
-pub sid_again : (total : ℕ) (sid : Sid) (rest : List ℕ) → IsSid sid → sid_at total (sid_bytes sid ++ rest) ≡ Ok (sid, rest)
+pub sid_again : (total : ℕ) (sid : Sid) (rest : List ℕ) → IsSid sid → sid_at total (sid_field sid ++ rest) ≡ Ok (sid, rest)
 unfolding sid_at
 sid_again total (ShortSid n) rest fits = rw (word_again n rest fits) refl
 sid_again total (LongSid n) rest fits = rw (long_again n rest fits) refl

@@ -25,9 +25,9 @@ abbrev pub protection_bytes : Profile → List ℕ
 protection_bytes p = set_byte p.set ∷ p.level ∷ []
 
 -- an SId: its kind, 0 for 16 bits and 1 for 32, and its number
-abbrev pub sid_bytes : Sid → List ℕ
-sid_bytes (Short n) = 0 ∷ to_be_bytes w16 n
-sid_bytes (Long n) = 1 ∷ to_be_bytes w32 n
+abbrev pub sid_field : Sid → List ℕ
+sid_field (Short n) = 0 ∷ to_be_bytes w16 n
+sid_field (Long n) = 1 ∷ to_be_bytes w32 n
 
 -- a component: its TMId, and what carries it
 abbrev pub component_bytes : Component → List ℕ

@@ -2,7 +2,7 @@
 
 ghost use Rattle.std.specs.Prelude.{◌≡◌, ◌++◌, OnOk};
 ghost use Rattle.std.specs.Int.{w32, to_be_bytes};
-ghost use Rattle.byte_fields.specs.FieldSpelling.{word_bytes, set_byte, protection_bytes, sid_bytes, component_bytes};
+ghost use Rattle.byte_fields.specs.FieldSpelling.{word_bytes, set_byte, protection_bytes, sid_field, component_bytes};
 
 use byteorder::{BigEndian, ByteOrder};
 use mux_eep::{EepSet, Protection};
@@ -40,7 +40,7 @@ pub fn put_protection(out: &mut Vec<u8>, protection: Protection) -> Result<(), A
 
 /// Writes an SId: its kind, 0 for 16 bits and 1 for 32, and its number.
 pub fn put_sid(out: &mut Vec<u8>, sid: Sid) -> Result<(), AllocError>
-    ensures { OnOk result (out.new.items ≡ out.old.items ++ sid_bytes sid) }
+    ensures { OnOk result (out.new.items ≡ out.old.items ++ sid_field sid) }
 {
     match sid {
         Sid::Short(id) => {

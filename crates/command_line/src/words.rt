@@ -1,7 +1,7 @@
 //! The words after the program's name, read into what is asked for.
 
 ghost use Rattle.std.specs.Prelude.{◌≡◌};
-ghost use Rattle.command_line.specs.Numbers.{mode_of};
+ghost use Rattle.command_line.specs.Numbers.{mode_of_number};
 
 use crate::help;
 use clap::error::ErrorKind;
@@ -342,7 +342,7 @@ fn frame_request<'a>(options: &ArgMatches<'a>) -> Result<Request<'a>, UsageError
 
 /// The mode of this number; None where it is not 1 to 4.
 fn mode_of(number: u16) -> Option<Mode>
-    ensures { result ≡ mode_of number }
+    ensures { result ≡ mode_of_number number }
 {
     match number {
         1 => Some(Mode::I),

@@ -4,7 +4,7 @@ use Rattle.std.specs.List.{flat_map}
 use Rattle.std.specs.Fmt.{decimal}
 use Rattle.std.specs.Io.KnownBytes.{Appends, Keeps}
 use Rattle.plan_code.specs.declared.fault.CodeFault.TheVariants.{Memory as NoMemoryForCode}
-use Rattle.plan_player.specs.Playing.{Playing, BeginsWith}
+use Rattle.plan_player.specs.Playing.{Playing, IsAtStart}
 use Rattle.plan_events.specs.declared.fault.EventFault.TheVariants.{Memory as NoMemoryForCommands}
 use Rattle.plan_events.specs.declared.command.Command.{Command}
 use Rattle.plan_events.specs.declared.command.Command.TheVariants.{Contact, Run, Next, Break, Clear, Show}
@@ -14,7 +14,7 @@ use Rattle.plan_debug.specs.declared.report.Report.{Report}
 use Rattle.plan_debug.specs.Commands.{Debugging, Answers, fresh}
 use Rattle.plan_playback.specs.declared.fault.RunFault.{RunFault}
 use Rattle.plan_playback.specs.declared.fault.RunFault.TheVariants.{Code, Refused, Start, Events, Write}
-use Rattle.plan_playback.specs.Playback.{Request, CanStart, start_of, IsFault}
+use Rattle.plan_playback.specs.Playback.{Request, CanStart, start_of, IsRunFault}
 use Rattle.commands.specs.declared.debug.DebugFault.{DebugFault}
 use Rattle.commands.specs.declared.debug.DebugFault.TheVariants.{Playback, Commands, Memory, Output}
 
@@ -62,7 +62,7 @@ Transcript before (command ∷ commands) lines after =
 -- the code in the file is typed, the start is in range and this is the player at it, and the text holds these commands
 pub record IsSession (r : Request) (p : Playing) (commands : List Command) : Type 0 where
   pub ready : CanStart p.code r
-  pub begins : BeginsWith p.code (start_of p.code r) p
+  pub begins : IsAtStart p.code (start_of p.code r) p
   pub holds : HoldsCommands r.text commands
 
 -- all lines of the commands are printed; memory aside, and where the writer fails nothing is said
@@ -82,9 +82,9 @@ Prints p commands before after (Err Output) = Unit {0}
 
 -- what holds where a fault comes: that it is one, and that none of those before it is
 abbrev pub IsDebugFault : Request → DebugFault → Type 0
-IsDebugFault r (Playback (Code fault)) = IsFault r (Code fault)
-IsDebugFault r (Playback (Refused pc line cause)) = IsFault r (Refused pc line cause)
-IsDebugFault r (Playback (Start fault)) = IsFault r (Start fault)
+IsDebugFault r (Playback (Code fault)) = IsRunFault r (Code fault)
+IsDebugFault r (Playback (Refused pc line cause)) = IsRunFault r (Refused pc line cause)
+IsDebugFault r (Playback (Start fault)) = IsRunFault r (Start fault)
 IsDebugFault r (Playback (Events fault)) = ⊥
 IsDebugFault r (Playback (Write frames bytes)) = ⊥
 IsDebugFault r (Commands fault) = (p : Playing) × CanStart p.code r

@@ -3,8 +3,8 @@ use Rattle.std.proofs.Common.{◌≡◌, ℕ, ◌+◌, ◌-◌, ◌<◌, ◌≤�
 use Rattle.std.proofs.lemmas.List.{length-append, length-set}
 use Rattle.std.proofs.lemmas.Option.{get_or_from_slice_get}
 use Rattle.std.proofs.Math.Seq.{get_or-append_seam, set-append_seam}
-use Rattle.mux_config.specs.Facts.{Marked}
-use Rattle.mux_config.specs.declared.entry.Entry.{Entry}
+use Rattle.mux_entries.specs.Facts.{Marked}
+use Rattle.mux_entries.specs.declared.entry.Entry.{Entry}
 use Rattle.fib_codec.specs.declared.head.Head.{Head}
 use Rattle.fib_codec.specs.declared.modes.Mode.{Mode}
 use Rattle.fib_codec.specs.Spelling.{Written, head_of, head_byte, entry_bytes, entry_size, entries_bytes, fig_bytes, figs_bytes}
@@ -17,7 +17,7 @@ use Rattle.fib_carousel.specs.Packing.{same_head, size_of, figs_size}
 use Rattle.fib_carousel.specs.Pages.{fib_entries}
 use Rattle.fib_carousel.specs.Bytes.{joined, figs_of}
 use Rattle.fib_carousel.specs.Walk.{IsShapeAt, StandsBefore}
-use Rattle.fib_carousel.specs.Filling.{Begins, Lengthens, GrowsBy, Grows, FitsBy, Fits}
+use Rattle.fib_carousel.specs.Filling.{Begins, Lengthens, GrowsBy, Grows, FitsBy, TakesEntry}
 use Rattle.fib_carousel.proofs.Sharing.{same_head_is, figs_cost, written_of}
 use Rattle.fib_carousel.proofs.Walk.{Passed, Walked, walked_start, walked_in, walked_before, passed_above, take_here, rest_in, rest_takes}
 
@@ -241,7 +241,7 @@ same_as : (f : OpenFig) (s : EntryShape) (m : Marked) (b : Bool) → s.head ≡ 
 same_as f s m b headed e = ap (λ (h : Head). same_head f.head h) (sym headed) ∙ e
 
 pub fits_next : (old bytes : List ℕ) (here : List Marked) (m : Marked) (s : EntryShape) (last : Option OpenFig) → IsFilled old here last bytes
-    → s.head ≡ head_of m → s.size ≡ size_of m → length old + figs_size None (here ++ m ∷ []) ≤ 30 → Fits last s bytes
+    → s.head ≡ head_of m → s.size ≡ size_of m → length old + figs_size None (here ++ m ∷ []) ≤ 30 → TakesEntry last s bytes
 fits_next old bytes here m s None h headed sized room = apart_room old bytes here m s.size h.is (apart_first here m h.end) sized room
 fits_next old bytes here m s (Some f) h headed sized room = by (same_head f.head s.head) refl
   where
@@ -346,7 +346,7 @@ pub record Entered (mode : Mode) (ms : List Marked) (n : ℕ) (old : List ℕ) (
   pub room : length old + figs_size None (fib_entries mode n ms) ≤ 30
 
 pub filled_fits : (mode : Mode) (ms : List Marked) (n : ℕ) (old bytes : List ℕ) (c d : Position) (last : Option OpenFig) (shape : EntryShape) (s : IsShapeAt ms c.index shape) → (e : Entered mode ms n old c d)
-    → FilledTo mode ms n old c last bytes → Fits last shape bytes
+    → FilledTo mode ms n old c last bytes → TakesEntry last shape bytes
 filled_fits mode ms n old bytes c d last shape s e w =
     let same : s.entry ≡ e.step.entry = same_there ms c.index s.entry e.step.entry s.here e.step.here in
     fits_next old bytes (take (c.index - w.from) (drop w.from ms)) e.step.entry shape last w.filled (s.head ∙ ap head_of same) (s.size ∙ ap size_of same)

@@ -4,9 +4,9 @@ use Rattle.fib_codec.specs.declared.modes.Mode.{Mode}
 use Rattle.std.proofs.lemmas.List.{length-append, take_at, drop_at, drop_all, drop-drop}
 use Rattle.std.proofs.lemmas.List.Elements.{Contains-append_cases, Contains-append_left, Contains-append_right}
 use Rattle.mux_config.specs.Configuration.{Each, Configuration, IsConfiguration}
-use Rattle.mux_config.specs.Entries.{EnsembleInformation}
-use Rattle.mux_config.specs.Facts.{Marked, marked}
-use Rattle.mux_config.specs.declared.entry.Entry.TheVariants.{Ensemble as EnsembleOf}
+use Rattle.mux_entries.specs.Entries.{EnsembleInformation}
+use Rattle.mux_entries.specs.Facts.{Marked, marked}
+use Rattle.mux_entries.specs.declared.entry.Entry.TheVariants.{Ensemble as EnsembleOf}
 use Rattle.fib_codec.specs.declared.head.Head.{Head}
 use Rattle.fib_codec.specs.Ranges.{IsEnsembleInformation}
 use Rattle.fib_codec.specs.Spelling.{Written, IsWritten, head_of, ext_of, fig_bytes, figs_bytes, fib_bytes, filled, occurrence_bytes}

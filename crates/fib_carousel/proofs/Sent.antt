@@ -2,10 +2,10 @@
 use Rattle.std.proofs.Common.{◌≡◌, ℕ, ◌+◌, ◌<◌, ◌≤◌, Bool, true, false, List, [], ◌∷◌, Option, Some, None, IsSome, ◌%◌, refl, ap, subst, inl, inr, arith, eq-eqb}
 use Rattle.fib_codec.specs.declared.modes.Mode.{Mode}
 use Rattle.mux_config.specs.Configuration.{Each}
-use Rattle.mux_config.specs.Entries.{EnsembleInformation}
-use Rattle.mux_config.specs.Facts.{Marked}
-use Rattle.mux_config.specs.declared.entry.Entry.{Entry}
-use Rattle.mux_config.specs.declared.entry.Entry.TheVariants.{Ensemble as EnsembleOf, Sub as SubOf, Short as ShortOf, Service as ServiceOf, Packet as PacketOf}
+use Rattle.mux_entries.specs.Entries.{EnsembleInformation}
+use Rattle.mux_entries.specs.Facts.{Marked}
+use Rattle.mux_entries.specs.declared.entry.Entry.{Entry}
+use Rattle.mux_entries.specs.declared.entry.Entry.TheVariants.{Ensemble as EnsembleOf, Sub as SubOf, Short as ShortOf, Service as ServiceOf, Packet as PacketOf}
 use Rattle.fib_codec.specs.declared.head.Head.{Head}
 use Rattle.fib_codec.specs.Modes.{fib_count}
 use Rattle.fib_codec.specs.Spelling.{Written, IsWritten, IsUnder, head_of, ext_of}

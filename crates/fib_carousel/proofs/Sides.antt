@@ -4,8 +4,8 @@ use Rattle.std.proofs.lemmas.List.{length-append, length-map, get_or_append_left
 use Rattle.std.proofs.Math.Seq.{get_or-append_right}
 use Rattle.std.proofs.lemmas.Option.{slice_get-map, slice_get_within, slice_get_read, get_or_from_slice_get}
 use Rattle.mux_config.specs.Configuration.{Configuration}
-use Rattle.mux_config.specs.Facts.{marked, facts_of}
-use Rattle.mux_config.specs.declared.entry.Entry.{Entry}
+use Rattle.mux_entries.specs.Facts.{marked, facts_of}
+use Rattle.mux_entries.specs.declared.entry.Entry.{Entry}
 use Rattle.fib_carousel.specs.Items.{config_entries}
 use Rattle.fib_carousel.specs.Pages.{page_set}
 

@@ -1,6 +1,6 @@
 -- A cursor goes from page to page.
 use Rattle.std.proofs.Common.{◌≡◌, ℕ, ◌+◌, ◌-◌, ◌*◌, ◌/◌, ◌<◌, ◌≤◌, List, suc, length, inl, inr, if◌then◌else◌, sym, ◌∙◌, ap, subst, arith, lt-ltb, le-ltb}
-use Rattle.mux_config.specs.Facts.{Marked}
+use Rattle.mux_entries.specs.Facts.{Marked}
 use Rattle.fib_codec.specs.Modes.{fib_count}
 use Rattle.fib_codec.specs.declared.modes.Mode.{Mode}
 use Rattle.fib_codec.specs.declared.modes.Mode.TheVariants.{I, II, III, IV}

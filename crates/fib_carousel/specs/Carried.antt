@@ -1,8 +1,8 @@
 -- What a receiver finds in the bytes of a page.
 use Rattle.std.specs.Prelude.{◌≡◌, ℕ, ◌*◌, ◌≤◌, ◌↔◌, Bool, false, List, length, Option, Some, IfSome, Contains}
 use Rattle.mux_config.specs.Configuration.{Configuration, IsConfiguration, Each}
-use Rattle.mux_config.specs.Entries.{EnsembleInformation}
-use Rattle.mux_config.specs.Facts.{Marked}
+use Rattle.mux_entries.specs.Entries.{EnsembleInformation}
+use Rattle.mux_entries.specs.Facts.{Marked}
 use Rattle.fib_codec.specs.Modes.{fib_count}
 use Rattle.fib_codec.specs.Ranges.{IsEnsembleInformation, IsWithin}
 use Rattle.fib_codec.specs.Spelling.{ext_of}
@@ -47,8 +47,8 @@ PagesAreHeard =
     → (m : Marked) → IsHeardInRow (page_bytes mode ensemble k ms) m ↔ Contains (page_entries mode k ms) m
 
 -- the ensemble information heard there is the one given, as FIG 0/0 with C/N 0, and no other
-abbrev pub EnsembleIsHeard : Type 0
-EnsembleIsHeard =
+abbrev pub EnsembleIsCarried : Type 0
+EnsembleIsCarried =
     (mode : Mode) (ensemble : Option EnsembleInformation) (k : ℕ) (ms : List Marked) → IsPageable ensemble ms
     → (next : Bool) (e : EnsembleInformation)
     → IsEnsembleHeardInRow (page_bytes mode ensemble k ms) next e ↔ ((next ≡ false) × (ensemble ≡ Some e))

@@ -30,6 +30,6 @@ abbrev pub FitsBy : Bool → OpenFig → EntryShape → List ℕ → Type 0
 FitsBy true f s old = (f.place < length old) × (slice_index_or old f.place 0 + s.size ≤ 255)
 FitsBy false f s old = length old + 2 + s.size ≤ 30
 
-abbrev pub Fits : Option OpenFig → EntryShape → List ℕ → Type 0
-Fits None s old = length old + 2 + s.size ≤ 30
-Fits (Some f) s old = FitsBy (same_head f.head s.head) f s old
+abbrev pub TakesEntry : Option OpenFig → EntryShape → List ℕ → Type 0
+TakesEntry None s old = length old + 2 + s.size ≤ 30
+TakesEntry (Some f) s old = FitsBy (same_head f.head s.head) f s old

@@ -1,7 +1,7 @@
 -- The rule that computes the packing. No public contract needs it to be believed: the laws below say that its
 -- result is the packing, and that a list has no other.
 use Rattle.std.specs.Prelude.{ℕ, ◌+◌, ◌≤◌, List, [], ◌∷◌, Some, None, if◌then◌else◌, nat_le}
-use Rattle.mux_config.specs.Facts.{Marked}
+use Rattle.mux_entries.specs.Facts.{Marked}
 use Rattle.fib_codec.specs.Spelling.{head_of}
 use Rattle.fib_codec.specs.declared.modes.Mode.{Mode}
 use Rattle.fib_carousel.specs.declared.pack_state.PackState.{PackState}

@@ -1,6 +1,6 @@
 -- A page that is kept, to be sent in several frames, with FIG 0/0 or without it.
 use Rattle.std.specs.Prelude.{◌≡◌, ℕ, List, None}
-use Rattle.mux_config.specs.Facts.{Marked}
+use Rattle.mux_entries.specs.Facts.{Marked}
 use Rattle.fib_codec.specs.declared.modes.Mode.{Mode}
 use Rattle.fib_carousel.specs.declared.kept_page.KeptPage.{KeptPage}
 use Rattle.fib_carousel.specs.Bytes.{page_bytes}

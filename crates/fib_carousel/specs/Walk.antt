@@ -1,7 +1,7 @@
 -- How far the list of entries was walked, and where a cursor stands. No public contract needs the record Position
 -- to be believed: a cursor stands at page 0 when it is new, and each page moves it to the page after it.
 use Rattle.std.specs.Prelude.{◌≡◌, ℕ, ◌*◌, ◌<◌, ◌≤◌, ◌⊎◌, List, drop, length, slice_get, Some}
-use Rattle.mux_config.specs.Facts.{Marked}
+use Rattle.mux_entries.specs.Facts.{Marked}
 use Rattle.fib_codec.specs.Spelling.{head_of}
 use Rattle.fib_codec.specs.declared.modes.Mode.{Mode}
 use Rattle.fib_carousel.specs.declared.pack_state.EntryShape.{EntryShape}
@@ -46,6 +46,6 @@ abbrev pub StandsAt : Mode → List Marked → ℕ → Cursor → Type 0
 StandsAt mode ms k c = Stands mode ms c × (cursor_page c ≡ k)
 
 -- it stands at page 0, whatever the entries are
-pub record IsStart (c : Cursor) : Type 0 where
+pub record IsAtFirstPage (c : Cursor) : Type 0 where
   pub page : cursor_page c ≡ 0
   pub stands : (mode : Mode) (ms : List Marked) → Stands mode ms c

@@ -1,7 +1,7 @@
 //! The entries that wait to be packed, and the division of them by the packing's rule.
 
 ghost use Rattle.std.specs.Prelude.{◌≡◌, ℕ, ◌+◌, ◌-◌, ◌<◌, ◌≤◌, ◌^◌, List, length, slice_get, Some};
-ghost use Rattle.mux_config.specs.Facts.{Marked};
+ghost use Rattle.mux_entries.specs.Facts.{Marked};
 ghost use Rattle.fib_carousel.specs.Pages.{rounds};
 
 use crate::pack_state::{EntryShape, PackState};
@@ -10,7 +10,7 @@ use fib_codec::{Fib, Mode};
 /// A list of entries in the order in which they are packed.
 pub(crate) trait EntryList {
     ghost use Rattle.std.specs.Prelude.{List, ◌++◌};
-    ghost use Rattle.mux_config.specs.Facts.{Marked};
+    ghost use Rattle.mux_entries.specs.Facts.{Marked};
     ghost use Rattle.fib_codec.specs.Spelling.{entry_bytes};
     ghost use Rattle.fib_carousel.specs.Packing.{size_of};
     ghost use Rattle.fib_carousel.specs.Carried.{AreSendable};

@@ -4,7 +4,7 @@ ghost use Rattle.fib_carousel.specs.Packing.{PackingIsOne, DividedAreSmall};
 ghost use Rattle.fib_carousel.specs.Greedy.{GreedyIsPacking, NoFewer};
 ghost use Rattle.fib_carousel.specs.Pages.{PagesAreAll, EachInAPage, NoneBeyond, PageIsFibs};
 ghost use Rattle.fib_carousel.specs.Most.{MostPages};
-ghost use Rattle.fib_carousel.specs.Carried.{PageSetsArePageable, PagesAreValid, PagesAreHeard, EnsembleIsHeard};
+ghost use Rattle.fib_carousel.specs.Carried.{PageSetsArePageable, PagesAreValid, PagesAreHeard, EnsembleIsCarried};
 
 /// The greedy rule gives the packing of every list of entries that has a division, so no division takes
 /// fewer FIBs or pages. A list has at most one packing.
@@ -33,5 +33,5 @@ pub fn carried()
     ensures pageable { PageSetsArePageable }
     ensures valid { PagesAreValid }
     ensures heard { PagesAreHeard }
-    ensures ensemble { EnsembleIsHeard }
+    ensures ensemble { EnsembleIsCarried }
 {}

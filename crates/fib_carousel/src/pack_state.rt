@@ -1,7 +1,7 @@
 //! How far the packing has come.
 
 ghost use Rattle.std.specs.Prelude.{◌≡◌, ◌+◌, ◌<◌, ◌≤◌, ◌^◌};
-ghost use Rattle.mux_config.specs.Facts.{Marked};
+ghost use Rattle.mux_entries.specs.Facts.{Marked};
 ghost use Rattle.fib_codec.specs.Spelling.{head_of};
 ghost use Rattle.fib_carousel.specs.Packing.{cost, room, same_head, size_of};
 ghost use Rattle.fib_carousel.specs.Greedy.{start, placed};

@@ -6,7 +6,7 @@ ghost use Rattle.fib_codec.specs.Modes.{fib_count};
 ghost use Rattle.fib_carousel.specs.Pages.{page_set_of, page_after, rounds, first_fib};
 ghost use Rattle.fib_carousel.specs.Bytes.{page_bytes};
 ghost use Rattle.fib_carousel.specs.Kept.{IsKept};
-ghost use Rattle.fib_carousel.specs.Walk.{IsStart, Stands, StandsAt, cursor_page, StandsBefore, HasPassed};
+ghost use Rattle.fib_carousel.specs.Walk.{IsAtFirstPage, Stands, StandsAt, cursor_page, StandsBefore, HasPassed};
 
 use crate::entry_list::EntryList;
 use crate::kept_page::KeptPage;
@@ -27,9 +27,9 @@ pub struct Cursor {
 }
 
 impl Default for Cursor {
-    ghost use Rattle.fib_carousel.specs.Walk.{IsStart};
+    ghost use Rattle.fib_carousel.specs.Walk.{IsAtFirstPage};
 
-    ghost is_default = { IsStart };
+    ghost is_default = { IsAtFirstPage };
 
     /// A cursor at page 0, as [`Cursor::new`] gives it.
     fn default() -> Self {
@@ -40,7 +40,7 @@ impl Default for Cursor {
 impl Cursor {
     /// A cursor at page 0, whatever the entries are.
     pub fn new() -> Cursor
-        ensures { IsStart result }
+        ensures { IsAtFirstPage result }
     {
         Cursor {
             page: 0,
@@ -50,7 +50,7 @@ impl Cursor {
 
     /// Goes to page 0, whatever the entries are.
     pub fn restart(&mut self)
-        ensures { IsStart self.new }
+        ensures { IsAtFirstPage self.new }
     {
         *self = Cursor::new();
     }

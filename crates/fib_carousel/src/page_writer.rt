@@ -7,7 +7,7 @@ ghost use Rattle.fib_codec.specs.Ranges.{IsEnsembleInformation};
 ghost use Rattle.fib_carousel.specs.Packing.{figs_size};
 ghost use Rattle.fib_carousel.specs.Pages.{fib_entries, first_fib, rounds};
 ghost use Rattle.fib_carousel.specs.Bytes.{figs_of, ensemble_figs, page_bytes};
-ghost use Rattle.fib_carousel.specs.Filling.{Begins, Grows, Fits};
+ghost use Rattle.fib_carousel.specs.Filling.{Begins, Grows, TakesEntry};
 ghost use Rattle.fib_carousel.specs.Walk.{StandsBefore, HasPassed};
 ghost use Rattle.fib_carousel.specs.Carried.{AreSendable, IsPageable};
 
@@ -43,7 +43,7 @@ fn begin_for(fib: &mut Fib, shape: EntryShape) -> OpenFig
 /// and else one that is begun.
 fn fig_for(fib: &mut Fib, last: Option<OpenFig>, shape: EntryShape) -> OpenFig
     requires ext { shape.head.ext < 32 }
-    requires room { Fits last shape fib.old }
+    requires room { TakesEntry last shape fib.old }
     ensures { Grows last shape fib.old result fib.new }
 {
     match last {

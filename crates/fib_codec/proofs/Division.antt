@@ -6,55 +6,55 @@ use Rattle.std.proofs.lemmas.Bool.{cases_Bool, cond-true, cond-false, eqb-true, 
 use Rattle.std.proofs.lemmas.Nat.Bits.{bit_at-suc, bit_at_xor, bit_at_cat_low, bit_at-lt, bit_at_ones, shr_and_one}
 use Rattle.std.specs.Prelude.{bit_xor, bit_and}
 use Rattle.std.specs.Int.{bit_at}
-use Rattle.fib_codec.specs.Crc.{bits_of, bits_of_bytes, AreBits, plus, generator, without_leading, divided, dividend, check_bits}
+use Rattle.fib_codec.specs.Crc.{low_bits, bits_of_bytes, AreBits, plus, generator, without_leading, divided, dividend, check_bits}
 use Rattle.fib_codec.specs.Register.{next, after, after_all}
 
 -- ---- bits of numbers
-pub bits_of-suc : (w n : ℕ) → bits_of (suc w) n ≡ bit_at n w ∷ bits_of w n
-unfolding bits_of
+pub bits_of-suc : (w n : ℕ) → low_bits (suc w) n ≡ bit_at n w ∷ low_bits w n
+unfolding low_bits
 bits_of-suc w n = refl
 
-pub bits_of-zero : (n : ℕ) → bits_of 0 n ≡ []
-unfolding bits_of
+pub bits_of-zero : (n : ℕ) → low_bits 0 n ≡ []
+unfolding low_bits
 bits_of-zero n = refl
 
-pub length-bits_of : (w n : ℕ) → length (bits_of w n) ≡ w
-unfolding bits_of
+pub length-bits_of : (w n : ℕ) → length (low_bits w n) ≡ w
+unfolding low_bits
 length-bits_of zero n = refl
 length-bits_of (suc w) n = ap suc (length-bits_of w n)
 
-pub bits_of_are : (w n : ℕ) → AreBits (bits_of w n)
-unfolding bits_of
+pub bits_of_are : (w n : ℕ) → AreBits (low_bits w n)
+unfolding low_bits
 bits_of_are zero n = tt
 bits_of_are (suc w) n = (bit_at-lt n w, bits_of_are w n)
 
-pub bits_of-xor : (w a b : ℕ) → bits_of w (bit_xor a b) ≡ plus (bits_of w a) (bits_of w b)
-unfolding bits_of
+pub bits_of-xor : (w a b : ℕ) → low_bits w (bit_xor a b) ≡ plus (low_bits w a) (low_bits w b)
+unfolding low_bits
 bits_of-xor zero a b = refl
 bits_of-xor (suc w) a b = rw (bit_at_xor a b w, bits_of-xor w a b) refl
 
 -- one more place below
-pub bits_of-moved : (w n : ℕ) → bits_of (suc w) (n * 2) ≡ bits_of w n ++ 0 ∷ []
-unfolding bits_of
+pub bits_of-moved : (w n : ℕ) → low_bits (suc w) (n * 2) ≡ low_bits w n ++ 0 ∷ []
+unfolding low_bits
 bits_of-moved zero n = let low : n * 2 / 2 ^ 0 % 2 ≡ 0 = omega arith in rw low refl
 bits_of-moved (suc w) n =
     let half : n * 2 / 2 ≡ n = omega arith in
     let top : bit_at (n * 2) (suc w) ≡ bit_at n w = bit_at-suc (n * 2) w ∙ ap (λ k. bit_at k w) half in
-    let e : bit_at (n * 2) (suc w) ∷ bits_of (suc w) (n * 2) ≡ bit_at n w ∷ (bits_of w n ++ 0 ∷ []) = rw (top, bits_of-moved w n) refl in
+    let e : bit_at (n * 2) (suc w) ∷ low_bits (suc w) (n * 2) ≡ bit_at n w ∷ (low_bits w n ++ 0 ∷ []) = rw (top, bits_of-moved w n) refl in
     e
 
 -- bits below a power of two are those of what it leaves
-pub bits_of-below : (w a k b : ℕ) → w ≤ k → bits_of w (a * 2 ^ k + b) ≡ bits_of w b
-unfolding bits_of
+pub bits_of-below : (w a k b : ℕ) → w ≤ k → low_bits w (a * 2 ^ k + b) ≡ low_bits w b
+unfolding low_bits
 bits_of-below zero a k b h = refl
 bits_of-below (suc w) a k b h =
     let lt : w < k = omega arith in
     rw (bit_at_cat_low a k b w lt, bits_of-below w a k b (omega arith)) refl
 
-pub bits_of-word : (w n : ℕ) → w ≤ 16 → bits_of w (n % 65536) ≡ bits_of w n
+pub bits_of-word : (w n : ℕ) → w ≤ 16 → low_bits w (n % 65536) ≡ low_bits w n
 bits_of-word w n h =
     let split : n / 65536 * 2 ^ 16 + n % 65536 ≡ n = omega arith in
-    sym (bits_of-below w (n / 65536) 16 (n % 65536) h) ∙ ap (λ k. bits_of w k) split
+    sym (bits_of-below w (n / 65536) 16 (n % 65536) h) ∙ ap (λ k. low_bits w k) split
 
 -- ---- sums of lists
 pub plus-nil : (xs : List ℕ) → plus xs [] ≡ xs
@@ -95,7 +95,7 @@ AreBits-replicate (suc n) = (omega arith, AreBits-replicate n)
 
 pub AreBits-bytes : (bytes : List ℕ) → AreBits (bits_of_bytes bytes)
 AreBits-bytes [] = tt
-AreBits-bytes (b ∷ bs) = AreBits-append (bits_of 8 b) (bits_of_bytes bs) (bits_of_are 8 b) (AreBits-bytes bs)
+AreBits-bytes (b ∷ bs) = AreBits-append (low_bits 8 b) (bits_of_bytes bs) (bits_of_are 8 b) (AreBits-bytes bs)
 
 -- ---- the division
 pub divided-suc : (n b : ℕ) (bits : List ℕ) → divided (suc n) (b ∷ bits) ≡ divided n (without_leading b bits)
@@ -106,44 +106,44 @@ pub divided-zero : (bits : List ℕ) → divided 0 bits ≡ bits
 unfolding divided
 divided-zero bits = refl
 
-generator_is : bits_of 16 4129 ≡ generator
-unfolding bits_of
+generator_is : low_bits 16 4129 ≡ generator
+unfolding low_bits
 generator_is = refl
 
 -- the leading bit of what is divided is 0
 no_place : (r b : ℕ) (m : List ℕ) (n : ℕ) → AreBits m → b < 2 → bit_at r 15 ≡ b
-    → divided (suc n) (plus (b ∷ m) (bits_of 16 r)) ≡ divided n (plus m (bits_of 16 (r * 2 % 65536)))
+    → divided (suc n) (plus (b ∷ m) (low_bits 16 r)) ≡ divided n (plus m (low_bits 16 (r * 2 % 65536)))
 no_place r b m n are bit same =
     let zero_on_top : (b + bit_at r 15) % 2 ≡ 0 = omega arith in
-    let moved : bits_of 16 (r * 2 % 65536) ≡ bits_of 15 r ++ 0 ∷ [] = bits_of-word 16 (r * 2) (omega arith) ∙ bits_of-moved 15 r in
-    let left : plus (b ∷ m) (bits_of 16 r) ≡ 0 ∷ plus m (bits_of 15 r) =
-    ap (λ t. plus (b ∷ m) t) (bits_of-suc 15 r) ∙ ap (λ t. t ∷ plus m (bits_of 15 r)) zero_on_top in
-    let right : plus m (bits_of 16 (r * 2 % 65536)) ≡ plus m (bits_of 15 r) = ap (plus m) moved ∙ plus-push_zero m (bits_of 15 r) are in
-    ap (divided (suc n)) left ∙ divided-suc n 0 (plus m (bits_of 15 r)) ∙ ap (divided n) (sym right)
+    let moved : low_bits 16 (r * 2 % 65536) ≡ low_bits 15 r ++ 0 ∷ [] = bits_of-word 16 (r * 2) (omega arith) ∙ bits_of-moved 15 r in
+    let left : plus (b ∷ m) (low_bits 16 r) ≡ 0 ∷ plus m (low_bits 15 r) =
+    ap (λ t. plus (b ∷ m) t) (bits_of-suc 15 r) ∙ ap (λ t. t ∷ plus m (low_bits 15 r)) zero_on_top in
+    let right : plus m (low_bits 16 (r * 2 % 65536)) ≡ plus m (low_bits 15 r) = ap (plus m) moved ∙ plus-push_zero m (low_bits 15 r) are in
+    ap (divided (suc n)) left ∙ divided-suc n 0 (plus m (low_bits 15 r)) ∙ ap (divided n) (sym right)
 
 -- it is 1
 a_place : (r b : ℕ) (m : List ℕ) (n : ℕ) → AreBits m → b < 2 → (bit_at r 15 ≡ b → ⊥)
-    → divided (suc n) (plus (b ∷ m) (bits_of 16 r)) ≡ divided n (plus m (bits_of 16 (bit_xor (r * 2 % 65536) 4129)))
+    → divided (suc n) (plus (b ∷ m) (low_bits 16 r)) ≡ divided n (plus m (low_bits 16 (bit_xor (r * 2 % 65536) 4129)))
 a_place r b m n are bit differ =
     let one_on_top : (b + bit_at r 15) % 2 ≡ 1 = omega (arith, bit_at-lt r 15) in
-    let moved : bits_of 16 (r * 2 % 65536) ≡ bits_of 15 r ++ 0 ∷ [] = bits_of-word 16 (r * 2) (omega arith) ∙ bits_of-moved 15 r in
-    let left : plus (b ∷ m) (bits_of 16 r) ≡ 1 ∷ plus m (bits_of 15 r) =
-    ap (λ t. plus (b ∷ m) t) (bits_of-suc 15 r) ∙ ap (λ t. t ∷ plus m (bits_of 15 r)) one_on_top in
-    let long : length (bits_of 16 (r * 2 % 65536)) ≡ length generator = length-bits_of 16 (r * 2 % 65536) in
-    let right : plus m (bits_of 16 (bit_xor (r * 2 % 65536) 4129)) ≡ plus (plus m (bits_of 15 r)) generator =
-    ap (plus m) (bits_of-xor 16 (r * 2 % 65536) 4129 ∙ ap (plus (bits_of 16 (r * 2 % 65536))) generator_is)
-    ∙ sym (plus-plus m (bits_of 16 (r * 2 % 65536)) generator long)
-    ∙ ap (λ t. plus t generator) (ap (plus m) moved ∙ plus-push_zero m (bits_of 15 r) are) in
-    ap (divided (suc n)) left ∙ divided-suc n 1 (plus m (bits_of 15 r)) ∙ ap (divided n) (sym right)
+    let moved : low_bits 16 (r * 2 % 65536) ≡ low_bits 15 r ++ 0 ∷ [] = bits_of-word 16 (r * 2) (omega arith) ∙ bits_of-moved 15 r in
+    let left : plus (b ∷ m) (low_bits 16 r) ≡ 1 ∷ plus m (low_bits 15 r) =
+    ap (λ t. plus (b ∷ m) t) (bits_of-suc 15 r) ∙ ap (λ t. t ∷ plus m (low_bits 15 r)) one_on_top in
+    let long : length (low_bits 16 (r * 2 % 65536)) ≡ length generator = length-bits_of 16 (r * 2 % 65536) in
+    let right : plus m (low_bits 16 (bit_xor (r * 2 % 65536) 4129)) ≡ plus (plus m (low_bits 15 r)) generator =
+    ap (plus m) (bits_of-xor 16 (r * 2 % 65536) 4129 ∙ ap (plus (low_bits 16 (r * 2 % 65536))) generator_is)
+    ∙ sym (plus-plus m (low_bits 16 (r * 2 % 65536)) generator long)
+    ∙ ap (λ t. plus t generator) (ap (plus m) moved ∙ plus-push_zero m (low_bits 15 r) are) in
+    ap (divided (suc n)) left ∙ divided-suc n 1 (plus m (low_bits 15 r)) ∙ ap (divided n) (sym right)
 
 pub place_divides : (r b : ℕ) (m : List ℕ) (n : ℕ) → AreBits m → b < 2
-    → divided (suc n) (plus (b ∷ m) (bits_of 16 r)) ≡ divided n (plus m (bits_of 16 (next r b)))
+    → divided (suc n) (plus (b ∷ m) (low_bits 16 r)) ≡ divided n (plus m (low_bits 16 (next r b)))
 place_divides r b m n are bit =
     elim (cases_Bool (eqb (bit_at r 15) b)) [
       | inl same ↦ no_place r b m n are bit (eqb-true _ _ same)
-          ∙ ap (λ k. divided n (plus m (bits_of 16 k))) (sym (cond-true (eqb (bit_at r 15) b) _ _ same))
+          ∙ ap (λ k. divided n (plus m (low_bits 16 k))) (sym (cond-true (eqb (bit_at r 15) b) _ _ same))
       | inr differ ↦ a_place r b m n are bit (eqb-false _ _ differ)
-          ∙ ap (λ k. divided n (plus m (bits_of 16 k))) (sym (cond-false (eqb (bit_at r 15) b) _ _ differ))
+          ∙ ap (λ k. divided n (plus m (low_bits 16 k))) (sym (cond-false (eqb (bit_at r 15) b) _ _ differ))
     ]
 
 pub after-suc : (w k r : ℕ) → after (suc w) k r ≡ after w k (next r (bit_at k w))
@@ -164,32 +164,32 @@ after_more place k r h =
 
 -- as many bits as the width says
 pub steps : (w k r : ℕ) (m : List ℕ) (n : ℕ) → AreBits m
-    → divided (w + n) (plus (bits_of w k ++ m) (bits_of 16 r)) ≡ divided n (plus m (bits_of 16 (after w k r)))
+    → divided (w + n) (plus (low_bits w k ++ m) (low_bits 16 r)) ≡ divided n (plus m (low_bits 16 (after w k r)))
 steps zero k r m n are =
-    let none : bits_of 0 k ≡ [] = bits_of-zero k in
+    let none : low_bits 0 k ≡ [] = bits_of-zero k in
     let count : 0 + n ≡ n = omega arith in
     rw (none, count, after-zero k r) refl
 steps (suc w) k r m n are =
     let count : suc w + n ≡ suc (w + n) = omega arith in
-    let cut : bits_of (suc w) k ++ m ≡ bit_at k w ∷ (bits_of w k ++ m) = ap (λ t. t ++ m) (bits_of-suc w k) in
-    ap (λ c. divided c (plus (bits_of (suc w) k ++ m) (bits_of 16 r))) count
-    ∙ ap (λ t. divided (suc (w + n)) (plus t (bits_of 16 r))) cut
-    ∙ place_divides r (bit_at k w) (bits_of w k ++ m) (w + n) (AreBits-append (bits_of w k) m (bits_of_are w k) are) (bit_at-lt k w)
+    let cut : low_bits (suc w) k ++ m ≡ bit_at k w ∷ (low_bits w k ++ m) = ap (λ t. t ++ m) (bits_of-suc w k) in
+    ap (λ c. divided c (plus (low_bits (suc w) k ++ m) (low_bits 16 r))) count
+    ∙ ap (λ t. divided (suc (w + n)) (plus t (low_bits 16 r))) cut
+    ∙ place_divides r (bit_at k w) (low_bits w k ++ m) (w + n) (AreBits-append (low_bits w k) m (bits_of_are w k) are) (bit_at-lt k w)
     ∙ steps w k (next r (bit_at k w)) m n are
-    ∙ ap (λ s. divided n (plus m (bits_of 16 s))) (sym (after-suc w k r))
+    ∙ ap (λ s. divided n (plus m (low_bits 16 s))) (sym (after-suc w k r))
 
 -- ---- the whole message
 pub taken : (bytes : List ℕ) (r : ℕ) (m : List ℕ) (n : ℕ) → AreBits m
-    → divided (8 * length bytes + n) (plus (bits_of_bytes bytes ++ m) (bits_of 16 r)) ≡ divided n (plus m (bits_of 16 (after_all bytes r)))
+    → divided (8 * length bytes + n) (plus (bits_of_bytes bytes ++ m) (low_bits 16 r)) ≡ divided n (plus m (low_bits 16 (after_all bytes r)))
 taken [] r m n are =
     let count : 8 * 0 + n ≡ n = omega arith in
-    ap (λ c. divided c (plus m (bits_of 16 r))) count
+    ap (λ c. divided c (plus m (low_bits 16 r))) count
 taken (b ∷ bs) r m n are =
     let rest = bits_of_bytes bs ++ m in
     let rest_are : AreBits rest = AreBits-append (bits_of_bytes bs) m (AreBits-bytes bs) are in
     let count : 8 * suc (length bs) + n ≡ 8 + (8 * length bs + n) = omega arith in
-    ap (λ c. divided c (plus (bits_of_bytes (b ∷ bs) ++ m) (bits_of 16 r))) count
-    ∙ ap (λ t. divided (8 + (8 * length bs + n)) (plus t (bits_of 16 r))) (append_assoc (bits_of 8 b) (bits_of_bytes bs) m)
+    ap (λ c. divided c (plus (bits_of_bytes (b ∷ bs) ++ m) (low_bits 16 r))) count
+    ∙ ap (λ t. divided (8 + (8 * length bs + n)) (plus t (low_bits 16 r))) (append_assoc (low_bits 8 b) (bits_of_bytes bs) m)
     ∙ steps 8 b r rest (8 * length bs + n) rest_are
     ∙ taken bs (after 8 b r) m n are
 
@@ -206,13 +206,13 @@ all_ones : (w : ℕ) → w < 16 → bit_at 65535 w ≡ 1
 all_ones w h = bit_at_ones 16 w h
 
 -- the register turned is the CRC
-turned : (w r : ℕ) → w ≤ 16 → map (λ b. 1 - b) (bits_of w r) ≡ bits_of w (bit_xor r 65535)
-unfolding bits_of
+turned : (w r : ℕ) → w ≤ 16 → map (λ b. 1 - b) (low_bits w r) ≡ low_bits w (bit_xor r 65535)
+unfolding low_bits
 turned zero r h = refl
 turned (suc w) r h =
     let one : bit_at 65535 w ≡ 1 = all_ones w (omega arith) in
     let same : 1 - bit_at r w ≡ (bit_at r w + bit_at 65535 w) % 2 = omega (arith, bit_at-lt r w) in
-    rw (bit_at_xor r 65535 w, turned w r (omega arith)) (ap (λ t. t ∷ bits_of w (bit_xor r 65535)) same)
+    rw (bit_at_xor r 65535 w, turned w r (omega arith)) (ap (λ t. t ∷ low_bits w (bit_xor r 65535)) same)
 
 pub zeros_first : (m : List ℕ) → AreBits m → plus (replicate (length m) 0) m ≡ m
 zeros_first [] h = refl
@@ -222,24 +222,24 @@ zeros_first (b ∷ m) h =
     rw (same, zeros_first m h.1) refl
 
 -- what is left when sixteen zeros stand under the register
-pub word_left : (r : ℕ) → divided 0 (plus (replicate 16 0) (bits_of 16 r)) ≡ bits_of 16 r
+pub word_left : (r : ℕ) → divided 0 (plus (replicate 16 0) (low_bits 16 r)) ≡ low_bits 16 r
 word_left r =
-    let long : length (bits_of 16 r) ≡ 16 = length-bits_of 16 r in
-    divided-zero (plus (replicate 16 0) (bits_of 16 r))
-    ∙ ap (λ n. plus (replicate n 0) (bits_of 16 r)) (sym long)
-    ∙ zeros_first (bits_of 16 r) (bits_of_are 16 r)
+    let long : length (low_bits 16 r) ≡ 16 = length-bits_of 16 r in
+    divided-zero (plus (replicate 16 0) (low_bits 16 r))
+    ∙ ap (λ n. plus (replicate n 0) (low_bits 16 r)) (sym long)
+    ∙ zeros_first (low_bits 16 r) (bits_of_are 16 r)
 
-all_ones_start : bits_of 16 65535 ≡ replicate 16 1
-unfolding bits_of
+all_ones_start : low_bits 16 65535 ≡ replicate 16 1
+unfolding low_bits
 all_ones_start = refl
 
-pub word_checks : (bytes : List ℕ) (r : ℕ) → r ≡ after_all bytes 65535 → bits_of 16 (bit_xor r 65535) ≡ check_bits bytes
+pub word_checks : (bytes : List ℕ) (r : ℕ) → r ≡ after_all bytes 65535 → low_bits 16 (bit_xor r 65535) ≡ check_bits bytes
 word_checks bytes r is =
     let message = bits_of_bytes bytes ++ replicate 16 0 in
     let count : 8 * length bytes ≡ 8 * length bytes + 0 = omega arith in
-    let whole : divided (8 * length bytes) (dividend bytes) ≡ bits_of 16 r =
+    let whole : divided (8 * length bytes) (dividend bytes) ≡ low_bits 16 r =
     ap (λ t. divided (8 * length bytes) (plus message t)) (sym all_ones_start)
-    ∙ ap (λ c. divided c (plus message (bits_of 16 65535))) count
+    ∙ ap (λ c. divided c (plus message (low_bits 16 65535))) count
     ∙ taken bytes 65535 (replicate 16 0) 0 (AreBits-replicate 16)
-    ∙ word_left (after_all bytes 65535) ∙ ap (bits_of 16) (sym is) in
+    ∙ word_left (after_all bytes 65535) ∙ ap (low_bits 16) (sym is) in
     sym (turned 16 r (omega arith)) ∙ ap (map (λ b. 1 - b)) (sym whole)

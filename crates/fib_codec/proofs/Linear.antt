@@ -5,29 +5,29 @@ use Rattle.std.proofs.lemmas.Nat.{xor_comm, shr-shr, xor_of_16}
 use Rattle.std.proofs.lemmas.Nat.Bits.{same_from_bits_below}
 use Rattle.std.specs.Prelude.{bit_xor}
 use Rattle.std.specs.Int.{bit_at}
-use Rattle.fib_codec.specs.Crc.{bits_of, AreBits, plus, generator, without_leading, divided}
+use Rattle.fib_codec.specs.Crc.{low_bits, AreBits, plus, generator, without_leading, divided}
 use Rattle.fib_codec.specs.Register.{next, after}
 use Rattle.fib_codec.proofs.Division.{bits_of-suc, bits_of-zero, length-bits_of, bits_of_are, bits_of-xor, bits_of-below, plus-nil, plus-plus, plus-append, AreBits-append, AreBits-replicate, divided-suc, divided-zero, steps, word_left}
 
 -- numbers with the same bits have each bit the same
-same_bit : (w x y i : ℕ) → bits_of w x ≡ bits_of w y → i < w → bit_at x i ≡ bit_at y i
+same_bit : (w x y i : ℕ) → low_bits w x ≡ low_bits w y → i < w → bit_at x i ≡ bit_at y i
 same_bit zero x y i h lt = absurd (omega arith)
 same_bit (suc w) x y i h lt =
-    let both : bit_at x w ∷ bits_of w x ≡ bit_at y w ∷ bits_of w y = sym (bits_of-suc w x) ∙ h ∙ bits_of-suc w y in
+    let both : bit_at x w ∷ low_bits w x ≡ bit_at y w ∷ low_bits w y = sym (bits_of-suc w x) ∙ h ∙ bits_of-suc w y in
     let head : bit_at x w ≡ bit_at y w = cc in
-    let tail : bits_of w x ≡ bits_of w y = cc in
+    let tail : low_bits w x ≡ low_bits w y = cc in
     elim (cases_eq i w) [
       | inl e ↦ ap (bit_at x) e ∙ head ∙ ap (bit_at y) (sym e)
       | inr ne ↦ same_bit w x y i tail (omega arith)
     ]
 
-pub one_word : (x y : ℕ) → x < 65536 → y < 65536 → bits_of 16 x ≡ bits_of 16 y → x ≡ y
+pub one_word : (x y : ℕ) → x < 65536 → y < 65536 → low_bits 16 x ≡ low_bits 16 y → x ≡ y
 one_word x y p q h = same_from_bits_below 16 x y p q (λ i lt. same_bit 16 x y i h lt)
 
 -- ---- one byte
 -- an empty register adds nothing
-zeros_are : bits_of 16 0 ≡ replicate 16 0
-unfolding bits_of
+zeros_are : low_bits 16 0 ≡ replicate 16 0
+unfolding low_bits
 zeros_are = refl
 
 plus-zeros : (xs : List ℕ) (n : ℕ) → AreBits xs → plus xs (replicate n 0) ≡ xs
@@ -39,45 +39,45 @@ plus-zeros (x ∷ xs) (suc n) h =
     rw (same, plus-zeros xs n h.1) refl
 
 front_divides : (k n : ℕ) (m : List ℕ) → AreBits m
-    → divided (8 + n) (bits_of 8 k ++ m) ≡ divided n (plus m (bits_of 16 (after 8 k 0)))
+    → divided (8 + n) (low_bits 8 k ++ m) ≡ divided n (plus m (low_bits 16 (after 8 k 0)))
 front_divides k n m are =
-    let front = bits_of 8 k ++ m in
-    let front_are : AreBits front = AreBits-append (bits_of 8 k) m (bits_of_are 8 k) are in
+    let front = low_bits 8 k ++ m in
+    let front_are : AreBits front = AreBits-append (low_bits 8 k) m (bits_of_are 8 k) are in
     ap (divided (8 + n)) (sym (ap (plus front) zeros_are ∙ plus-zeros front 16 front_are)) ∙ steps 8 k 0 m n are
 
 -- a word is its high byte and its low byte
-split_at : (w r : ℕ) → bits_of (w + 8) r ≡ bits_of w (r / 256) ++ bits_of 8 r
+split_at : (w r : ℕ) → low_bits (w + 8) r ≡ low_bits w (r / 256) ++ low_bits 8 r
 split_at zero r =
     let start : 0 + 8 ≡ 8 = omega arith in
-    let none : bits_of 0 (r / 256) ≡ [] = bits_of-zero (r / 256) in
+    let none : low_bits 0 (r / 256) ≡ [] = bits_of-zero (r / 256) in
     rw (start, none) refl
 split_at (suc w) r =
     let count : suc w + 8 ≡ suc (w + 8) = omega arith in
     let turn : w + 8 ≡ 8 + w = omega arith in
     let top : bit_at r (w + 8) ≡ bit_at (r / 256) w =
     ap (λ k. r / 2 ^ k % 2) turn ∙ ap (λ n. n % 2) (sym (shr-shr r 8 w)) in
-    ap (λ k. bits_of k r) count ∙ bits_of-suc (w + 8) r
-    ∙ ap (λ b. b ∷ bits_of (w + 8) r) top ∙ ap (λ bs. bit_at (r / 256) w ∷ bs) (split_at w r)
-    ∙ ap (λ bs. bs ++ bits_of 8 r) (sym (bits_of-suc w (r / 256)))
+    ap (λ k. low_bits k r) count ∙ bits_of-suc (w + 8) r
+    ∙ ap (λ b. b ∷ low_bits (w + 8) r) top ∙ ap (λ bs. bit_at (r / 256) w ∷ bs) (split_at w r)
+    ∙ ap (λ bs. bs ++ low_bits 8 r) (sym (bits_of-suc w (r / 256)))
 
-pub split : (r : ℕ) → bits_of 16 r ≡ bits_of 8 (r / 256) ++ bits_of 8 r
+pub split : (r : ℕ) → low_bits 16 r ≡ low_bits 8 (r / 256) ++ low_bits 8 r
 split r = split_at 8 r
 
-no_bits : bits_of 8 0 ≡ replicate 8 0
-unfolding bits_of
+no_bits : low_bits 8 0 ≡ replicate 8 0
+unfolding low_bits
 no_bits = refl
 
 -- the low byte moved to the front
-moved_up : (r : ℕ) → bits_of 16 (r * 256 % 65536) ≡ bits_of 8 r ++ replicate 8 0
+moved_up : (r : ℕ) → low_bits 16 (r * 256 % 65536) ≡ low_bits 8 r ++ replicate 8 0
 moved_up r =
     let high : r * 256 % 65536 / 256 ≡ r % 256 = omega arith in
     let low : r * 256 % 65536 ≡ r % 256 * 2 ^ 8 + 0 = omega arith in
     let whole : r / 256 * 2 ^ 8 + r % 256 ≡ r = omega arith in
     split (r * 256 % 65536)
-    ∙ ap (λ n. bits_of 8 n ++ bits_of 8 (r * 256 % 65536)) high
-    ∙ ap (λ bs. bs ++ bits_of 8 (r * 256 % 65536))
-    (sym (bits_of-below 8 (r / 256) 8 (r % 256) (omega arith)) ∙ ap (bits_of 8) whole)
-    ∙ ap (λ bs. bits_of 8 r ++ bs) (ap (bits_of 8) low ∙ bits_of-below 8 (r % 256) 8 0 (omega arith) ∙ no_bits)
+    ∙ ap (λ n. low_bits 8 n ++ low_bits 8 (r * 256 % 65536)) high
+    ∙ ap (λ bs. bs ++ low_bits 8 (r * 256 % 65536))
+    (sym (bits_of-below 8 (r / 256) 8 (r % 256) (omega arith)) ∙ ap (low_bits 8) whole)
+    ∙ ap (λ bs. low_bits 8 r ++ bs) (ap (low_bits 8) low ∙ bits_of-below 8 (r % 256) 8 0 (omega arith) ∙ no_bits)
 
 plus-push_zeros : (m xs : List ℕ) (n : ℕ) → AreBits m → plus m (xs ++ replicate n 0) ≡ plus m xs
 plus-push_zeros [] xs n h = refl
@@ -96,26 +96,26 @@ length-plus (x ∷ xs) (y ∷ ys) = ap suc (length-plus xs ys)
 
 -- the register's high byte turns the byte at the front, and its low byte what follows
 front_turned : (r byte : ℕ) (m : List ℕ)
-    → plus (bits_of 8 byte ++ m) (bits_of 16 r) ≡ bits_of 8 (bit_xor (r / 256) byte) ++ plus m (bits_of 8 r)
+    → plus (low_bits 8 byte ++ m) (low_bits 16 r) ≡ low_bits 8 (bit_xor (r / 256) byte) ++ plus m (low_bits 8 r)
 front_turned r byte m =
-    let long : length (bits_of 8 byte) ≡ length (bits_of 8 (r / 256)) = length-bits_of 8 byte ∙ sym (length-bits_of 8 (r / 256)) in
-    ap (plus (bits_of 8 byte ++ m)) (split r)
-    ∙ plus-append (bits_of 8 byte) (bits_of 8 (r / 256)) m (bits_of 8 r) long
-    ∙ ap (λ t. t ++ plus m (bits_of 8 r)) (sym (bits_of-xor 8 byte (r / 256)) ∙ ap (bits_of 8) (xor_comm byte (r / 256)))
+    let long : length (low_bits 8 byte) ≡ length (low_bits 8 (r / 256)) = length-bits_of 8 byte ∙ sym (length-bits_of 8 (r / 256)) in
+    ap (plus (low_bits 8 byte ++ m)) (split r)
+    ∙ plus-append (low_bits 8 byte) (low_bits 8 (r / 256)) m (low_bits 8 r) long
+    ∙ ap (λ t. t ++ plus m (low_bits 8 r)) (sym (bits_of-xor 8 byte (r / 256)) ∙ ap (low_bits 8) (xor_comm byte (r / 256)))
 
 pub by_table : (r byte t : ℕ) → t ≡ after 8 (bit_xor (r / 256) byte) 0 → (m : List ℕ) (n : ℕ) → AreBits m
-    → divided (8 + n) (plus (bits_of 8 byte ++ m) (bits_of 16 r)) ≡ divided n (plus m (bits_of 16 (bit_xor (r * 256 % 65536) t)))
+    → divided (8 + n) (plus (low_bits 8 byte ++ m) (low_bits 16 r)) ≡ divided n (plus m (low_bits 16 (bit_xor (r * 256 % 65536) t)))
 by_table r byte t given m n are =
     let moved = r * 256 % 65536 in
-    let long : length (bits_of 16 moved) ≡ length (bits_of 16 t) = length-bits_of 16 moved ∙ sym (length-bits_of 16 t) in
-    let added : plus m (bits_of 16 moved) ≡ plus m (bits_of 8 r) =
-    ap (plus m) (moved_up r) ∙ plus-push_zeros m (bits_of 8 r) 8 are in
-    let sum : plus m (bits_of 16 (bit_xor moved t)) ≡ plus (plus m (bits_of 8 r)) (bits_of 16 t) =
-    ap (plus m) (bits_of-xor 16 moved t) ∙ sym (plus-plus m (bits_of 16 moved) (bits_of 16 t) long)
-    ∙ ap (λ xs. plus xs (bits_of 16 t)) added in
+    let long : length (low_bits 16 moved) ≡ length (low_bits 16 t) = length-bits_of 16 moved ∙ sym (length-bits_of 16 t) in
+    let added : plus m (low_bits 16 moved) ≡ plus m (low_bits 8 r) =
+    ap (plus m) (moved_up r) ∙ plus-push_zeros m (low_bits 8 r) 8 are in
+    let sum : plus m (low_bits 16 (bit_xor moved t)) ≡ plus (plus m (low_bits 8 r)) (low_bits 16 t) =
+    ap (plus m) (bits_of-xor 16 moved t) ∙ sym (plus-plus m (low_bits 16 moved) (low_bits 16 t) long)
+    ∙ ap (λ xs. plus xs (low_bits 16 t)) added in
     ap (divided (8 + n)) (front_turned r byte m)
-    ∙ front_divides (bit_xor (r / 256) byte) n (plus m (bits_of 8 r)) (plus-bits m (bits_of 8 r) are)
-    ∙ ap (λ k. divided n (plus (plus m (bits_of 8 r)) (bits_of 16 k))) (sym given)
+    ∙ front_divides (bit_xor (r / 256) byte) n (plus m (low_bits 8 r)) (plus-bits m (low_bits 8 r) are)
+    ∙ ap (λ k. divided n (plus (plus m (low_bits 8 r)) (low_bits 16 k))) (sym given)
     ∙ ap (divided n) (sym sum)
 
 -- ---- the division is linear
@@ -185,30 +185,30 @@ divided-plus (suc n) (x ∷ xs) (y ∷ ys) h are bre =
 
 -- ---- two bytes
 -- the register after a byte, as the remainder of that byte and the register
-word_bits : (k : ℕ) → AreBits (bits_of 8 k ++ replicate 16 0)
-word_bits k = AreBits-append (bits_of 8 k) (replicate 16 0) (bits_of_are 8 k) (AreBits-replicate 16)
+word_bits : (k : ℕ) → AreBits (low_bits 8 k ++ replicate 16 0)
+word_bits k = AreBits-append (low_bits 8 k) (replicate 16 0) (bits_of_are 8 k) (AreBits-replicate 16)
 
-as_rest : (k r : ℕ) → divided 8 (plus (bits_of 8 k ++ replicate 16 0) (bits_of 16 r)) ≡ bits_of 16 (after 8 k r)
+as_rest : (k r : ℕ) → divided 8 (plus (low_bits 8 k ++ replicate 16 0) (low_bits 16 r)) ≡ low_bits 16 (after 8 k r)
 as_rest k r = steps 8 k r (replicate 16 0) 0 (AreBits-replicate 16) ∙ word_left (after 8 k r)
 
 -- what is added to the front can be added to zeros first
 onto_zeros : (front xs : List ℕ) → length front ≡ 24 → AreBits front
-    → plus front xs ≡ plus front (plus (bits_of 8 0 ++ replicate 16 0) xs)
+    → plus front xs ≡ plus front (plus (low_bits 8 0 ++ replicate 16 0) xs)
 onto_zeros front xs long are =
-    let zeros : bits_of 8 0 ++ replicate 16 0 ≡ replicate 24 0 = ap (λ t. t ++ replicate 16 0) no_bits in
+    let zeros : low_bits 8 0 ++ replicate 16 0 ≡ replicate 24 0 = ap (λ t. t ++ replicate 16 0) no_bits in
     ap (λ t. plus t xs) (sym (plus-zeros front 24 are))
     ∙ plus_inside front (replicate 24 0) xs long
     ∙ ap (λ t. plus front (plus t xs)) (sym zeros)
 
-word_long : (k : ℕ) → length (bits_of 8 k ++ replicate 16 0) ≡ 24
-word_long k = length-append (bits_of 8 k) (replicate 16 0) ∙ ap (λ n. n + 16) (length-bits_of 8 k)
+word_long : (k : ℕ) → length (low_bits 8 k ++ replicate 16 0) ≡ 24
+word_long k = length-append (low_bits 8 k) (replicate 16 0) ∙ ap (λ n. n + 16) (length-bits_of 8 k)
 
 -- the remainder of a byte and a sum, as the sum of two remainders
-apart_bits : (k : ℕ) (xs ys : List ℕ) → divided 8 (plus (plus (bits_of 8 k ++ replicate 16 0) xs) ys)
-    ≡ plus (divided 8 (plus (bits_of 8 k ++ replicate 16 0) xs)) (divided 8 (plus (bits_of 8 0 ++ replicate 16 0) ys))
+apart_bits : (k : ℕ) (xs ys : List ℕ) → divided 8 (plus (plus (low_bits 8 k ++ replicate 16 0) xs) ys)
+    ≡ plus (divided 8 (plus (low_bits 8 k ++ replicate 16 0) xs)) (divided 8 (plus (low_bits 8 0 ++ replicate 16 0) ys))
 apart_bits k xs ys =
-    let message = bits_of 8 k ++ replicate 16 0 in
-    let zeros = bits_of 8 0 ++ replicate 16 0 in
+    let message = low_bits 8 k ++ replicate 16 0 in
+    let zeros = low_bits 8 0 ++ replicate 16 0 in
     let front = plus message xs in
     let long : length front ≡ 24 = length-plus message xs ∙ word_long k in
     let same : length front ≡ length (plus zeros ys) = long ∙ sym (word_long 0) ∙ sym (length-plus zeros ys) in
@@ -217,51 +217,51 @@ apart_bits k xs ys =
     ∙ divided-plus 8 front (plus zeros ys) same are (plus-bits zeros ys (word_bits 0))
 
 -- a byte and a register act apart
-parts_of : (k r : ℕ) → bits_of 16 (after 8 k r) ≡ bits_of 16 (bit_xor (after 8 k 0) (after 8 0 r))
+parts_of : (k r : ℕ) → low_bits 16 (after 8 k r) ≡ low_bits 16 (bit_xor (after 8 k 0) (after 8 0 r))
 parts_of k r =
-    let message = bits_of 8 k ++ replicate 16 0 in
-    let empty : plus message (bits_of 16 0) ≡ message = ap (plus message) zeros_are ∙ plus-zeros message 16 (word_bits k) in
-    sym (as_rest k r) ∙ ap (λ t. divided 8 (plus t (bits_of 16 r))) (sym empty)
-    ∙ apart_bits k (bits_of 16 0) (bits_of 16 r)
-    ∙ ap (λ t. plus t (divided 8 (plus (bits_of 8 0 ++ replicate 16 0) (bits_of 16 r)))) (as_rest k 0)
-    ∙ ap (plus (bits_of 16 (after 8 k 0))) (as_rest 0 r)
+    let message = low_bits 8 k ++ replicate 16 0 in
+    let empty : plus message (low_bits 16 0) ≡ message = ap (plus message) zeros_are ∙ plus-zeros message 16 (word_bits k) in
+    sym (as_rest k r) ∙ ap (λ t. divided 8 (plus t (low_bits 16 r))) (sym empty)
+    ∙ apart_bits k (low_bits 16 0) (low_bits 16 r)
+    ∙ ap (λ t. plus t (divided 8 (plus (low_bits 8 0 ++ replicate 16 0) (low_bits 16 r)))) (as_rest k 0)
+    ∙ ap (plus (low_bits 16 (after 8 k 0))) (as_rest 0 r)
     ∙ sym (bits_of-xor 16 (after 8 k 0) (after 8 0 r))
 
 -- and so do two registers before a byte of zeros
-registers_apart : (r s : ℕ) → bits_of 16 (after 8 0 (bit_xor r s)) ≡ bits_of 16 (bit_xor (after 8 0 r) (after 8 0 s))
+registers_apart : (r s : ℕ) → low_bits 16 (after 8 0 (bit_xor r s)) ≡ low_bits 16 (bit_xor (after 8 0 r) (after 8 0 s))
 registers_apart r s =
-    let zeros = bits_of 8 0 ++ replicate 16 0 in
-    let long : length (bits_of 16 r) ≡ length (bits_of 16 s) = length-bits_of 16 r ∙ sym (length-bits_of 16 s) in
+    let zeros = low_bits 8 0 ++ replicate 16 0 in
+    let long : length (low_bits 16 r) ≡ length (low_bits 16 s) = length-bits_of 16 r ∙ sym (length-bits_of 16 s) in
     sym (as_rest 0 (bit_xor r s))
     ∙ ap (λ t. divided 8 (plus zeros t)) (bits_of-xor 16 r s)
-    ∙ ap (divided 8) (sym (plus-plus zeros (bits_of 16 r) (bits_of 16 s) long))
-    ∙ apart_bits 0 (bits_of 16 r) (bits_of 16 s)
-    ∙ ap (λ t. plus t (divided 8 (plus zeros (bits_of 16 s)))) (as_rest 0 r)
-    ∙ ap (plus (bits_of 16 (after 8 0 r))) (as_rest 0 s)
+    ∙ ap (divided 8) (sym (plus-plus zeros (low_bits 16 r) (low_bits 16 s) long))
+    ∙ apart_bits 0 (low_bits 16 r) (low_bits 16 s)
+    ∙ ap (λ t. plus t (divided 8 (plus zeros (low_bits 16 s)))) (as_rest 0 r)
+    ∙ ap (plus (low_bits 16 (after 8 0 r))) (as_rest 0 s)
     ∙ sym (bits_of-xor 16 (after 8 0 r) (after 8 0 s))
 
 -- the first two bytes are turned by the register, which is then empty
-turned_bits : (r a b : ℕ) → bits_of 16 (after 8 b (after 8 a r))
-    ≡ bits_of 16 (after 8 (bit_xor (r % 256) b) (after 8 (bit_xor (r / 256) a) 0))
+turned_bits : (r a b : ℕ) → low_bits 16 (after 8 b (after 8 a r))
+    ≡ low_bits 16 (after 8 (bit_xor (r % 256) b) (after 8 (bit_xor (r / 256) a) 0))
 turned_bits r a b =
     let first = bit_xor (r / 256) a in
     let second = bit_xor (r % 256) b in
     let zeros : List ℕ = replicate 16 0 in
     let are : AreBits zeros = AreBits-replicate 16 in
-    let low : bits_of 8 r ≡ bits_of 8 (r % 256) =
+    let low : low_bits 8 r ≡ low_bits 8 (r % 256) =
     (let whole : r / 256 * 2 ^ 8 + r % 256 ≡ r = omega arith in
-    sym (ap (bits_of 8) whole) ∙ bits_of-below 8 (r / 256) 8 (r % 256) (omega arith)) in
-    let long : length (bits_of 8 b) ≡ length (bits_of 8 (r % 256)) = length-bits_of 8 b ∙ sym (length-bits_of 8 (r % 256)) in
-    let behind : plus (bits_of 8 b ++ zeros) (bits_of 8 r) ≡ bits_of 8 second ++ zeros =
-    ap (plus (bits_of 8 b ++ zeros)) (low ∙ sym (append-nil (bits_of 8 (r % 256))))
-    ∙ plus-append (bits_of 8 b) (bits_of 8 (r % 256)) zeros [] long
-    ∙ ap (λ t. plus (bits_of 8 b) (bits_of 8 (r % 256)) ++ t) (plus-nil zeros)
-    ∙ ap (λ t. t ++ zeros) (sym (bits_of-xor 8 b (r % 256)) ∙ ap (bits_of 8) (xor_comm b (r % 256))) in
+    sym (ap (low_bits 8) whole) ∙ bits_of-below 8 (r / 256) 8 (r % 256) (omega arith)) in
+    let long : length (low_bits 8 b) ≡ length (low_bits 8 (r % 256)) = length-bits_of 8 b ∙ sym (length-bits_of 8 (r % 256)) in
+    let behind : plus (low_bits 8 b ++ zeros) (low_bits 8 r) ≡ low_bits 8 second ++ zeros =
+    ap (plus (low_bits 8 b ++ zeros)) (low ∙ sym (append-nil (low_bits 8 (r % 256))))
+    ∙ plus-append (low_bits 8 b) (low_bits 8 (r % 256)) zeros [] long
+    ∙ ap (λ t. plus (low_bits 8 b) (low_bits 8 (r % 256)) ++ t) (plus-nil zeros)
+    ∙ ap (λ t. t ++ zeros) (sym (bits_of-xor 8 b (r % 256)) ∙ ap (low_bits 8) (xor_comm b (r % 256))) in
     sym (word_left (after 8 b (after 8 a r)))
     ∙ sym (steps 8 b (after 8 a r) zeros 0 are)
-    ∙ sym (steps 8 a r (bits_of 8 b ++ zeros) (8 + 0) (word_bits b))
-    ∙ ap (divided (8 + (8 + 0))) (front_turned r a (bits_of 8 b ++ zeros) ∙ ap (λ t. bits_of 8 first ++ t) behind)
-    ∙ front_divides first (8 + 0) (bits_of 8 second ++ zeros) (word_bits second)
+    ∙ sym (steps 8 a r (low_bits 8 b ++ zeros) (8 + 0) (word_bits b))
+    ∙ ap (divided (8 + (8 + 0))) (front_turned r a (low_bits 8 b ++ zeros) ∙ ap (λ t. low_bits 8 first ++ t) behind)
+    ∙ front_divides first (8 + 0) (low_bits 8 second ++ zeros) (word_bits second)
     ∙ steps 8 second (after 8 first 0) zeros 0 are
     ∙ word_left (after 8 second (after 8 first 0))
 

@@ -1,16 +1,16 @@
 -- Bytes that are an entry in the grammar are spelled by an entry.
 use Rattle.std.proofs.Common.{◌≡◌, ◌⊎◌, inl, inr, ℕ, zero, suc, ◌+◌, ◌*◌, ◌/◌, ◌%◌, ◌<◌, Bool, true, false, cond, eqb, Option, Some, None, List, [], ◌∷◌, ◌++◌, length, refl, sym, ◌∙◌, ap, ap₂, arith, eqb-true}
 use Rattle.std.specs.Prelude.{is_some, IfSome}
-use Rattle.mux_config.specs.Configuration.{Each, IsSid}
+use Rattle.mux_types.specs.Configuration.{Each, IsSid}
 use Rattle.mux_types.specs.declared.numbers.Sid.{Sid}
 use Rattle.mux_types.specs.declared.numbers.Sid.TheVariants.{Short, Long}
-use Rattle.mux_config.specs.declared.entry.Entry.TheVariants.{Ensemble as EnsembleOf, Sub as SubOf, Short as ShortOf, Service as ServiceOf, Packet as PacketOf}
-use Rattle.mux_config.specs.declared.entry.SubEntry.{SubEntry}
-use Rattle.mux_config.specs.declared.entry.ShortEntry.{ShortEntry}
-use Rattle.mux_config.specs.declared.entry.ServiceEntry.{ServiceEntry}
-use Rattle.mux_config.specs.declared.entry.PacketEntry.{PacketEntry}
-use Rattle.mux_config.specs.declared.entry.ComponentEntry.{ComponentEntry}
-use Rattle.mux_config.specs.declared.entry.ComponentEntry.TheVariants.{Sound, Stream, Other, Packet}
+use Rattle.mux_entries.specs.declared.entry.Entry.TheVariants.{Ensemble as EnsembleOf, Sub as SubOf, Short as ShortOf, Service as ServiceOf, Packet as PacketOf}
+use Rattle.mux_entries.specs.declared.entry.SubEntry.{SubEntry}
+use Rattle.mux_entries.specs.declared.entry.ShortEntry.{ShortEntry}
+use Rattle.mux_entries.specs.declared.entry.ServiceEntry.{ServiceEntry}
+use Rattle.mux_entries.specs.declared.entry.PacketEntry.{PacketEntry}
+use Rattle.mux_entries.specs.declared.entry.ComponentEntry.{ComponentEntry}
+use Rattle.mux_entries.specs.declared.entry.ComponentEntry.TheVariants.{Sound, Stream, Other, Packet}
 use Rattle.byteorder.specs.Endian.{big_bytes}
 use Rattle.fib_codec.specs.declared.head.Head.{Head}
 use Rattle.fib_codec.specs.Ranges.{IsEnsembleInformation, IsSubEntry, IsShortEntry, IsServiceEntry, IsPacketEntry, IsComponentEntry}

@@ -7,17 +7,17 @@ use Rattle.std.proofs.lemmas.Nat.{mod-pow-add}
 use Rattle.byteorder.specs.Endian.{big_bytes}
 use Rattle.fib_codec.specs.Spelling.{checked}
 use borrow.Rule.Slice.PartMut.{put_mid}
-use Rattle.fib_codec.specs.Crc.{bits_of, bits_of_bytes, check_bits, number_of_bits, check_word, IsChecked, AreBits, divided, dividend, without_leading}
+use Rattle.fib_codec.specs.Crc.{low_bits, bits_of_bytes, check_bits, number_of_bits, check_word, IsChecked, AreBits, divided, dividend, without_leading}
 use Rattle.fib_codec.proofs.Division.{bits_of-suc, bits_of-zero, length-bits_of, bits_of-below, divided-zero, divided-suc}
 use Rattle.fib_codec.proofs.Linear.{one_word, split, length-plus, divided-nil, without_bits, length-without}
 
 -- two bytes have the bits of the word that they spell
-pub sent_bits : (a b : ℕ) → b < 256 → bits_of_bytes (a ∷ b ∷ []) ≡ bits_of 16 (a * 256 + b)
+pub sent_bits : (a b : ℕ) → b < 256 → bits_of_bytes (a ∷ b ∷ []) ≡ low_bits 16 (a * 256 + b)
 sent_bits a b h =
     let high : (a * 256 + b) / 256 ≡ a = omega arith in
-    ap (λ t. bits_of 8 a ++ t) (append-nil (bits_of 8 b))
-    ∙ ap (λ t. bits_of 8 a ++ t) (sym (bits_of-below 8 a 8 b (omega arith)))
-    ∙ ap (λ n. bits_of 8 n ++ bits_of 8 (a * 256 + b)) (sym high)
+    ap (λ t. low_bits 8 a ++ t) (append-nil (low_bits 8 b))
+    ∙ ap (λ t. low_bits 8 a ++ t) (sym (bits_of-below 8 a 8 b (omega arith)))
+    ∙ ap (λ n. low_bits 8 n ++ low_bits 8 (a * 256 + b)) (sym high)
     ∙ sym (split (a * 256 + b))
 
 last_two : (bytes : List ℕ) → length bytes ≡ 32 → drop 30 bytes ≡ get_or bytes 30 0 ∷ get_or bytes 31 0 ∷ []
@@ -28,19 +28,19 @@ last_two bytes h =
     more ∙ ap (λ t. get_or bytes 30 0 ∷ t) (last ∙ ap (λ t. get_or bytes 31 0 ∷ t) end)
 
 pub checked_by_word : (bytes : List ℕ) (word : ℕ) → length bytes ≡ 32 → get_or bytes 30 0 < 256 → get_or bytes 31 0 < 256
-    → word < 65536 → bits_of 16 word ≡ check_bits (take 30 bytes)
+    → word < 65536 → low_bits 16 word ≡ check_bits (take 30 bytes)
     → (word ≡ get_or bytes 30 0 * 256 + get_or bytes 31 0) ↔ IsChecked bytes
 checked_by_word bytes word long high low fits h =
-    let sent : bits_of_bytes (drop 30 bytes) ≡ bits_of 16 (get_or bytes 30 0 * 256 + get_or bytes 31 0) =
+    let sent : bits_of_bytes (drop 30 bytes) ≡ low_bits 16 (get_or bytes 30 0 * 256 + get_or bytes 31 0) =
     ap bits_of_bytes (last_two bytes long) ∙ sent_bits (get_or bytes 30 0) (get_or bytes 31 0) low in (
-      λ same. sent ∙ ap (bits_of 16) (sym same) ∙ h,
+      λ same. sent ∙ ap (low_bits 16) (sym same) ∙ h,
       λ checked. one_word word (get_or bytes 30 0 * 256 + get_or bytes 31 0) fits (omega arith) (h ∙ sym checked ∙ sent),
     )
 
 -- the number that a word's bits spell is the word
-word_spelled : (w x : ℕ) → number_of_bits (bits_of w x) ≡ x % 2 ^ w
+word_spelled : (w x : ℕ) → number_of_bits (low_bits w x) ≡ x % 2 ^ w
 word_spelled zero x =
-    let none : bits_of 0 x ≡ [] = bits_of-zero x in
+    let none : low_bits 0 x ≡ [] = bits_of-zero x in
     let rest : x % 2 ^ 0 ≡ 0 = omega arith in
     ap number_of_bits none ∙ sym rest
 word_spelled (suc w) x =
@@ -50,7 +50,7 @@ word_spelled (suc w) x =
     ∙ ap₂ (λ k n. bit_at x w * 2 ^ k + n) (length-bits_of w x) (word_spelled w x)
     ∙ sym (ap (λ n. x % 2 ^ n) (sym count) ∙ mod-pow-add x 1 w)
 
-pub word_checked : (bytes : List ℕ) (word : ℕ) → word < 65536 → bits_of 16 word ≡ check_bits bytes → word ≡ check_word bytes
+pub word_checked : (bytes : List ℕ) (word : ℕ) → word < 65536 → low_bits 16 word ≡ check_bits bytes → word ≡ check_word bytes
 word_checked bytes word fits h =
     let small : word % 2 ^ 16 ≡ word = omega arith in
     sym small ∙ sym (word_spelled 16 word) ∙ ap number_of_bits h
@@ -88,7 +88,7 @@ turned_bits (x ∷ xs) = (omega arith, turned_bits xs)
 length-bits_of_bytes : (bytes : List ℕ) → length (bits_of_bytes bytes) ≡ 8 * length bytes
 length-bits_of_bytes [] = refl
 length-bits_of_bytes (b ∷ bs) =
-    length-append (bits_of 8 b) (bits_of_bytes bs)
+    length-append (low_bits 8 b) (bits_of_bytes bs)
     ∙ ap₂ (λ m n. m + n) (length-bits_of 8 b) (length-bits_of_bytes bs) ∙ omega arith
 
 check_len : (bytes : List ℕ) → length (check_bits bytes) ≡ 16
@@ -120,7 +120,7 @@ number_below (suc zero ∷ bits) are =
     omega (arith, more, number_below bits are.1)
 number_below (suc (suc b) ∷ bits) are = absurd (omega (arith, are.0))
 
-spelled_bits : (bits : List ℕ) → AreBits bits → bits_of (length bits) (number_of_bits bits) ≡ bits
+spelled_bits : (bits : List ℕ) → AreBits bits → low_bits (length bits) (number_of_bits bits) ≡ bits
 spelled_bits [] are = bits_of-zero 0
 spelled_bits (b ∷ bits) are =
     let n = number_of_bits bits in
@@ -132,9 +132,9 @@ spelled_bits (b ∷ bits) are =
     bits_of-suc w (b * 2 ^ w + n)
     ∙ ap₂ (λ x xs. x ∷ xs) high (bits_of-below w b w n (omega arith) ∙ spelled_bits bits are.1)
 
-pub check_word_bits : (bytes : List ℕ) → bits_of 16 (check_word bytes) ≡ check_bits bytes
+pub check_word_bits : (bytes : List ℕ) → low_bits 16 (check_word bytes) ≡ check_bits bytes
 check_word_bits bytes =
-    ap (λ w. bits_of w (check_word bytes)) (sym (check_len bytes))
+    ap (λ w. low_bits w (check_word bytes)) (sym (check_len bytes))
     ∙ spelled_bits (check_bits bytes) (turned_bits (divided (8 * length bytes) (dividend bytes)))
 
 pub check_word_below : (bytes : List ℕ) → check_word bytes < 65536
@@ -151,11 +151,11 @@ checked_is bytes h =
     let whole : word / 256 % 256 * 256 + word % 256 ≡ word = omega (arith, check_word_below bytes) in
     ap bits_of_bytes (drop_at bytes (big_bytes 2 word) 30 h)
     ∙ sent_bits (word / 256 % 256) (word % 256) (omega arith)
-    ∙ ap (bits_of 16) whole ∙ check_word_bits bytes ∙ ap check_bits (sym (take_at bytes (big_bytes 2 word) 30 h))
+    ∙ ap (low_bits 16) whole ∙ check_word_bits bytes ∙ ap check_bits (sym (take_at bytes (big_bytes 2 word) 30 h))
 
 -- the same bytes, as they are written into a row of zeros
 pub sealed_bytes : (bytes moved buf : List ℕ) (word : ℕ) → length bytes ≡ 30 → moved ≡ bytes → word < 65536
-    → bits_of 16 word ≡ check_bits bytes
+    → low_bits 16 word ≡ check_bits bytes
     → buf ≡ word / 256 % 256 ∷ word % 256 ∷ drop 2 (take 2 (drop 30 (moved ++ 0 ∷ 0 ∷ [])))
     → put_mid 30 2 (moved ++ 0 ∷ 0 ∷ []) buf ≡ checked bytes
 sealed_bytes bytes moved buf word h same fits bits written =
@@ -168,7 +168,7 @@ sealed_bytes bytes moved buf word h same fits bits written =
 
 -- the CRC written over the last two of thirty-two bytes
 pub sealed_row : (row buf : List ℕ) (word : ℕ) → length row ≡ 32 → word < 65536
-    → bits_of 16 word ≡ check_bits (take 30 row)
+    → low_bits 16 word ≡ check_bits (take 30 row)
     → buf ≡ word / 256 % 256 ∷ word % 256 ∷ drop 2 (take 2 (drop 30 row))
     → put_mid 30 2 row buf ≡ checked (take 30 row)
 sealed_row row buf word whole fits bits written =
@@ -183,7 +183,7 @@ sealed_row row buf word whole fits bits written =
 
 -- the same over all bytes behind thirty
 pub sealed_end : (row buf : List ℕ) (word : ℕ) → length row ≡ 32 → word < 65536
-    → bits_of 16 word ≡ check_bits (take 30 row)
+    → low_bits 16 word ≡ check_bits (take 30 row)
     → buf ≡ word / 256 % 256 ∷ word % 256 ∷ drop 2 (take (length row - 30) (drop 30 row))
     → put_mid 30 (length row - 30) row buf ≡ checked (take 30 row)
 sealed_end row buf word whole fits bits written =
@@ -203,13 +203,13 @@ piece_into offset bytes piece is same =
 
 -- the same where they get their CRC there
 pub sealed_into : (offset word : ℕ) (bytes row copied buf : List ℕ) → length row ≡ 32 → copied ≡ row → word < 65536
-    → bits_of 16 word ≡ check_bits (take 30 row)
+    → low_bits 16 word ≡ check_bits (take 30 row)
     → buf ≡ word / 256 % 256 ∷ word % 256 ∷ drop 2 (take (length copied - 30) (drop 30 copied))
     → put_mid offset (offset + 32 - offset) bytes (put_mid 30 (length copied - 30) copied buf)
     ≡ take offset bytes ++ (checked (take 30 row) ++ drop (offset + 32) bytes)
 sealed_into offset word bytes row copied buf whole same fits bits written =
     let long : length copied ≡ 32 = ap length same ∙ whole in
-    let own : bits_of 16 word ≡ check_bits (take 30 copied) = bits ∙ ap (λ xs. check_bits (take 30 xs)) (sym same) in
+    let own : low_bits 16 word ≡ check_bits (take 30 copied) = bits ∙ ap (λ xs. check_bits (take 30 xs)) (sym same) in
     piece_into offset bytes _ (checked (take 30 row)) (sealed_end copied buf word long fits own written ∙ ap (λ xs. checked (take 30 xs)) same)
 
 -- thirty data bytes of a FIG and of what is left of others

@@ -4,12 +4,12 @@ use Rattle.std.specs.Prelude.{◌≡◌, ℕ, zero, suc, ◌+◌, ◌-◌, ◌*�
 use Rattle.std.specs.Int.{bit_at}
 
 -- the lowest bits of a number, as many as the width says
-unfoldable pub bits_of : ℕ → ℕ → List ℕ
-bits_of zero n = []
-bits_of (suc width) n = bit_at n width ∷ bits_of width n
+unfoldable pub low_bits : ℕ → ℕ → List ℕ
+low_bits zero n = []
+low_bits (suc width) n = bit_at n width ∷ low_bits width n
 
 abbrev pub bits_of_bytes : List ℕ → List ℕ
-bits_of_bytes bytes = flat_map (bits_of 8) bytes
+bits_of_bytes bytes = flat_map (low_bits 8) bytes
 
 -- each element of the list is 0 or 1
 abbrev pub AreBits : List ℕ → Type 0

@@ -1,12 +1,12 @@
 -- Which FIGs the 32 bytes of a FIB hold, for reader and writer alike (EN 300 401 clauses 5.2.1, 5.2.2, 6.2.1,
 -- 6.3.1, 6.3.2 and 6.4). FIGs of other types or extensions, and those of other ensembles, aren't looked into.
 use Rattle.std.specs.Prelude.{◌≡◌, ◌≢◌, ℕ, ◌+◌, ◌*◌, ◌/◌, ◌%◌, ◌<◌, ◌≤◌, ◌==◌, ◌&&◌, nat_lt, Bool, true, false, if◌then◌else◌, ◌⊎◌, List, [], ◌∷◌, ◌++◌, length, map, flat_map, take, get_or}
-use Rattle.mux_config.specs.Configuration.{Each}
+use Rattle.mux_types.specs.Configuration.{Each}
 use Rattle.fib_codec.specs.Crc.{IsChecked}
 use Rattle.fib_codec.specs.Spelling.{Written, IsWritten, IsUnder, entry_bytes, head_byte, fig_bytes, figs_bytes, fib_bytes, filled}
 use Rattle.fib_codec.specs.declared.head.Head.{Head}
 use Rattle.fib_codec.specs.Ranges.{IsWithin}
-use Rattle.mux_config.specs.declared.entry.Entry.{Entry}
+use Rattle.mux_entries.specs.declared.entry.Entry.{Entry}
 
 -- how long the entry is that begins here, as the bytes that decide it say; more than are there where one of
 -- these is missing. FIG 0/0 has its occurrence change where a flag is set, FIG 0/1 a long form, FIG 0/2 a number

@@ -1,7 +1,7 @@
 -- What holds of the grammar's bytes: an entry by the grammar is spelled by an entry, and a FIB has 32 bytes.
 use Rattle.std.specs.Prelude.{◌≡◌, ℕ, ◌<◌, List, length}
-use Rattle.mux_config.specs.Configuration.{Each}
-use Rattle.mux_config.specs.declared.entry.Entry.{Entry}
+use Rattle.mux_types.specs.Configuration.{Each}
+use Rattle.mux_entries.specs.declared.entry.Entry.{Entry}
 use Rattle.fib_codec.specs.declared.head.Head.{Head}
 use Rattle.fib_codec.specs.Grammar.{Fig, IsEntry, IsCounted, IsFib}
 use Rattle.fib_codec.specs.Ranges.{IsWithin}

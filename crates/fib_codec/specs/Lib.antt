@@ -7,6 +7,6 @@ pub mod Grammar
 pub mod Heard
 pub mod Laws
 pub mod Modes
-pub use Rattle.mux_config.specs.Configuration
-pub use Rattle.mux_config.specs.Entries
-pub use Rattle.mux_config.specs.Facts
+pub use Rattle.mux_types.specs.Configuration
+pub use Rattle.mux_entries.specs.Entries
+pub use Rattle.mux_entries.specs.Facts

@@ -1,15 +1,15 @@
 -- Entries whose fields are within their bits, which is so for each entry of a program.
 use Rattle.std.specs.Prelude.{◌<◌, ◌≤◌, ◌↔◌, IsSome, IfSome, length}
-use Rattle.mux_config.specs.Entries.{EnsembleInformation}
-use Rattle.mux_config.specs.Configuration.{Each, IsSid}
-use Rattle.mux_config.specs.declared.entry.Entry.{Entry}
-use Rattle.mux_config.specs.declared.entry.Entry.TheVariants.{Ensemble as EnsembleOf, Sub as SubOf, Short as ShortOf, Service as ServiceOf, Packet as PacketOf}
-use Rattle.mux_config.specs.declared.entry.SubEntry.{SubEntry}
-use Rattle.mux_config.specs.declared.entry.ShortEntry.{ShortEntry}
-use Rattle.mux_config.specs.declared.entry.ServiceEntry.{ServiceEntry}
-use Rattle.mux_config.specs.declared.entry.PacketEntry.{PacketEntry}
-use Rattle.mux_config.specs.declared.entry.ComponentEntry.{ComponentEntry}
-use Rattle.mux_config.specs.declared.entry.ComponentEntry.TheVariants.{Sound, Stream, Other, Packet}
+use Rattle.mux_entries.specs.Entries.{EnsembleInformation}
+use Rattle.mux_types.specs.Configuration.{Each, IsSid}
+use Rattle.mux_entries.specs.declared.entry.Entry.{Entry}
+use Rattle.mux_entries.specs.declared.entry.Entry.TheVariants.{Ensemble as EnsembleOf, Sub as SubOf, Short as ShortOf, Service as ServiceOf, Packet as PacketOf}
+use Rattle.mux_entries.specs.declared.entry.SubEntry.{SubEntry}
+use Rattle.mux_entries.specs.declared.entry.ShortEntry.{ShortEntry}
+use Rattle.mux_entries.specs.declared.entry.ServiceEntry.{ServiceEntry}
+use Rattle.mux_entries.specs.declared.entry.PacketEntry.{PacketEntry}
+use Rattle.mux_entries.specs.declared.entry.ComponentEntry.{ComponentEntry}
+use Rattle.mux_entries.specs.declared.entry.ComponentEntry.TheVariants.{Sound, Stream, Other, Packet}
 
 -- the change flags are two bits, the CIF count runs modulo 5000, and an occurrence change is there exactly
 -- where a flag is set (EN 300 401 clause 6.4)

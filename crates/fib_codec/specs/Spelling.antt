@@ -3,19 +3,19 @@
 -- bytes of x.
 use Rattle.std.specs.Prelude.{◌≡◌, ℕ, ◌+◌, ◌-◌, ◌*◌, ◌/◌, ◌%◌, ◌<◌, ◌≤◌, Bool, true, false, if◌then◌else◌, nat_lt, is_some, Option, Some, None, List, [], ◌∷◌, ◌++◌, length, flat_map, replicate}
 use Rattle.byteorder.specs.Endian.{big_bytes}
-use Rattle.mux_config.specs.Entries.{EnsembleInformation}
-use Rattle.mux_config.specs.Configuration.{Each}
-use Rattle.mux_config.specs.Facts.{Marked}
+use Rattle.mux_entries.specs.Entries.{EnsembleInformation}
+use Rattle.mux_types.specs.Configuration.{Each}
+use Rattle.mux_entries.specs.Facts.{Marked}
 use Rattle.mux_types.specs.declared.numbers.Sid.{Sid}
 use Rattle.mux_types.specs.declared.numbers.Sid.TheVariants.{Short, Long}
-use Rattle.mux_config.specs.declared.entry.Entry.{Entry}
-use Rattle.mux_config.specs.declared.entry.Entry.TheVariants.{Ensemble as EnsembleOf, Sub as SubOf, Short as ShortOf, Service as ServiceOf, Packet as PacketOf}
-use Rattle.mux_config.specs.declared.entry.SubEntry.{SubEntry}
-use Rattle.mux_config.specs.declared.entry.ShortEntry.{ShortEntry}
-use Rattle.mux_config.specs.declared.entry.ServiceEntry.{ServiceEntry}
-use Rattle.mux_config.specs.declared.entry.PacketEntry.{PacketEntry}
-use Rattle.mux_config.specs.declared.entry.ComponentEntry.{ComponentEntry}
-use Rattle.mux_config.specs.declared.entry.ComponentEntry.TheVariants.{Sound, Stream, Other, Packet}
+use Rattle.mux_entries.specs.declared.entry.Entry.{Entry}
+use Rattle.mux_entries.specs.declared.entry.Entry.TheVariants.{Ensemble as EnsembleOf, Sub as SubOf, Short as ShortOf, Service as ServiceOf, Packet as PacketOf}
+use Rattle.mux_entries.specs.declared.entry.SubEntry.{SubEntry}
+use Rattle.mux_entries.specs.declared.entry.ShortEntry.{ShortEntry}
+use Rattle.mux_entries.specs.declared.entry.ServiceEntry.{ServiceEntry}
+use Rattle.mux_entries.specs.declared.entry.PacketEntry.{PacketEntry}
+use Rattle.mux_entries.specs.declared.entry.ComponentEntry.{ComponentEntry}
+use Rattle.mux_entries.specs.declared.entry.ComponentEntry.TheVariants.{Sound, Stream, Other, Packet}
 use Rattle.fib_codec.specs.declared.head.Head.{Head}
 use Rattle.fib_codec.specs.Ranges.{IsWithin}
 use Rattle.fib_codec.specs.Crc.{check_word}

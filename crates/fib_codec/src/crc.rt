@@ -1,7 +1,7 @@
 //! The CRC of a FIB, bit by bit, and by tables six bytes at a time (EN 300 401 clause 5.2.1).
 
 ghost use Rattle.std.specs.Prelude.{◌≡◌, ◌↔◌, [], ◌∷◌, IsTrue};
-ghost use Rattle.fib_codec.specs.Crc.{bits_of, check_bits, IsChecked};
+ghost use Rattle.fib_codec.specs.Crc.{low_bits, check_bits, IsChecked};
 ghost use Rattle.fib_codec.specs.Register.{next, after, after_all};
 
 use crate::crc_tables::{slice_0, slice_1, slice_2, slice_3, slice_4, slice_5};
@@ -27,7 +27,7 @@ fn byte_step_by_bits(mut register: u16, byte: u8) -> u16
 
 /// The CRC of these bytes as it is sent, complemented: the same word as `crc16`, computed bit by bit.
 pub fn crc16_by_bits(bytes: &[u8]) -> u16
-    ensures { bits_of 16 result ≡ check_bits bytes.now }
+    ensures { low_bits 16 result ≡ check_bits bytes.now }
 {
     let mut register = 0xffffu16;
     for byte in bytes {
@@ -68,7 +68,7 @@ fn six_step(register: u16, a: u8, b: u8, c: u8, d: u8, e: u8, f: u8) -> u16
 /// The CRC of these bytes as it is sent: the remainder of the long division by
 /// x^16 + x^12 + x^5 + 1, complemented.
 pub fn crc16(bytes: &[u8]) -> u16
-    ensures { bits_of 16 result ≡ check_bits bytes.now }
+    ensures { low_bits 16 result ≡ check_bits bytes.now }
 {
     let mut register = 0xffffu16;
     let mut rest = bytes;

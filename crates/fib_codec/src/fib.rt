@@ -1,7 +1,7 @@
 //! A FIB that is being written.
 
 ghost use Rattle.std.specs.Prelude.{◌≡◌, ◌+◌, ◌*◌, ◌≤◌, ◌<◌, ◌↔◌, ◌++◌, ◌∷◌, [], length, IsTrue, IsFalse, MatchOption, List, map, take, slice_index_or, slice_set};
-ghost use Rattle.mux_config.specs.Configuration.{Each};
+ghost use Rattle.mux_types.specs.Configuration.{Each};
 ghost use Rattle.fib_codec.specs.Ranges.{IsWithin};
 ghost use Rattle.byteorder.specs.Endian.{big_bytes};
 ghost use Rattle.fib_codec.specs.Spelling.{head_byte as byte_of_head, bit_of, sid_size, sid_bytes, component_word, sub_bytes, packet_bytes, entry_bytes, entry_size, entries_bytes, fig_bytes, IsUnder, IsFormed, FitsFig, Written, IsWritten, figs_bytes, filled, checked};
@@ -11,7 +11,8 @@ use crate::data::Data;
 use crate::entry_writer::{entry_len, put_entry};
 use crate::head::Head;
 use crate::{fig0_1, fig0_2, fig0_3};
-use mux_config::{Bits, ComponentEntry, Entry, PacketEntry, Sid, SubEntry};
+use mux_entries::{ComponentEntry, Entry, PacketEntry, SubEntry};
+use mux_types::{Bits, Sid};
 use std::marker::Model;
 
 /// A Fast Information Block that is being written (EN 300 401 clause 5.2.1). Contracts see it as its data

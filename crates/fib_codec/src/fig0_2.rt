@@ -9,12 +9,13 @@ ghost use Rattle.byteorder.specs.Endian.{big_bytes};
 ghost use Rattle.fib_codec.specs.Grammar.{service_len};
 ghost use Rattle.fib_codec.specs.Ranges.{IsComponentEntry, IsServiceEntry};
 ghost use Rattle.fib_codec.specs.Spelling.{bit_of, sid_size, sid_bytes, is_long_sid, component_word, components_bytes, service_bytes};
-ghost use Rattle.mux_config.specs.Configuration.{Each, IsSid};
-ghost use Rattle.mux_config.specs.declared.entry.ServiceEntry.{ServiceEntry as Entry};
+ghost use Rattle.mux_types.specs.Configuration.{Each, IsSid};
+ghost use Rattle.mux_entries.specs.declared.entry.ServiceEntry.{ServiceEntry as Entry};
 
 use crate::bytes::{byte_at, u16_at, u16_of, u32_of};
 use crate::data::Data;
-use mux_config::{Bits, BoundedVec, ComponentEntry, ScId, ScTy, ServiceEntry, Sid, SubId};
+use mux_entries::{ComponentEntry, ServiceEntry};
+use mux_types::{Bits, BoundedVec, ScId, ScTy, Sid, SubId};
 
 /// The bytes before the components where the SId is of 16 bits.
 const SHORT_HEAD_LEN: usize = 3;

@@ -8,9 +8,9 @@ use Rattle.fib_codec.specs.Crc.{IsChecked, bits_of_bytes, check_bits}
 use Rattle.fib_codec.specs.Grammar.{Fig, IsFig, IsFib, is_open, is_long}
 use Rattle.fib_reader.specs.declared.fault.FibFault.{FibFault}
 use Rattle.fib_reader.specs.declared.fault.FibFault.TheVariants.{Crc, Overrun, Entry}
-use Rattle.fib_reader.specs.Faults.{AreWhole, StandsAt, IsOverrun, IsBodyFault, IsFigFault, IsEntryFault, IsFault}
+use Rattle.fib_reader.specs.Faults.{AreWhole, LeadsToHeader, IsOverrun, IsBodyFault, IsFigFault, IsEntryFault, IsFibFault}
 use Rattle.fib_reader.specs.FirstFault.{body_fault, entry_at_fault, fig_fault, figs_fault, or_else}
-use Rattle.fib_reader.specs.Walk.{fig_of, figs_of}
+use Rattle.fib_reader.specs.Walk.{fig_of_bytes, figs_of_bytes}
 use Rattle.fib_reader.proofs.EntryFaults.{body_found, body_given}
 use Rattle.fib_reader.proofs.FaultSteps.{no_fault_in_nothing}
 use Rattle.fib_reader.proofs.FigLists.{fig_header, sound_fig, sound_figs, past_tests, complete_fig, no_fault_twice}
@@ -34,8 +34,8 @@ moved_twice k m n (Entry place) h = let same : k + place ≡ m + (n + place) = o
 -- ---- what the walk finds is a fault
 
 stands_on :
-    (one rest more : List ℕ) (place header : ℕ) (f : Fig) → IsFig one f → StandsAt rest place header more
-    → StandsAt (one ++ rest) (length one + place) header more
+    (one rest more : List ℕ) (place header : ℕ) (f : Fig) → IsFig one f → LeadsToHeader rest place header more
+    → LeadsToHeader (one ++ rest) (length one + place) header more
 stands_on one rest more place header f is h = record {
   front = one ++ h.front;
   figs = f ∷ h.figs;
@@ -71,7 +71,7 @@ fault_on one rest f (Entry place) is h =
       | inr fault ↦ inr (fig_fault_on one rest place f is fault)
     ]
 
-pub stands_first : (header : ℕ) (rest : List ℕ) → header ≢ 255 → StandsAt (header ∷ rest) 0 header rest
+pub stands_first : (header : ℕ) (rest : List ℕ) → header ≢ 255 → LeadsToHeader (header ∷ rest) 0 header rest
 stands_first header rest no_marker =
     record { front = []; figs = []; split = refl; whole = refl; place_is = refl; no_marker = no_marker }
 
@@ -134,7 +134,7 @@ fig_cases false false true d place h bs e no_marker p q r s found =
     let none : h ≡ 0 = eqb-true h 0 r in (
       Entry 0,
       sym named ∙ ap Entry here,
-      inl (bs, subst (λ (n : ℕ). StandsAt (h ∷ bs) 0 n bs) none (stands_first h bs no_marker)),
+      inl (bs, subst (λ (n : ℕ). LeadsToHeader (h ∷ bs) 0 n bs) none (stands_first h bs no_marker)),
     )
 fig_cases false false false true place h [] e no_marker p q r s found =
     let fits : h % 32 ≤ 0 = ltb-false _ _ p in
@@ -163,7 +163,7 @@ figs_or None n place h bs e no_marker is found more =
       moved (length piece) later.0,
       later.1 ∙ moved_twice (place + 1 + h % 32) place (length piece) later.0 far,
       subst (λ (x : List ℕ). IsDataFault (h ∷ x) (moved (length piece) later.0)) (take-append-drop (h % 32) bs)
-          (fault_on piece (drop (h % 32) bs) (fig_of piece) later.0 one.1 later.2),
+          (fault_on piece (drop (h % 32) bs) (fig_of_bytes piece) later.0 one.1 later.2),
     )
 
 figs_at :
@@ -262,7 +262,7 @@ at_header (suc n) place h rest e no_marker is enough =
     ∙ ap (λ x. or_else x (figs_fault n (place + 1 + h % 32) (drop (h % 32) rest))) is
 
 found_where_it_stands :
-    (bytes : List ℕ) (place h : ℕ) (rest : List ℕ) (e : FibFault) → StandsAt bytes place h rest → fig_fault place h rest ≡ Some e
+    (bytes : List ℕ) (place h : ℕ) (rest : List ℕ) (e : FibFault) → LeadsToHeader bytes place h rest → fig_fault place h rest ≡ Some e
     → figs_fault (length bytes) 0 bytes ≡ Some e
 found_where_it_stands bytes place h rest e stands is =
     let comes = past_figs (length bytes) 0 bytes stands.front (h ∷ rest) stands.figs stands.split stands.whole (omega arith) in
@@ -304,7 +304,7 @@ data_given bytes (Entry place) h =
 
 -- ---- the fault of 32 bytes
 
-by_walk : (bytes : List ℕ) (e : FibFault) → IsChecked bytes → IsDataFault (take 30 bytes) e → IsFault bytes e
+by_walk : (bytes : List ℕ) (e : FibFault) → IsChecked bytes → IsDataFault (take 30 bytes) e → IsFibFault bytes e
 by_walk bytes Crc checked h = absurd h
 by_walk bytes (Overrun place) checked h = (checked, h)
 by_walk bytes (Entry place) checked h = (checked, h)
@@ -315,19 +315,19 @@ from_start (Overrun place) = let same : 0 + place ≡ place = omega arith in ap 
 from_start (Entry place) = let same : 0 + place ≡ place = omega arith in ap Entry same
 
 pub found_is_fault :
-    (bytes : List ℕ) (e : FibFault) → IsChecked bytes → figs_fault (length (take 30 bytes)) 0 (take 30 bytes) ≡ Some e → IsFault bytes e
+    (bytes : List ℕ) (e : FibFault) → IsChecked bytes → figs_fault (length (take 30 bytes)) 0 (take 30 bytes) ≡ Some e → IsFibFault bytes e
 found_is_fault bytes e checked found =
     let one = figs_found (length (take 30 bytes)) 0 (take 30 bytes) e (omega arith) found in
     by_walk bytes e checked (subst (IsDataFault (take 30 bytes)) (sym (one.1 ∙ from_start one.0)) one.2)
 
 fault_is_found :
-    (bytes : List ℕ) (e : FibFault) → IsFault bytes e
+    (bytes : List ℕ) (e : FibFault) → IsFibFault bytes e
     → ((e ≡ Crc) × (IsChecked bytes → ⊥)) ⊎ (IsChecked bytes × (figs_fault (length (take 30 bytes)) 0 (take 30 bytes) ≡ Some e))
 fault_is_found bytes Crc h = inl (refl, h)
 fault_is_found bytes (Overrun place) h = inr (h.0, data_given (take 30 bytes) (Overrun place) h.1)
 fault_is_found bytes (Entry place) h = inr (h.0, data_given (take 30 bytes) (Entry place) h.1)
 
-pub one_fault : (bytes : List ℕ) (one other : FibFault) → IsFault bytes one → IsFault bytes other → one ≡ other
+pub one_fault : (bytes : List ℕ) (one other : FibFault) → IsFibFault bytes one → IsFibFault bytes other → one ≡ other
 one_fault bytes one other p q =
     elim (fault_is_found bytes one p) [
       | inl wrong ↦ elim (fault_is_found bytes other q) [
@@ -340,7 +340,7 @@ one_fault bytes one other p q =
       ]
     ]
 
-pub no_fault : (bytes : List ℕ) (figs : List Fig) (fault : FibFault) → IsFib bytes figs → IsFault bytes fault → ⊥
+pub no_fault : (bytes : List ℕ) (figs : List Fig) (fault : FibFault) → IsFib bytes figs → IsFibFault bytes fault → ⊥
 no_fault bytes figs fault p q =
     elim (fault_is_found bytes fault q) [
       | inl wrong ↦ wrong.1 p.0
@@ -364,12 +364,12 @@ same_or_not (x ∷ xs) (y ∷ ys) = heads (x == y) refl (same_or_not xs ys)
 
 figs_or_fault :
     (bytes : List ℕ) (o : Option FibFault) → IsChecked bytes → figs_fault (length (take 30 bytes)) 0 (take 30 bytes) ≡ o
-    → ((figs : List Fig) × IsFib bytes figs) ⊎ ((fault : FibFault) × IsFault bytes fault)
+    → ((figs : List Fig) × IsFib bytes figs) ⊎ ((fault : FibFault) × IsFibFault bytes fault)
 figs_or_fault bytes None checked is =
-    inl (figs_of (take 30 bytes), (checked, (sound_figs (length (take 30 bytes)) 0 (take 30 bytes) (omega arith) is).1))
+    inl (figs_of_bytes (take 30 bytes), (checked, (sound_figs (length (take 30 bytes)) 0 (take 30 bytes) (omega arith) is).1))
 figs_or_fault bytes (Some e) checked is = inr (e, found_is_fault bytes e checked is)
 
-pub either : (bytes : List ℕ) → ((figs : List Fig) × IsFib bytes figs) ⊎ ((fault : FibFault) × IsFault bytes fault)
+pub either : (bytes : List ℕ) → ((figs : List Fig) × IsFib bytes figs) ⊎ ((fault : FibFault) × IsFibFault bytes fault)
 either bytes =
     elim (same_or_not (bits_of_bytes (drop 30 bytes)) (check_bits (take 30 bytes))) [
       | inl checked ↦ figs_or_fault bytes (figs_fault (length (take 30 bytes)) 0 (take 30 bytes)) checked refl

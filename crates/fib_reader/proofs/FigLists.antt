@@ -10,7 +10,7 @@ use Rattle.fib_reader.specs.FirstFault.{entries_fault, ensemble_fault, body_faul
 use Rattle.fib_reader.specs.declared.fault.FibFault.{FibFault}
 use Rattle.fib_reader.specs.declared.fault.FibFault.TheVariants.{Overrun, Entry}
 use Rattle.fib_reader.specs.Raw.{raw_of}
-use Rattle.fib_reader.specs.Walk.{AreRaw, entries_of, fig_of, IsPiece, pieces_within, pieces_of, figs_of}
+use Rattle.fib_reader.specs.Walk.{AreRaw, entries_of, fig_of_bytes, IsWholeFig, pieces_within, pieces_of, figs_of_bytes}
 use Rattle.fib_reader.proofs.EntryLists.{through, same_entries, sound_entries, complete_entries}
 
 -- ---- one FIG
@@ -36,24 +36,24 @@ and_right false b p = absurd (cc)
 
 fig_of-looked_into :
     (h s : ℕ) (body : List ℕ) → h < 32 → is_open s ≡ true
-    → fig_of (h ∷ s ∷ body) ≡ Open s (entries_of (s % 32) (is_long s) body)
+    → fig_of_bytes (h ∷ s ∷ body) ≡ Open s (entries_of (s % 32) (is_long s) body)
 fig_of-looked_into h s body low is_so =
     taken (nat_lt 1 (length (h ∷ s ∷ body))) (nat_lt h 32) (is_open s) (Open s (entries_of (s % 32) (is_long s) body)) (Other (h ∷ s ∷ body))
     (lt-ltb 1 (length (h ∷ s ∷ body)) (omega arith)) (lt-ltb h 32 low) is_so
 
 fig_of-other :
-    (h s : ℕ) (body : List ℕ) → (nat_lt h 32 && is_open s) ≡ false → fig_of (h ∷ s ∷ body) ≡ Other (h ∷ s ∷ body)
+    (h s : ℕ) (body : List ℕ) → (nat_lt h 32 && is_open s) ≡ false → fig_of_bytes (h ∷ s ∷ body) ≡ Other (h ∷ s ∷ body)
 fig_of-other h s body not_open =
     passed (nat_lt 1 (length (h ∷ s ∷ body))) (nat_lt h 32 && is_open s) (Open s (entries_of (s % 32) (is_long s) body)) (Other (h ∷ s ∷ body)) not_open
 
-same_other : (bytes : List ℕ) → IsOther bytes → fig_of bytes ≡ Other bytes
+same_other : (bytes : List ℕ) → IsOther bytes → fig_of_bytes bytes ≡ Other bytes
 same_other [] h = absurd h
 same_other (b ∷ []) h = refl
 same_other (b ∷ s ∷ body) h = fig_of-other b s body h.2
 
-pub same_fig : (bytes : List ℕ) (f : Fig) → IsFig bytes f → fig_of bytes ≡ f
+pub same_fig : (bytes : List ℕ) (f : Fig) → IsFig bytes f → fig_of_bytes bytes ≡ f
 same_fig bytes (Open second es) h =
-    ap fig_of h.1 ∙ fig_of-looked_into (1 + length h.0) second h.0 (let few = h.2 in omega arith) h.3
+    ap fig_of_bytes h.1 ∙ fig_of-looked_into (1 + length h.0) second h.0 (let few = h.2 in omega arith) h.3
     ∙ ap (Open second) (same_entries (second % 32) (is_long second) h.0 es h.4.0)
 same_fig bytes (Other given) h = same_other bytes h.1 ∙ ap Other (sym h.0)
 
@@ -118,11 +118,11 @@ pieces_at_marker h bs marker =
     ∙ ap (λ t. cond t [] ((h ∷ take (h % 32) bs) ∷ pieces_of (drop (h % 32) bs))) (eq-eqb h 255 marker)
 
 -- the one list of FIGs
-pub same_figs : (bytes : List ℕ) (fs : List Fig) → AreFigs bytes fs → figs_of bytes ≡ fs
+pub same_figs : (bytes : List ℕ) (fs : List Fig) → AreFigs bytes fs → figs_of_bytes bytes ≡ fs
 same_figs bytes [] h =
     elim h [
-      | inl none ↦ ap figs_of none ∙ ap (map fig_of) no_pieces
-      | inr marked ↦ ap figs_of marked.1 ∙ ap (map fig_of) (pieces_at_marker 255 marked.0 refl)
+      | inl none ↦ ap figs_of_bytes none ∙ ap (map fig_of_bytes) no_pieces
+      | inr marked ↦ ap figs_of_bytes marked.1 ∙ ap (map fig_of_bytes) (pieces_at_marker 255 marked.0 refl)
     ]
 same_figs bytes (f ∷ fs) h =
     let front : List ℕ = h.0 in
@@ -133,11 +133,11 @@ same_figs bytes (f ∷ fs) h =
     ap (λ n. take n (at.after ++ rest)) (sym at.len) ∙ take-append_seam at.after rest in
     let left : drop (at.header % 32) (at.after ++ rest) ≡ rest =
     ap (λ n. drop n (at.after ++ rest)) (sym at.len) ∙ drop-append_seam at.after rest in
-    let one : fig_of (at.header ∷ take (at.header % 32) (at.after ++ rest)) ≡ f =
-    ap (λ x. fig_of (at.header ∷ x)) cut ∙ ap fig_of (sym at.split) ∙ same_fig front f h.3 in
-    let more : figs_of (drop (at.header % 32) (at.after ++ rest)) ≡ fs = ap figs_of left ∙ same_figs rest fs h.4 in
-    ap figs_of split ∙ ap (map fig_of) (first_piece at.header (at.after ++ rest) at.no_marker)
-    ∙ ap (λ x. x ∷ figs_of (drop (at.header % 32) (at.after ++ rest))) one ∙ ap (λ x. f ∷ x) more
+    let one : fig_of_bytes (at.header ∷ take (at.header % 32) (at.after ++ rest)) ≡ f =
+    ap (λ x. fig_of_bytes (at.header ∷ x)) cut ∙ ap fig_of_bytes (sym at.split) ∙ same_fig front f h.3 in
+    let more : figs_of_bytes (drop (at.header % 32) (at.after ++ rest)) ≡ fs = ap figs_of_bytes left ∙ same_figs rest fs h.4 in
+    ap figs_of_bytes split ∙ ap (map fig_of_bytes) (first_piece at.header (at.after ++ rest) at.no_marker)
+    ∙ ap (λ x. x ∷ figs_of_bytes (drop (at.header % 32) (at.after ++ rest))) one ∙ ap (λ x. f ∷ x) more
 
 -- ---- without a fault there are FIGs
 
@@ -178,7 +178,7 @@ no_entry_fault : (o : Option ℕ) → entry_at_fault o ≡ None → o ≡ None
 no_entry_fault None h = refl
 no_entry_fault (Some place) h = absurd (cc)
 
-piece_high : (h : ℕ) (after : List ℕ) → h ≢ 255 → length after ≡ h % 32 → 31 < h → IsPiece (h ∷ after)
+piece_high : (h : ℕ) (after : List ℕ) → h ≢ 255 → length after ≡ h % 32 → 31 < h → IsWholeFig (h ∷ after)
 piece_high h [] no_marker len high = (refl, (no_marker, omega arith, sym len))
 piece_high h (s ∷ body) no_marker len high =
     let closed : (nat_lt h 32 && is_open s) ≡ false = and_false (nat_lt h 32) (is_open s) (le-ltb h 32 (omega arith)) in
@@ -186,7 +186,7 @@ piece_high h (s ∷ body) no_marker len high =
 
 piece_low :
     (b : Bool) (place h s : ℕ) (body : List ℕ) → h ≤ 31 → h ≡ 1 + length body → is_open s ≡ b
-    → (b ≡ true → body_fault (s % 32) (is_long s) (place + 2) body ≡ None) → IsPiece (h ∷ s ∷ body)
+    → (b ≡ true → body_fault (s % 32) (is_long s) (place + 2) body ≡ None) → IsWholeFig (h ∷ s ∷ body)
 piece_low true place h s body low len is fine =
     subst (IsFig (h ∷ s ∷ body)) (sym (fig_of-looked_into h s body (omega arith) is))
     (body, ap (λ n. n ∷ s ∷ body) len, omega arith, is, sound_body (s % 32 == 0) (s % 32) (is_long s) (place + 2) body refl (fine refl))
@@ -199,7 +199,7 @@ sound_low :
     → cond (h == 0) (Some (Entry place))
     (cond (is_open (get_or bs 0 0))
     (entry_at_fault (body_fault (get_or bs 0 0 % 32) (is_long (get_or bs 0 0)) (place + 2) (take (h - 1) (drop 1 bs)))) None) ≡ None
-    → IsPiece (h ∷ take (h % 32) bs)
+    → IsWholeFig (h ∷ take (h % 32) bs)
 sound_low place h [] low fits none =
     let some = through (h == 0) (Entry place) _ none in
     absurd (eqb-false h 0 some.0 (omega arith))
@@ -209,13 +209,13 @@ sound_low place h (s ∷ bs) low fits none =
     let len : h % 32 ≡ suc (h - 1) = omega arith in
     let cut : take (h % 32) (s ∷ bs) ≡ s ∷ take (h - 1) bs = ap (λ n. take n (s ∷ bs)) len in
     let size : length (take (h - 1) bs) ≡ h - 1 = length-take-le (h - 1) bs (omega arith) in
-    subst (λ (x : List ℕ). IsPiece (h ∷ x)) (sym cut)
+    subst (λ (x : List ℕ). IsWholeFig (h ∷ x)) (sym cut)
     (piece_low (is_open s) place h s (take (h - 1) bs) low (omega arith) refl
     (λ is. no_entry_fault _
     (sym (ap (λ t. cond t (entry_at_fault (body_fault (s % 32) (is_long s) (place + 2) (take (h - 1) bs))) None) is) ∙ some.1)))
 
 pub sound_fig :
-    (place h : ℕ) (bs : List ℕ) → h ≢ 255 → fig_fault place h bs ≡ None → (h % 32 ≤ length bs) × IsPiece (h ∷ take (h % 32) bs)
+    (place h : ℕ) (bs : List ℕ) → h ≢ 255 → fig_fault place h bs ≡ None → (h % 32 ≤ length bs) × IsWholeFig (h ∷ take (h % 32) bs)
 sound_fig place h bs no_marker none =
     let one = through (nat_lt (length bs) (h % 32)) (Overrun place) _ none in
     let fits : h % 32 ≤ length bs = ltb-false _ _ one.0 in (
@@ -237,28 +237,28 @@ sound_at :
     (b : Bool) (n place h : ℕ) (bs : List ℕ) → (h == 255) ≡ b
     → cond b None (or_else (fig_fault place h bs) (figs_fault n (place + 1 + h % 32) (drop (h % 32) bs))) ≡ None
     → (figs_fault n (place + 1 + h % 32) (drop (h % 32) bs) ≡ None
-    → Each IsPiece (pieces_of (drop (h % 32) bs)) × AreFigs (drop (h % 32) bs) (figs_of (drop (h % 32) bs)))
-    → Each IsPiece (pieces_of (h ∷ bs)) × AreFigs (h ∷ bs) (figs_of (h ∷ bs))
+    → Each IsWholeFig (pieces_of (drop (h % 32) bs)) × AreFigs (drop (h % 32) bs) (figs_of_bytes (drop (h % 32) bs)))
+    → Each IsWholeFig (pieces_of (h ∷ bs)) × AreFigs (h ∷ bs) (figs_of_bytes (h ∷ bs))
 sound_at true n place h bs is none more =
     let marker : h ≡ 255 = eqb-true h 255 is in
-    subst (λ (ps : List (List ℕ)). Each IsPiece ps × AreFigs (h ∷ bs) (map fig_of ps)) (sym (pieces_at_marker h bs marker))
+    subst (λ (ps : List (List ℕ)). Each IsWholeFig ps × AreFigs (h ∷ bs) (map fig_of_bytes ps)) (sym (pieces_at_marker h bs marker))
     (tt, inr (bs, ap (λ x. x ∷ bs) marker))
 sound_at false n place h bs is none more =
     let no_marker : h ≢ 255 = eqb-false h 255 is in
     let both = no_first (fig_fault place h bs) _ none in
     let one = sound_fig place h bs no_marker both.0 in
     let rest = more both.1 in
-    subst (λ (ps : List (List ℕ)). Each IsPiece ps × AreFigs (h ∷ bs) (map fig_of ps)) (sym (first_piece h bs no_marker)) (
+    subst (λ (ps : List (List ℕ)). Each IsWholeFig ps × AreFigs (h ∷ bs) (map fig_of_bytes ps)) (sym (first_piece h bs no_marker)) (
       (one.1, rest.0),
       (h ∷ take (h % 32) bs, drop (h % 32) bs, ap (λ x. h ∷ x) (sym (take-append-drop (h % 32) bs)), one.1, rest.1),
     )
 
 pub sound_figs :
     (n place : ℕ) (bytes : List ℕ) → length bytes ≤ n → figs_fault n place bytes ≡ None
-    → Each IsPiece (pieces_of bytes) × AreFigs bytes (figs_of bytes)
+    → Each IsWholeFig (pieces_of bytes) × AreFigs bytes (figs_of_bytes bytes)
 unfolding figs_fault
 sound_figs n place [] enough none =
-    subst (λ (ps : List (List ℕ)). Each IsPiece ps × AreFigs [] (map fig_of ps)) (sym no_pieces) (tt, inl refl)
+    subst (λ (ps : List (List ℕ)). Each IsWholeFig ps × AreFigs [] (map fig_of_bytes ps)) (sym no_pieces) (tt, inl refl)
 sound_figs zero place (h ∷ bs) enough none = absurd (omega arith)
 sound_figs (suc n) place (h ∷ bs) enough none =
     let fewer : length (drop (h % 32) bs) ≡ length bs - h % 32 = length-drop (h % 32) bs in

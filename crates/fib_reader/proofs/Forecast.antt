@@ -3,12 +3,12 @@ use Rattle.std.proofs.Common.{◌≡◌, ◌≢◌, ℕ, suc, ◌+◌, ◌<◌, 
 use Rattle.std.specs.Prelude.{◌||◌, IfSome}
 use Rattle.std.proofs.lemmas.Bool.{eq-eqb, ne_eqb, eqb-true}
 use Rattle.std.proofs.lemmas.List.{length-map}
-use Rattle.mux_config.specs.Entries.{EnsembleInformation}
+use Rattle.mux_entries.specs.Entries.{EnsembleInformation}
 use Rattle.mux_config.specs.Tables.{with_entry, with_entry_changed, has_entry}
 use Rattle.fib_codec.specs.Grammar.{Fig, Open, Other, is_next}
 use Rattle.fib_codec.specs.declared.head.Head.{Head}
 use Rattle.fib_reader.specs.Raw.{Raw, entries_in, head_in, ensemble_in}
-use Rattle.fib_reader.specs.Listening.{Pictured, Listening, identifier_of, is_known, kept, has_room, pictured, swapped, is_made, awaiting, at_ensemble, into, picture_of, hear_entry, hear_entries, hear_fig, and_then}
+use Rattle.fib_reader.specs.Listening.{Pictured, Listening, identifier_of, is_known, kept, has_room, pictured, swapped, is_made, awaiting, at_ensemble, into, picture_of, hear_entry, hear_entries, hear_fig, where_heard}
 use Rattle.fib_reader.specs.Forecast.{IsKnownTo, HasGrown, HasGrownBy, HasGrownFrom, LeavesRoom}
 use Rattle.fib_reader.proofs.Keeping.{room_for_known, room_for_new}
 
@@ -279,11 +279,11 @@ leaves_if_current old others raw (Some all) other tuned takes = leaves_current o
 
 pub leaves_both :
     (old : Listening) (few some many : ℕ) (one more : Listening → Option Listening) → LeavesRoom old few some one
-    → LeavesRoom old some many more → LeavesRoom old few many (λ l. and_then (one l) more)
+    → LeavesRoom old some many more → LeavesRoom old few many (λ l. where_heard (one l) more)
 leaves_both old few some many one more first second l grown =
     let a = first l grown in
     let b = second a.0 a.2 in
-    (b.0, ap (λ o. and_then o more) a.1 ∙ b.1, b.2)
+    (b.0, ap (λ o. where_heard o more) a.1 ∙ b.1, b.2)
 
 pub leaves_nothing : (old : Listening) (few : ℕ) → LeavesRoom old few few (λ l. Some l)
 leaves_nothing old few l grown = (l, refl, grown)

@@ -11,7 +11,7 @@ AreWhole bytes [] = bytes ≡ []
 AreWhole bytes (f ∷ fs) = (front rest : List ℕ) × (bytes ≡ front ++ rest) × IsFig front f × AreWhole rest fs
 
 -- whole FIGs lead up to the header at this place, which is no end marker; the rest follows it
-pub record StandsAt (bytes : List ℕ) (place header : ℕ) (rest : List ℕ) : Type 0 where
+pub record LeadsToHeader (bytes : List ℕ) (place header : ℕ) (rest : List ℕ) : Type 0 where
   pub front : List ℕ
   pub figs : List Fig
   pub split : bytes ≡ front ++ header ∷ rest
@@ -22,7 +22,7 @@ pub record StandsAt (bytes : List ℕ) (place header : ℕ) (rest : List ℕ) : 
 -- the FIG at this place is longer than the bytes that are left
 abbrev pub IsOverrun : List ℕ → ℕ → Type 0
 IsOverrun bytes place =
-    (header : ℕ) × (rest : List ℕ) × StandsAt bytes place header rest × (length rest < header % 32)
+    (header : ℕ) × (rest : List ℕ) × LeadsToHeader bytes place header rest × (length rest < header % 32)
 
 -- a whole entry; that of FIG 0/0 has a CIF count in range
 abbrev pub IsGood : ℕ → Bool → List ℕ → Type 0
@@ -60,7 +60,7 @@ pub record IsFigFault (bytes : List ℕ) (place : ℕ) : Type 0 where
   pub body : List ℕ
   pub after : List ℕ
   pub within : ℕ
-  pub stands : StandsAt bytes at (1 + length body) (second ∷ body ++ after)
+  pub stands : LeadsToHeader bytes at (1 + length body) (second ∷ body ++ after)
   pub short : length body < 31
   pub looked_into : is_open second ≡ true
   pub fault : IsBodyFault (second % 32) (is_long second) body within
@@ -68,10 +68,10 @@ pub record IsFigFault (bytes : List ℕ) (place : ℕ) : Type 0 where
 
 -- a FIG of type 0 without its second byte stands there, or an entry is at fault
 abbrev pub IsEntryFault : List ℕ → ℕ → Type 0
-IsEntryFault bytes place = ((rest : List ℕ) × StandsAt bytes place 0 rest) ⊎ IsFigFault bytes place
+IsEntryFault bytes place = ((rest : List ℕ) × LeadsToHeader bytes place 0 rest) ⊎ IsFigFault bytes place
 
 -- the CRC comes before all others
-abbrev pub IsFault : List ℕ → FibFault → Type 0
-IsFault bytes Crc = IsChecked bytes → ⊥
-IsFault bytes (Overrun place) = IsChecked bytes × IsOverrun (take 30 bytes) place
-IsFault bytes (Entry place) = IsChecked bytes × IsEntryFault (take 30 bytes) place
+abbrev pub IsFibFault : List ℕ → FibFault → Type 0
+IsFibFault bytes Crc = IsChecked bytes → ⊥
+IsFibFault bytes (Overrun place) = IsChecked bytes × IsOverrun (take 30 bytes) place
+IsFibFault bytes (Entry place) = IsChecked bytes × IsEntryFault (take 30 bytes) place

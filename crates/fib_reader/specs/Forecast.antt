@@ -1,6 +1,6 @@
 -- That FIGs say nothing new, or leave room for what is new, as a pass over them foresees it.
 use Rattle.std.specs.Prelude.{◌≡◌, ℕ, ◌+◌, ◌≤◌, ◌==◌, true, false, List, length, Option, Some}
-use Rattle.mux_config.specs.Entries.{EnsembleInformation}
+use Rattle.mux_entries.specs.Entries.{EnsembleInformation}
 use Rattle.fib_reader.specs.Raw.{Raw}
 use Rattle.fib_reader.specs.Listening.{Pictured, Listening, is_known, is_made}
 

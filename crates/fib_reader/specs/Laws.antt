@@ -1,26 +1,26 @@
 -- Laws of reading.
 use Rattle.std.specs.Prelude.{◌≡◌, ◌≤◌, ℕ, ◌++◌, ◌⊎◌, List, map, flat_map, take, length}
-use Rattle.mux_config.specs.Entries.{EnsembleInformation}
-use Rattle.mux_config.specs.declared.entry.Entry.TheVariants.{Ensemble as EnsembleOf}
+use Rattle.mux_entries.specs.Entries.{EnsembleInformation}
+use Rattle.mux_entries.specs.declared.entry.Entry.TheVariants.{Ensemble as EnsembleOf}
 use Rattle.mux_config.specs.Configuration.{Each}
 use Rattle.fib_codec.specs.Spelling.{Written, IsWritten, figs_bytes, fib_bytes}
 use Rattle.fib_codec.specs.Grammar.{Fig, IsFib, fig_of, fig_spelled}
 use Rattle.fib_codec.specs.Ranges.{IsEnsembleInformation}
 use Rattle.fib_reader.specs.declared.fault.FibFault.{FibFault}
-use Rattle.fib_reader.specs.Faults.{IsFault}
+use Rattle.fib_reader.specs.Faults.{IsFibFault}
 use Rattle.fib_reader.specs.Raw.{raw_entry, ensemble_in}
 
 -- what is a FIB has no fault
 abbrev pub FaultOrFigs : Type 0
-FaultOrFigs = (bytes : List ℕ) (figs : List Fig) (fault : FibFault) → IsFib bytes figs → IsFault bytes fault → ⊥
+FaultOrFigs = (bytes : List ℕ) (figs : List Fig) (fault : FibFault) → IsFib bytes figs → IsFibFault bytes fault → ⊥
 
 -- and what is none has one
 abbrev pub FigsOrFault : Type 0
-FigsOrFault = (bytes : List ℕ) → ((figs : List Fig) × IsFib bytes figs) ⊎ ((fault : FibFault) × IsFault bytes fault)
+FigsOrFault = (bytes : List ℕ) → ((figs : List Fig) × IsFib bytes figs) ⊎ ((fault : FibFault) × IsFibFault bytes fault)
 
 -- and only one
 abbrev pub OneFault : Type 0
-OneFault = (bytes : List ℕ) (one other : FibFault) → IsFault bytes one → IsFault bytes other → one ≡ other
+OneFault = (bytes : List ℕ) (one other : FibFault) → IsFibFault bytes one → IsFibFault bytes other → one ≡ other
 
 -- the FIGs of a FIB, spelled one after another, are the front of its thirty data bytes
 abbrev pub FigsAreTheFront : Type 0
@@ -35,7 +35,7 @@ EnsembleIsHeard = (e : EnsembleInformation) → IsEnsembleInformation e → ense
 abbrev pub WrittenIsGood : Type 0
 WrittenIsGood =
     (figs : List Written) (fault : FibFault) → Each IsWritten figs → length (figs_bytes figs) ≤ 30
-    → IsFault (fib_bytes figs) fault → ⊥
+    → IsFibFault (fib_bytes figs) fault → ⊥
 
 abbrev pub WrittenIsRead : Type 0
 WrittenIsRead =

@@ -7,8 +7,8 @@ pub mod Picture
 pub mod Forecast
 pub mod Laws
 pub use Rattle.mux_config.specs.Configuration
-pub use Rattle.mux_config.specs.Entries
-pub use Rattle.mux_config.specs.Facts
+pub use Rattle.mux_entries.specs.Entries
+pub use Rattle.mux_entries.specs.Facts
 pub use Rattle.mux_config.specs.Tables
 pub use Rattle.mux_config.specs.Edits
 pub use Rattle.fib_codec.specs.Crc

@@ -1,12 +1,12 @@
 -- What a receiver believes of the multiplex after what it has heard: a fold over the FIGs of undamaged FIBs
 -- (EN 300 401 clauses 6.2.1, 6.3.1, 6.3.2, 6.4 and 6.5).
 use Rattle.std.specs.Prelude.{◌≡◌, ℕ, ◌+◌, ◌*◌, ◌/◌, ◌%◌, ◌==◌, ◌||◌, Bool, true, false, if◌then◌else◌, nat_lt, List, [], ◌∷◌, ◌++◌, length, get_or, Option, Some, None, Result, Ok, Err}
-use Rattle.mux_config.specs.Entries.{EnsembleInformation}
+use Rattle.mux_entries.specs.Entries.{EnsembleInformation}
 use Rattle.mux_config.specs.Tables.{with_entry, with_entry_changed, has_entry}
 use Rattle.fib_codec.specs.Grammar.{Fig, Open, Other, IsFib, is_next}
 use Rattle.fib_reader.specs.declared.fault.ListenFault.{ListenFault}
 use Rattle.fib_reader.specs.declared.fault.ListenFault.TheVariants.{Fib, Full}
-use Rattle.fib_reader.specs.Faults.{IsFault}
+use Rattle.fib_reader.specs.Faults.{IsFibFault}
 use Rattle.fib_reader.specs.Raw.{Raw, entries_in, word_at, ensemble_in}
 
 -- the entries heard of one configuration, each list in ascending order of identifiers
@@ -93,14 +93,14 @@ hear_entry next raw l =
     else if l.tuned then into next l (pictured raw (picture_of next l))
     else Some l
 
-abbrev pub and_then : Option Listening → (Listening → Option Listening) → Option Listening
-and_then None more = None
-and_then (Some l) more = more l
+abbrev pub where_heard : Option Listening → (Listening → Option Listening) → Option Listening
+where_heard None more = None
+where_heard (Some l) more = more l
 
 -- in order; None where a picture has no room for an entry
 abbrev pub hear_entries : Bool → List Raw → Listening → Option Listening
 hear_entries next [] l = Some l
-hear_entries next (raw ∷ raws) l = and_then (hear_entry next raw l) (hear_entries next raws)
+hear_entries next (raw ∷ raws) l = where_heard (hear_entry next raw l) (hear_entries next raws)
 
 abbrev pub hear_fig : Fig → Listening → Option Listening
 hear_fig (Open second es) l = hear_entries (is_next second) (entries_in (Open second es)) l
@@ -108,13 +108,13 @@ hear_fig (Other given) l = Some l
 
 abbrev pub hear_figs : List Fig → Listening → Option Listening
 hear_figs [] l = Some l
-hear_figs (f ∷ fs) l = and_then (hear_fig f l) (hear_figs fs)
+hear_figs (f ∷ fs) l = where_heard (hear_fig f l) (hear_figs fs)
 
 -- what the answer says of the 32 bytes, and what the listener then knows: at a fault and without room what it
 -- knew before
 abbrev pub Hears : List ℕ → Listening → Listening → Result (Unit {0}) ListenFault → Type 0
 Hears bytes old new (Ok done) = (figs : List Fig) × IsFib bytes figs × (hear_figs figs old ≡ Some new)
-Hears bytes old new (Err (Fib fault)) = IsFault bytes fault × (new ≡ old)
+Hears bytes old new (Err (Fib fault)) = IsFibFault bytes fault × (new ≡ old)
 Hears bytes old new (Err Full) = ((figs : List Fig) × IsFib bytes figs × (hear_figs figs old ≡ None)) × (new ≡ old)
 
 -- so it is settled by the FIGs alone

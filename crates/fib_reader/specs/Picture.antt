@@ -1,7 +1,7 @@
 -- What holds of every picture.
 use Rattle.std.specs.Prelude.{◌≡◌, ◌<◌, ◌++◌, ◌⊎◌, List, [], ◌∷◌, map}
 use Rattle.mux_config.specs.Configuration.{Configuration, Each}
-use Rattle.mux_config.specs.Facts.{sub_entries, service_entries}
+use Rattle.mux_entries.specs.Facts.{sub_entries, service_entries}
 use Rattle.fib_reader.specs.Raw.{Raw, raw_entry}
 use Rattle.fib_reader.specs.Listening.{Pictured, identifier_of, all_entries}
 

@@ -23,15 +23,15 @@ abbrev pub AreRaw : List Raw → Type 0
 AreRaw raws = Each IsRaw raws
 
 -- the FIG of its bytes
-abbrev pub fig_of : List ℕ → Fig
-fig_of bytes =
+abbrev pub fig_of_bytes : List ℕ → Fig
+fig_of_bytes bytes =
     if nat_lt 1 (length bytes) && (nat_lt (get_or bytes 0 0) 32 && is_open (get_or bytes 1 0))
     then Open (get_or bytes 1 0) (entries_of (get_or bytes 1 0 % 32) (is_long (get_or bytes 1 0)) (drop 2 bytes))
     else Other bytes
 
 -- these are the bytes of a FIG
-abbrev pub IsPiece : List ℕ → Type 0
-IsPiece bytes = IsFig bytes (fig_of bytes)
+abbrev pub IsWholeFig : List ℕ → Type 0
+IsWholeFig bytes = IsFig bytes (fig_of_bytes bytes)
 
 -- the bytes of the FIGs that stand in bytes one after another, up to an end marker; at most `n` of them
 unfoldable pub pieces_within : ℕ → List ℕ → List (List ℕ)
@@ -43,5 +43,5 @@ pieces_within (suc n) (h ∷ bs) =
 abbrev pub pieces_of : List ℕ → List (List ℕ)
 pieces_of bytes = pieces_within (length bytes) bytes
 
-abbrev pub figs_of : List ℕ → List Fig
-figs_of bytes = map fig_of (pieces_of bytes)
+abbrev pub figs_of_bytes : List ℕ → List Fig
+figs_of_bytes bytes = map fig_of_bytes (pieces_of bytes)

@@ -2,7 +2,7 @@
 
 ghost use Rattle.std.specs.Prelude.{◌≡◌, ℕ, ◌+◌, ◌<◌, ◌≤◌, List, length, Ok, IfOk, IfErr};
 ghost use Rattle.fib_codec.specs.Grammar.{Fig, IsFib};
-ghost use Rattle.fib_reader.specs.Faults.{IsFault};
+ghost use Rattle.fib_reader.specs.Faults.{IsFibFault};
 ghost use Rattle.fib_reader.specs.FirstFault.{entries_fault, ensemble_fault, body_fault, fig_fault, figs_fault};
 
 use crate::bytes::{entry_len_of, is_long_of, is_open_of};
@@ -126,7 +126,7 @@ fn figs_fault_of(bytes: &[u8]) -> Option<FibFault>
 pub fn check(bytes: &[u8; 32]) -> Result<Figs<'_>, FibFault>
     ensures figs { IfOk result (λ figs. IsFib bytes.now figs) }
     ensures every { (figs : List Fig) → IsFib bytes.now figs → result ≡ Ok figs }
-    ensures fault { IfErr result (λ fault. IsFault bytes.now fault) }
+    ensures fault { IfErr result (λ fault. IsFibFault bytes.now fault) }
 {
     if !is_checked(bytes) {
         return Err(FibFault::Crc);

@@ -2,7 +2,7 @@
 
 ghost use Rattle.std.specs.Prelude.{◌≡◌, ◌≤◌, ◌%◌, [], ◌∷◌, length, drop, MatchOption, IfSome, IfNone, OnSome};
 ghost use Rattle.fib_codec.specs.Grammar.{Open, Other, is_long};
-ghost use Rattle.fib_reader.specs.Walk.{fig_of, entries_of, pieces_of};
+ghost use Rattle.fib_reader.specs.Walk.{fig_of_bytes, entries_of, pieces_of};
 
 use crate::bytes::{is_long_of, is_open_of};
 use crate::entries::Entries;
@@ -19,13 +19,13 @@ pub struct Fig<'a> {
 
 impl<'a> Model for Fig<'a> {
     ghost use Rattle.fib_codec.specs.Grammar as grammar;
-    ghost use Rattle.fib_reader.specs.Walk.{fig_of, IsPiece};
+    ghost use Rattle.fib_reader.specs.Walk.{fig_of_bytes, IsWholeFig};
 
     ghost Value = { grammar.Fig };
 
-    ghost view = { λ f. fig_of f.bytes.now };
+    ghost view = { λ f. fig_of_bytes f.bytes.now };
 
-    ghost invariant = { λ f. IsPiece f.bytes.now };
+    ghost invariant = { λ f. IsWholeFig f.bytes.now };
 }
 
 impl<'a> Fig<'a> {
@@ -71,10 +71,10 @@ impl<'a> Fig<'a> {
 /// The second byte of a FIG that is looked into; None for another one.
 fn second_of(bytes: &[u8]) -> Option<u8>
     ensures looked_into { IfSome result (λ second.
-        fig_of bytes.now
+        fig_of_bytes bytes.now
         ≡ Open second (entries_of (second % 32) (is_long second) (drop 2 bytes.now))) }
     ensures long_enough { OnSome result (2 ≤ length bytes.now) }
-    ensures other { IfNone result (fig_of bytes.now ≡ Other bytes.now) }
+    ensures other { IfNone result (fig_of_bytes bytes.now ≡ Other bytes.now) }
 {
     if bytes.len() < 2 {
         return None;
@@ -115,13 +115,13 @@ impl<'a> Model for Figs<'a> {
     ghost use Rattle.std.specs.Prelude.{List};
     ghost use Rattle.fib_codec.specs.Grammar as grammar;
     ghost use Rattle.mux_config.specs.Configuration.{Each};
-    ghost use Rattle.fib_reader.specs.Walk.{pieces_of, figs_of, IsPiece};
+    ghost use Rattle.fib_reader.specs.Walk.{pieces_of, figs_of_bytes, IsWholeFig};
 
     ghost Value = { List grammar.Fig };
 
-    ghost view = { λ s. figs_of s.rest.now };
+    ghost view = { λ s. figs_of_bytes s.rest.now };
 
-    ghost invariant = { λ s. Each IsPiece (pieces_of s.rest.now) };
+    ghost invariant = { λ s. Each IsWholeFig (pieces_of s.rest.now) };
 }
 
 impl<'a> Iterator for Figs<'a> {
@@ -143,12 +143,12 @@ impl<'a> Iterator for Figs<'a> {
 impl<'a> Figs<'a> {
     ghost use Rattle.std.specs.Prelude.{◌≡◌};
     ghost use Rattle.mux_config.specs.Configuration.{Each};
-    ghost use Rattle.fib_reader.specs.Walk.{pieces_of, figs_of, IsPiece};
+    ghost use Rattle.fib_reader.specs.Walk.{pieces_of, figs_of_bytes, IsWholeFig};
 
     /// The FIGs of data bytes without a fault.
     pub(crate) fn of(bytes: &'a [u8]) -> Self
-        requires { Each IsPiece (pieces_of bytes.now) }
-        ensures { result ≡ figs_of bytes.now }
+        requires { Each IsWholeFig (pieces_of bytes.now) }
+        ensures { result ≡ figs_of_bytes bytes.now }
     {
         Figs { rest: bytes }
     }

@@ -2,13 +2,13 @@
 
 ghost use Rattle.std.specs.Prelude.{◌≡◌, ◌≤◌, Bool, IfSome, IfNone, List, map, length};
 ghost use Rattle.mux_config.specs.Configuration.{Each, IsAscending, IsPlaced, IsService, IsAddressed, AreDifferent, IsComponent};
-ghost use Rattle.mux_config.specs.Facts.{sub_entry, service_entry, packet_entry, component_entry, component_entries};
+ghost use Rattle.mux_entries.specs.Facts.{sub_entry, service_entry, packet_entry, component_entry, component_entries};
 ghost use Rattle.fib_codec.specs.Ranges.{IsSubEntry, IsServiceEntry, IsPacketEntry, IsComponentEntry};
 ghost use Rattle.mux_types.specs.declared.parts.Sub.{Sub};
 ghost use Rattle.mux_types.specs.declared.parts.Service.{Service};
 ghost use Rattle.mux_types.specs.declared.parts.Packet.{Packet};
 ghost use Rattle.mux_types.specs.declared.parts.Component.{Component};
-ghost use Rattle.mux_config.specs.declared.entry.Entry.TheVariants.{Sub as SubOf, Service as ServiceOf, Packet as PacketOf};
+ghost use Rattle.mux_entries.specs.declared.entry.Entry.TheVariants.{Sub as SubOf, Service as ServiceOf, Packet as PacketOf};
 
 use mux_config::{
     BoundedVec, Component, ComponentEntry, Entry, Packet, PacketEntry, Service, ServiceEntry, Sub,

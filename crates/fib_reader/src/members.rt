@@ -12,7 +12,7 @@ use mux_config::{Entry, Keyed, Packet, Service, SortedTable, Sub};
 /// A member of a configuration that an entry can say: a sub-channel, a service or a packet component.
 pub(crate) trait FromEntry: Keyed {
     ghost use Rattle.std.specs.Prelude.{◌≡◌, IfSome, IfNone};
-    ghost use Rattle.mux_config.specs.declared.entry.Entry.{Entry};
+    ghost use Rattle.mux_entries.specs.declared.entry.Entry.{Entry};
     ghost use Rattle.fib_codec.specs.Ranges.{IsWithin};
     ghost use Rattle.fib_reader.specs.Raw.{raw_entry};
     ghost use Rattle.fib_reader.specs.Listening.{identifier_of};
@@ -40,7 +40,7 @@ pub(crate) trait FromEntry: Keyed {
 
 impl FromEntry for Sub {
     ghost use Rattle.mux_config.specs.Configuration.{IsPlaced};
-    ghost use Rattle.mux_config.specs.Facts.{sub_entry};
+    ghost use Rattle.mux_entries.specs.Facts.{sub_entry};
 
     ghost entry_of = { sub_entry };
 
@@ -58,7 +58,7 @@ impl FromEntry for Sub {
 
 impl FromEntry for Service {
     ghost use Rattle.mux_config.specs.Configuration.{IsService};
-    ghost use Rattle.mux_config.specs.Facts.{service_entry};
+    ghost use Rattle.mux_entries.specs.Facts.{service_entry};
 
     ghost entry_of = { service_entry };
 
@@ -76,7 +76,7 @@ impl FromEntry for Service {
 
 impl FromEntry for Packet {
     ghost use Rattle.mux_config.specs.Configuration.{IsAddressed};
-    ghost use Rattle.mux_config.specs.Facts.{packet_entry};
+    ghost use Rattle.mux_entries.specs.Facts.{packet_entry};
 
     ghost entry_of = { packet_entry };
 

@@ -6,7 +6,7 @@ use Rattle.fib_reader.specs.Listening.{Listening, hear_figs}
 use Rattle.listings.specs.declared.listen.StreamFault.{StreamFault}
 use Rattle.listings.specs.declared.listen.StreamFault.TheVariants.{NotWhole, Full}
 use Rattle.listings.specs.declared.listen.Heard.{Heard}
-use Rattle.listings.specs.Stream.{HearsAll, HearsStream}
+use Rattle.listings.specs.Stream.{HearsTheStream, HearsStream}
 
 some_of : (l m : Listening) → Some l ≡ Some m → l ≡ m
 some_of l m e = cc
@@ -21,11 +21,11 @@ heard_once ones fib now l m f g to also same = some_of l m (sym to ∙ ap (λ (x
 not_full : (now l : Listening) (f g : List Fig) → hear_figs f now ≡ Some l → hear_figs g now ≡ None → f ≡ g → ⊥
 not_full now l f g to also same = none_of l (sym to ∙ ap (λ (x : List Fig). hear_figs x now) same ∙ also)
 
-pub all_one : OneList → FaultOrFigs → (fibs : List (List ℕ)) (damaged : ℕ) (now : Listening) (one other : Result Heard StreamFault) → HearsAll fibs damaged now one → HearsAll fibs damaged now other → one ≡ other
+pub all_one : OneList → FaultOrFigs → (fibs : List (List ℕ)) (damaged : ℕ) (now : Listening) (one other : Result Heard StreamFault) → HearsTheStream fibs damaged now one → HearsTheStream fibs damaged now other → one ≡ other
 all_one ones apart [] damaged now one other h k = h ∙ sym k
 all_one ones apart (fib ∷ fibs) damaged now one other (inl (l, (f, is, to), rest)) (inl (m, (g, also, comes), more)) =
     let same = heard_once ones fib now l m f g to comes (ones fib f g is also) in
-    all_one ones apart fibs damaged m one other (subst (λ (x : Listening). HearsAll fibs damaged x one) same rest) more
+    all_one ones apart fibs damaged m one other (subst (λ (x : Listening). HearsTheStream fibs damaged x one) same rest) more
 all_one ones apart (fib ∷ fibs) damaged now one other (inl (l, (f, is, to), rest)) (inr (inl (fault, (wrong, stays), more))) =
     absurd (apart fib f fault is wrong)
 all_one ones apart (fib ∷ fibs) damaged now one other (inl (l, (f, is, to), rest)) (inr (inr (((g, also, none), stays), ends))) =

@@ -1,7 +1,7 @@
 -- One frame of the configuration that a record holds, or the first fault that is met.
 use Rattle.std.specs.Prelude.{ℕ, ◌%◌, ◌==◌, nat_lt, if◌then◌else◌, List, length, Option, Some, None, Result, Ok, Err}
 use Rattle.mux_config.specs.Configuration.{Configuration}
-use Rattle.mux_config.specs.Entries.{EnsembleInformation}
+use Rattle.mux_entries.specs.Entries.{EnsembleInformation}
 use Rattle.mux_config.specs.FieldReading.{Reads}
 use Rattle.mux_config.specs.Reading.{config_at}
 use Rattle.mux_config.specs.Sound.{sound_or_fault}
@@ -22,15 +22,15 @@ page_or_fault mode ensemble page c =
     if nat_lt page (rounds mode (page_set c None)) then Ok (page_bytes mode (sent mode ensemble) page (page_set c None))
     else Err NoSuchPage
 
-abbrev pub judged : Result (Unit {0}) ConfigFault → Result (List ℕ) FrameFault → Result (List ℕ) FrameFault
-judged (Err fault) page = Err (Unsound fault)
-judged (Ok sound) page = page
+abbrev pub frame_or_fault : Result (Unit {0}) ConfigFault → Result (List ℕ) FrameFault → Result (List ℕ) FrameFault
+frame_or_fault (Err fault) page = Err (Unsound fault)
+frame_or_fault (Ok sound) page = page
 
 abbrev pub frame_of_read : Mode → EnsembleInformation → ℕ → Reads Configuration → Result (List ℕ) FrameFault
 frame_of_read mode ensemble page (Err fault) = Err (Record fault)
 frame_of_read mode ensemble page (Ok (c, rest)) =
     if nat_lt 0 (length rest) then Err Trailing
-    else judged (sound_or_fault c) (page_or_fault mode ensemble page c)
+    else frame_or_fault (sound_or_fault c) (page_or_fault mode ensemble page c)
 
 -- the bytes of a page of the configuration in the record, or the first fault: of the record, bytes after it, of
 -- the configuration, of the page

@@ -4,14 +4,14 @@ use Rattle.std.specs.List.{flat_map}
 use Rattle.std.specs.Fmt.{decimal}
 use Rattle.mux_types.specs.declared.numbers.Sid.{Sid}
 use Rattle.mux_types.specs.declared.numbers.Sid.TheVariants.{Short as ShortSid, Long as LongSid}
-use Rattle.mux_config.specs.declared.entry.Entry.{Entry}
-use Rattle.mux_config.specs.declared.entry.Entry.TheVariants.{Ensemble, Sub, Short, Service, Packet}
-use Rattle.mux_config.specs.declared.entry.SubEntry.{SubEntry}
-use Rattle.mux_config.specs.declared.entry.ShortEntry.{ShortEntry}
-use Rattle.mux_config.specs.declared.entry.ComponentEntry.{ComponentEntry}
-use Rattle.mux_config.specs.declared.entry.ComponentEntry.TheVariants.{Sound, Stream, Other, Packet as InPackets}
-use Rattle.mux_config.specs.declared.entry.ServiceEntry.{ServiceEntry}
-use Rattle.mux_config.specs.declared.entry.PacketEntry.{PacketEntry}
+use Rattle.mux_entries.specs.declared.entry.Entry.{Entry}
+use Rattle.mux_entries.specs.declared.entry.Entry.TheVariants.{Ensemble, Sub, Short, Service, Packet}
+use Rattle.mux_entries.specs.declared.entry.SubEntry.{SubEntry}
+use Rattle.mux_entries.specs.declared.entry.ShortEntry.{ShortEntry}
+use Rattle.mux_entries.specs.declared.entry.ComponentEntry.{ComponentEntry}
+use Rattle.mux_entries.specs.declared.entry.ComponentEntry.TheVariants.{Sound, Stream, Other, Packet as InPackets}
+use Rattle.mux_entries.specs.declared.entry.ServiceEntry.{ServiceEntry}
+use Rattle.mux_entries.specs.declared.entry.PacketEntry.{PacketEntry}
 use Rattle.console.specs.Digits.{digits_of_word, digits_of_long}
 
 -- options 0 and 1 are the sets A and B; the level is sent one less
@@ -27,14 +27,14 @@ sub_line s =
     codes "sub " ++ decimal s.id ++ codes " at " ++ decimal s.start ++ codes " size " ++ decimal s.size
     ++ codes " " ++ protection_text s.option s.level
 
-abbrev pub bit_of : Bool → ℕ
-bit_of flag = if flag then 1 else 0
+abbrev pub flag_digit : Bool → ℕ
+flag_digit flag = if flag then 1 else 0
 
 -- a sub-channel in the short form
 abbrev pub short_line : ShortEntry → List ℕ
 short_line s =
     codes "sub " ++ decimal s.id ++ codes " at " ++ decimal s.start
-    ++ codes " switch " ++ decimal (bit_of s.switch) ++ codes " table " ++ decimal s.table ++ codes "\n"
+    ++ codes " switch " ++ decimal (flag_digit s.switch) ++ codes " table " ++ decimal s.table ++ codes "\n"
 
 -- P/S
 abbrev pub place_word : Bool → List ℕ
@@ -59,12 +59,12 @@ abbrev pub service_lines : ServiceEntry → List ℕ
 service_lines s = codes "service " ++ sid_digits s.sid ++ codes "\n" ++ flat_map component_line s.components
 
 -- DG
-abbrev pub groups_word : Bool → List ℕ
-groups_word dg = if dg then codes "raw" else codes "groups"
+abbrev pub transport_word : Bool → List ℕ
+transport_word dg = if dg then codes "raw" else codes "groups"
 
 -- what a packet component is, and where its packets are
 abbrev pub groups_text : PacketEntry → List ℕ
-groups_text p = codes "packet " ++ decimal p.scid ++ codes " " ++ groups_word p.dg ++ codes " type " ++ decimal p.ty
+groups_text p = codes "packet " ++ decimal p.scid ++ codes " " ++ transport_word p.dg ++ codes " type " ++ decimal p.ty
 
 abbrev pub address_text : PacketEntry → List ℕ
 address_text p = codes " sub " ++ decimal p.sub ++ codes " address " ++ decimal p.address ++ codes "\n"

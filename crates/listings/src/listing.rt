@@ -6,7 +6,7 @@ ghost use Rattle.std.specs.Prelude.{◌≡◌, ◌++◌, OnOk, codes};
 ghost use Rattle.std.specs.Fmt.{decimal};
 ghost use Rattle.std.specs.Io.KnownBytes.{Appends};
 ghost use Rattle.console.specs.Digits.{digits_of_word};
-ghost use Rattle.listings.specs.Lines.{entry_lines, sub_line, short_line, place_word, component_line, sid_digits, service_lines, groups_word, groups_text, address_text, packet_line};
+ghost use Rattle.listings.specs.Lines.{entry_lines, sub_line, short_line, place_word, component_line, sid_digits, service_lines, transport_word, groups_text, address_text, packet_line};
 
 use console::hexadecimal::digits_of_word;
 use mux_config::{
@@ -153,7 +153,7 @@ fn place_word(primary: bool) -> &'static str
 
 /// The word for a DG flag.
 fn groups_word(dg: bool) -> &'static str
-    ensures { result.now ≡ groups_word dg }
+    ensures { result.now ≡ transport_word dg }
 {
     if dg { "raw" } else { "groups" }
 }

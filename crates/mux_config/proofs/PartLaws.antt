@@ -20,8 +20,8 @@ use Rattle.mux_types.specs.declared.parts.Packet.{Packet}
 use Rattle.byte_fields.specs.declared.record.RecordFault.TheVariants.{Order}
 use Rattle.mux_types.specs.Configuration.{Each, IsPlaced, IsComponent, IsService, IsAddressed, AreDifferent, carrier_of, component_limit, sid_key}
 use Rattle.mux_types.specs.Sameness.{is_same_carrier, names}
-use Rattle.byte_fields.specs.FieldSpelling.{word_bytes, protection_bytes, sid_bytes, component_bytes, flag_byte}
-use Rattle.mux_config.specs.Spelling.{sub_bytes, service_bytes, packet_bytes}
+use Rattle.byte_fields.specs.FieldSpelling.{word_bytes, protection_bytes, sid_field, component_bytes, flag_byte}
+use Rattle.mux_config.specs.Spelling.{sub_record, service_record, packet_record}
 use Rattle.byte_fields.specs.FieldReading.{place, byte_within, word_within, number_at, flag_at, protection_at, sid_at, component_at}
 use Rattle.mux_config.specs.Reading.{size_or_field, read_sub, components_at, read_service, read_packet}
 use Rattle.mux_types.proofs.Tables.{each_pushed}
@@ -78,7 +78,7 @@ rate_small B level kbits h =
 -- ---- sub-channels
 
 abbrev pub IsSubRead : (low : ℕ) (bytes : List ℕ) → Sub × List ℕ → Type 0
-IsSubRead low bytes x = Front bytes (sub_bytes x.0) x.1 × (low ≤ x.0.id) × IsPlaced x.0
+IsSubRead low bytes x = Front bytes (sub_record x.0) x.1 × (low ≤ x.0.id) × IsPlaced x.0
 
 pub sub_front : (total low : ℕ) (bytes : List ℕ) (x : Sub × List ℕ) → IsBytes bytes → read_sub total low bytes ≡ Ok x → IsSubRead low bytes x
 unfolding read_sub
@@ -106,7 +106,7 @@ sub_front total low bytes x fits e =
       record { named = omega (arith, fa.2); from_one = fp.1; to_four = fp.2; sized = s.1; ends = omega (arith, ends, s.0) },
     )
 
-pub sub_again : (total low : ℕ) (s : Sub) (rest : List ℕ) → IsPlaced s → low ≤ s.id → read_sub total low (sub_bytes s ++ rest) ≡ Ok (s, rest)
+pub sub_again : (total low : ℕ) (s : Sub) (rest : List ℕ) → IsPlaced s → low ≤ s.id → read_sub total low (sub_record s ++ rest) ≡ Ok (s, rest)
 unfolding read_sub
 sub_again total low s rest h up =
     let small : s.kbits < 65536 = rate_small s.protection.set s.protection.level s.kbits h.sized.within in
@@ -198,7 +198,7 @@ components_again total before (c ∷ cs) rest different within =
 -- ---- services
 
 abbrev pub IsServiceRead : (low : ℕ) (bytes : List ℕ) → Service × List ℕ → Type 0
-IsServiceRead low bytes x = Front bytes (service_bytes x.0) x.1 × (low ≤ sid_key x.0.sid) × IsService x.0
+IsServiceRead low bytes x = Front bytes (service_record x.0) x.1 × (low ≤ sid_key x.0.sid) × IsService x.0
 
 pub service_front : (total low : ℕ) (bytes : List ℕ) (x : Service × List ℕ) → IsBytes bytes → read_service total low bytes ≡ Ok x → IsServiceRead low bytes x
 unfolding read_service
@@ -214,16 +214,16 @@ service_front total low bytes x fits e =
     let count : length m.0.0 ≡ n.0.0 = omega (arith, fm.3) in
     let text : List ℕ = flat_map component_bytes m.0.0 in
     let both = front_then a.0.1 (n.0.0 ∷ []) n.0.1 fm.0 m.0.1 fn.0 fm.1 in
-    let whole = front_then bytes (sid_bytes a.0.0) a.0.1 (n.0.0 ∷ fm.0) m.0.1 fa.0 both in
+    let whole = front_then bytes (sid_field a.0.0) a.0.1 (n.0.0 ∷ fm.0) m.0.1 fa.0 both in
     let made : Service × List ℕ = (record { sid = a.0.0; components = m.0.0 }, m.0.1) in
     subst (IsServiceRead low bytes) (ok_is made x m.2)
     (rw (count, fm.2) whole, up, record { named = fa.1; within = fm.5; carriers = fm.4; few = omega (arith, count, fn.2) })
 
-pub service_again : (total low : ℕ) (s : Service) (rest : List ℕ) → IsService s → low ≤ sid_key s.sid → read_service total low (service_bytes s ++ rest) ≡ Ok (s, rest)
+pub service_again : (total low : ℕ) (s : Service) (rest : List ℕ) → IsService s → low ≤ sid_key s.sid → read_service total low (service_record s ++ rest) ≡ Ok (s, rest)
 unfolding read_service
 service_again total low s rest h up =
     let ordered : ltb (sid_key s.sid) low ≡ false = le-ltb _ _ up in
-    let regrouped : service_bytes s ++ rest ≡ sid_bytes s.sid ++ (length s.components ∷ (flat_map component_bytes s.components ++ rest)) = append_assoc (sid_bytes s.sid) (length s.components ∷ flat_map component_bytes s.components) rest in
+    let regrouped : service_record s ++ rest ≡ sid_field s.sid ++ (length s.components ∷ (flat_map component_bytes s.components ++ rest)) = append_assoc (sid_field s.sid) (length s.components ∷ flat_map component_bytes s.components) rest in
     ap (read_service total low) regrouped
     ∙ rw (
       sid_again total s.sid (length s.components ∷ (flat_map component_bytes s.components ++ rest)) h.named,
@@ -235,7 +235,7 @@ service_again total low s rest h up =
 -- ---- packet components
 
 abbrev pub IsPacketRead : (low : ℕ) (bytes : List ℕ) → Packet × List ℕ → Type 0
-IsPacketRead low bytes x = Front bytes (packet_bytes x.0) x.1 × (low ≤ x.0.scid) × IsAddressed x.0
+IsPacketRead low bytes x = Front bytes (packet_record x.0) x.1 × (low ≤ x.0.scid) × IsAddressed x.0
 
 pub packet_front : (total low : ℕ) (bytes : List ℕ) (x : Packet × List ℕ) → IsBytes bytes → read_packet total low bytes ≡ Ok x → IsPacketRead low bytes x
 unfolding read_packet
@@ -262,7 +262,7 @@ packet_front total low bytes x fits e =
       record { named = omega (arith, fa.2); typed = omega (arith, ft.2); carried = omega (arith, fs.2); from_one = fw.1; to_last = fw.2 },
     )
 
-pub packet_again : (total low : ℕ) (p : Packet) (rest : List ℕ) → IsAddressed p → low ≤ p.scid → read_packet total low (packet_bytes p ++ rest) ≡ Ok (p, rest)
+pub packet_again : (total low : ℕ) (p : Packet) (rest : List ℕ) → IsAddressed p → low ≤ p.scid → read_packet total low (packet_record p ++ rest) ≡ Ok (p, rest)
 unfolding read_packet
 packet_again total low p rest h up =
     let ordered : ltb p.scid low ≡ false = le-ltb _ _ up in

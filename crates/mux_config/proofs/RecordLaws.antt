@@ -5,7 +5,7 @@ use Rattle.std.specs.List.{flat_map}
 use Rattle.std.proofs.lemmas.List.{append-nil, length-append, drop_at}
 use Rattle.byte_fields.specs.declared.record.RecordFault.{RecordFault}
 use Rattle.mux_types.specs.Configuration.{Configuration, Each, IsAscending, IsPlaced, IsService, IsAddressed, IsConfiguration, sub_key, service_key, packet_key}
-use Rattle.mux_config.specs.Spelling.{sub_bytes, service_bytes, packet_bytes, config_bytes}
+use Rattle.mux_config.specs.Spelling.{sub_record, service_record, packet_record, config_bytes}
 use Rattle.byte_fields.specs.FieldReading.{Reads, byte_within}
 use Rattle.mux_config.specs.Reading.{read_sub, read_service, read_packet, members_at, record_at, config_at}
 use Rattle.mux_types.proofs.Tables.{each_weaker, each_pushed, ascends_pushed}
@@ -82,9 +82,9 @@ record_front total bytes x fits e =
     let fa = byte_within_front total 0 64 bytes a.0 fits a.1 in
     let fb = byte_within_front total 0 64 a.0.1 b.0 fa.0.rest_fits b.1 in
     let fc = byte_within_front total 0 64 b.0.1 c.0 fb.0.rest_fits c.1 in
-    let fs = members_front sub_key sub_bytes IsPlaced (read_sub total) (sub_front total) 0 [] a.0.0 c.0.1 s.0 fc.0.rest_fits tt tt tt s.1 in
-    let fv = members_front service_key service_bytes IsService (read_service total) (service_front total) 0 [] b.0.0 s.0.1 v.0 fs.1.rest_fits tt tt tt v.1 in
-    let fp = members_front packet_key packet_bytes IsAddressed (read_packet total) (packet_front total) 0 [] c.0.0 v.0.1 p.0 fv.1.rest_fits tt tt tt p.1 in
+    let fs = members_front sub_key sub_record IsPlaced (read_sub total) (sub_front total) 0 [] a.0.0 c.0.1 s.0 fc.0.rest_fits tt tt tt s.1 in
+    let fv = members_front service_key service_record IsService (read_service total) (service_front total) 0 [] b.0.0 s.0.1 v.0 fs.1.rest_fits tt tt tt v.1 in
+    let fp = members_front packet_key packet_record IsAddressed (read_packet total) (packet_front total) 0 [] c.0.0 v.0.1 p.0 fv.1.rest_fits tt tt tt p.1 in
     let subs_count : length s.0.0 ≡ a.0.0 = omega (arith, fs.3) in
     let services_count : length v.0.0 ≡ b.0.0 = omega (arith, fv.3) in
     let packets_count : length p.0.0 ≡ c.0.0 = omega (arith, fp.3) in
@@ -110,9 +110,9 @@ record_front total bytes x fits e =
 pub record_again : (total : ℕ) (c : Configuration) (rest : List ℕ) → IsConfiguration c → record_at total (config_bytes c ++ rest) ≡ Ok (c, rest)
 unfolding record_at
 record_again total c rest h =
-    let subs = flat_map sub_bytes c.subs in
-    let services = flat_map service_bytes c.services in
-    let packets = flat_map packet_bytes c.packets in
+    let subs = flat_map sub_record c.subs in
+    let services = flat_map service_record c.services in
+    let packets = flat_map packet_record c.packets in
     let regrouped : subs ++ services ++ packets ++ rest ≡ subs ++ (services ++ (packets ++ rest)) =
     append_assoc (subs ++ services) packets rest ∙ append_assoc subs services (packets ++ rest) in
     let counts : List ℕ = length c.subs ∷ length c.services ∷ length c.packets ∷ [] in
@@ -121,9 +121,9 @@ record_again total c rest h =
       byte_within_again total 0 64 (length c.subs) (length c.services ∷ length c.packets ∷ (subs ++ (services ++ (packets ++ rest)))) (omega arith) h.subs_few,
       byte_within_again total 0 64 (length c.services) (length c.packets ∷ (subs ++ (services ++ (packets ++ rest)))) (omega arith) h.services_few,
       byte_within_again total 0 64 (length c.packets) (subs ++ (services ++ (packets ++ rest))) (omega arith) h.packets_few,
-      members_again sub_key sub_bytes IsPlaced (read_sub total) (sub_again total) 0 [] c.subs (services ++ (packets ++ rest)) h.subs_ascend (any_low sub_key c.subs) h.subs_placed,
-      members_again service_key service_bytes IsService (read_service total) (service_again total) 0 [] c.services (packets ++ rest) h.services_ascend (any_low service_key c.services) h.services_formed,
-      members_again packet_key packet_bytes IsAddressed (read_packet total) (packet_again total) 0 [] c.packets rest h.packets_ascend (any_low packet_key c.packets) h.packets_addressed,
+      members_again sub_key sub_record IsPlaced (read_sub total) (sub_again total) 0 [] c.subs (services ++ (packets ++ rest)) h.subs_ascend (any_low sub_key c.subs) h.subs_placed,
+      members_again service_key service_record IsService (read_service total) (service_again total) 0 [] c.services (packets ++ rest) h.services_ascend (any_low service_key c.services) h.services_formed,
+      members_again packet_key packet_record IsAddressed (read_packet total) (packet_again total) 0 [] c.packets rest h.packets_ascend (any_low packet_key c.packets) h.packets_addressed,
     ) refl
 
 -- ---- what a call answers

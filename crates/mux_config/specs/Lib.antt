@@ -1,7 +1,5 @@
 pub mod Change
 pub mod Edits
-pub mod Entries
-pub mod Facts
 pub mod Reading
 pub mod RecordFaults
 pub mod Sound
@@ -14,3 +12,5 @@ pub use Rattle.mux_types.specs.Sets
 pub use Rattle.mux_types.specs.Tables
 pub use Rattle.byte_fields.specs.FieldReading
 pub use Rattle.byte_fields.specs.FieldSpelling
+pub use Rattle.mux_entries.specs.Entries
+pub use Rattle.mux_entries.specs.Facts

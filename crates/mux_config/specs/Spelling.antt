@@ -6,21 +6,21 @@ use Rattle.mux_types.specs.declared.parts.Sub.{Sub}
 use Rattle.mux_types.specs.declared.parts.Service.{Service}
 use Rattle.mux_types.specs.declared.parts.Packet.{Packet}
 use Rattle.mux_types.specs.Configuration.{Configuration}
-use Rattle.byte_fields.specs.FieldSpelling.{word_bytes, flag_byte, protection_bytes, sid_bytes, component_bytes}
+use Rattle.byte_fields.specs.FieldSpelling.{word_bytes, flag_byte, protection_bytes, sid_field, component_bytes}
 
-abbrev pub sub_bytes : Sub → List ℕ
-sub_bytes s = s.id ∷ word_bytes s.start ++ protection_bytes s.protection ++ word_bytes s.kbits
+abbrev pub sub_record : Sub → List ℕ
+sub_record s = s.id ∷ word_bytes s.start ++ protection_bytes s.protection ++ word_bytes s.kbits
 
-abbrev pub service_bytes : Service → List ℕ
-service_bytes s = sid_bytes s.sid ++ length s.components ∷ flat_map component_bytes s.components
+abbrev pub service_record : Service → List ℕ
+service_record s = sid_field s.sid ++ length s.components ∷ flat_map component_bytes s.components
 
-abbrev pub packet_bytes : Packet → List ℕ
-packet_bytes p = word_bytes p.scid ++ flag_byte p.dg ∷ p.ty ∷ p.sub ∷ word_bytes p.address
+abbrev pub packet_record : Packet → List ℕ
+packet_record p = word_bytes p.scid ++ flag_byte p.dg ∷ p.ty ∷ p.sub ∷ word_bytes p.address
 
 -- the three numbers of members, and then the members
 abbrev pub config_bytes : Configuration → List ℕ
 config_bytes c =
     length c.subs ∷ length c.services ∷ length c.packets ∷ []
-    ++ flat_map sub_bytes c.subs
-    ++ flat_map service_bytes c.services
-    ++ flat_map packet_bytes c.packets
+    ++ flat_map sub_record c.subs
+    ++ flat_map service_record c.services
+    ++ flat_map packet_record c.packets

@@ -2,7 +2,7 @@
 
 ghost use Rattle.mux_config.specs.Change.{ChangeTells};
 ghost use Rattle.mux_config.specs.Edits.{EditsKeep, RefusalsChangeNothing};
-ghost use Rattle.mux_config.specs.Facts.{FactsTell, FactSetsTell};
+ghost use Rattle.mux_entries.specs.Facts.{FactsTell, FactSetsTell};
 ghost use Rattle.mux_config.specs.SoundFaults.{FaultsTell};
 ghost use Rattle.mux_config.specs.RecordFaults.{CutsAreShort, FaultsStay, FaultsAreFirst, ShortBeforePlaces};
 

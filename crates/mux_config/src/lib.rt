@@ -9,7 +9,6 @@ mod apply;
 pub mod config;
 pub mod edit;
 mod edits;
-pub mod entry;
 pub mod fault;
 pub mod flags;
 pub mod laws;
@@ -23,9 +22,11 @@ pub mod store;
 pub use byte_fields::{Reader, RecordFault};
 pub use config::Config;
 pub use edit::{Edit, NewSub, StartAddress};
-pub use entry::{ComponentEntry, Ensemble, Entry, PacketEntry, ServiceEntry, ShortEntry, SubEntry};
 pub use fault::{ConfigFault, EditFault};
 pub use flags::Change;
+pub use mux_entries::{
+    ComponentEntry, Ensemble, Entry, PacketEntry, ServiceEntry, ShortEntry, SubEntry, entry,
+};
 pub use mux_types::{
     Bits, BoundedVec, Carrier, Component, Keyed, Packet, ScId, ScTy, Service, Sid, SortedTable,
     Sub, SubId,

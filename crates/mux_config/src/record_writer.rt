@@ -3,8 +3,8 @@
 ghost use Rattle.std.specs.Prelude.{◌≡◌, ℕ, ◌++◌, ◌∷◌, [], List, length, Ok, OnOk, IfOk};
 ghost use Rattle.std.specs.List.{flat_map};
 ghost use Rattle.mux_types.specs.Configuration.{IsConfiguration};
-ghost use Rattle.byte_fields.specs.FieldSpelling.{word_bytes, flag_byte, protection_bytes, sid_bytes, component_bytes};
-ghost use Rattle.mux_config.specs.Spelling.{sub_bytes, service_bytes, packet_bytes, config_bytes};
+ghost use Rattle.byte_fields.specs.FieldSpelling.{word_bytes, flag_byte, protection_bytes, sid_field, component_bytes};
+ghost use Rattle.mux_config.specs.Spelling.{sub_record, service_record, packet_record, config_bytes};
 ghost use Rattle.mux_config.specs.Reading.{config_at};
 
 use crate::config::Config;
@@ -24,7 +24,7 @@ trait Spelled {
 }
 
 impl Spelled for Sub {
-    ghost text = { sub_bytes };
+    ghost text = { sub_record };
 
     fn put(&self, out: &mut Vec<u8>) -> Result<(), AllocError> {
         out.push(self.id.get())?;
@@ -43,7 +43,7 @@ impl Spelled for Component {
 }
 
 impl Spelled for Service {
-    ghost text = { service_bytes };
+    ghost text = { service_record };
 
     fn put(&self, out: &mut Vec<u8>) -> Result<(), AllocError> {
         put_sid(out, self.sid)?;
@@ -53,7 +53,7 @@ impl Spelled for Service {
 }
 
 impl Spelled for Packet {
-    ghost text = { packet_bytes };
+    ghost text = { packet_record };
 
     fn put(&self, out: &mut Vec<u8>) -> Result<(), AllocError> {
         put_u16(out, self.scid.get())?;

@@ -10,7 +10,7 @@ use Rattle.std.proofs.lemmas.List.{length-map}
 use Rattle.std.proofs.lemmas.List.FromFn.{get_or-map-range_with_len, length-map-range_with_len}
 use Rattle.mux_tables.specs.declared.span.Span.{Span}
 use Rattle.mux_tables.specs.declared.unit_map.Block.{Block}
-use Rattle.mux_tables.specs.Units.{share, block_of, units_at, no_units, Counts}
+use Rattle.mux_tables.specs.Units.{share, counts_of_block, units_at, no_units, Counts}
 
 -- functions that agree on a range
 pub map_agree : {X : Type 0} (f g : ℕ → X) (a n : ℕ) → ((j : ℕ) → a ≤ j → j < a + n → f j ≡ g j) → map f (range_with_len a n) ≡ map g (range_with_len a n)
@@ -19,8 +19,8 @@ map_agree f g a (suc n) h =
     ap (λ x. x ∷ map f (range_with_len (a + 1) n)) (h a (omega arith) (omega arith))
     ∙ ap (λ xs. g a ∷ xs) (map_agree f g (a + 1) n (λ j le lt. h j (omega arith) (omega arith)))
 
-pub block_agree : (f g : ℕ → ℕ) (b : ℕ) → ((j : ℕ) → j < 32 → f (32 * b + j) ≡ g (32 * b + j)) → block_of f b ≡ block_of g b
-unfolding block_of
+pub block_agree : (f g : ℕ → ℕ) (b : ℕ) → ((j : ℕ) → j < 32 → f (32 * b + j) ≡ g (32 * b + j)) → counts_of_block f b ≡ counts_of_block g b
+unfolding counts_of_block
 block_agree f g b h = map_agree (λ j. f (32 * b + j)) (λ j. g (32 * b + j)) 0 32 (λ j le lt. h j (omega arith))
 
 top_of : (t : Bool) → top 7 (cond t 255 0) ≡ t
@@ -40,8 +40,8 @@ lane_is s base from to j lt e f =
 pub mask_is : (s : Span) (b from to : ℕ)
     → from ≡ cond (ltb s.start (b * 32)) 0 (cond (ltb s.start (b * 32 + 32)) (s.start - b * 32) 32)
     → to ≡ cond (ltb (s.start + s.size) (b * 32)) 0 (cond (ltb (s.start + s.size) (b * 32 + 32)) (s.start + s.size - b * 32) 32)
-    → map (lane from to) (range_with_len 0 32) ≡ block_of (share s) b
-unfolding block_of
+    → map (lane from to) (range_with_len 0 32) ≡ counts_of_block (share s) b
+unfolding counts_of_block
 mask_is s b from to e f =
     map_agree (lane from to) (λ j. share s (32 * b + j)) 0 32
     (λ j le lt. let swapped : b * 32 ≡ 32 * b = omega arith in lane_is s (b * 32) from to j (omega arith) e f ∙ ap (λ n. share s (n + j)) swapped)
@@ -51,36 +51,36 @@ mask_is s b from to e f =
 share_small : (s : Span) (u : ℕ) → share s u ≤ 1
 share_small s u = grind (arith, nat_tests)
 
-added : (uses : ℕ → ℕ) (s : Span) (b : ℕ) → ((u : ℕ) → uses u < 255) → zip2 (λ x y. (x + y) % 256) (block_of uses b) (block_of (share s) b) ≡ block_of (λ u. uses u + share s u) b
-unfolding block_of
+added : (uses : ℕ → ℕ) (s : Span) (b : ℕ) → ((u : ℕ) → uses u < 255) → zip2 (λ x y. (x + y) % 256) (counts_of_block uses b) (counts_of_block (share s) b) ≡ counts_of_block (λ u. uses u + share s u) b
+unfolding counts_of_block
 added uses s b small =
     zip2-map (λ x y. (x + y) % 256) (λ j. uses (32 * b + j)) (λ j. share s (32 * b + j)) (range_with_len 0 32)
     ∙ map_agree (λ j. (uses (32 * b + j) + share s (32 * b + j)) % 256) (λ j. uses (32 * b + j) + share s (32 * b + j)) 0 32
     (λ j le lt. let one = small (32 * b + j) in let two = share_small s (32 * b + j) in omega (arith, one, two))
 
-taken : (op : ℕ → ℕ → ℕ) (uses : ℕ → ℕ) (s : Span) (b : ℕ) → ((x y : ℕ) → x < 255 → y ≤ 1 → op (x + y) y ≡ x) → ((u : ℕ) → uses u < 255) → zip2 op (block_of (λ u. uses u + share s u) b) (block_of (share s) b) ≡ block_of uses b
-unfolding block_of
+taken : (op : ℕ → ℕ → ℕ) (uses : ℕ → ℕ) (s : Span) (b : ℕ) → ((x y : ℕ) → x < 255 → y ≤ 1 → op (x + y) y ≡ x) → ((u : ℕ) → uses u < 255) → zip2 op (counts_of_block (λ u. uses u + share s u) b) (counts_of_block (share s) b) ≡ counts_of_block uses b
+unfolding counts_of_block
 taken op uses s b undoes small =
     zip2-map op (λ j. uses (32 * b + j) + share s (32 * b + j)) (λ j. share s (32 * b + j)) (range_with_len 0 32)
     ∙ map_agree (λ j. op (uses (32 * b + j) + share s (32 * b + j)) (share s (32 * b + j))) (λ j. uses (32 * b + j)) 0 32
     (λ j le lt. undoes (uses (32 * b + j)) (share s (32 * b + j)) (small (32 * b + j)) (share_small s (32 * b + j)))
 
 pub record Stepped (op : ℕ → ℕ → ℕ) (before blocks : List Block) (s : Span) (from n : ℕ) : Type 0 where
-  pub done : (b : ℕ) → from ≤ b → b < n → units_at blocks b ≡ zip2 op (units_at before b) (block_of (share s) b)
+  pub done : (b : ℕ) → from ≤ b → b < n → units_at blocks b ≡ zip2 op (units_at before b) (counts_of_block (share s) b)
   pub low : (b : ℕ) → b < from → units_at blocks b ≡ units_at before b
   pub left : (b : ℕ) → n ≤ b → units_at blocks b ≡ units_at before b
 
 pub step : (op : ℕ → ℕ → ℕ) (before blocks : List Block) (s : Span) (from n : ℕ) (x : List ℕ) (y : Block) → n < length blocks → from ≤ n
-    → x ≡ units_at blocks n → y.units ≡ zip2 op x (block_of (share s) n)
+    → x ≡ units_at blocks n → y.units ≡ zip2 op x (counts_of_block (share s) n)
     → Stepped op before blocks s from n → Stepped op before (set blocks n y) s from (n + 1)
 step op before blocks s from n x y lt le is made h =
     let same : get_or (set blocks n y) n no_units ≡ y = rw get_or-set_same refl in
     let others : (b : ℕ) → b ≢ n → units_at (set blocks n y) b ≡ units_at blocks b =
     λ b ne. let e : get_or (set blocks n y) b no_units ≡ get_or blocks b no_units = rw get_or-set_other refl in ap (λ (k : Block). k.units) e in
     record {
-      done = λ b low less. below_more (λ (k : ℕ). from ≤ k → units_at (set blocks n y) k ≡ zip2 op (units_at before k) (block_of (share s) k)) n
+      done = λ b low less. below_more (λ (k : ℕ). from ≤ k → units_at (set blocks n y) k ≡ zip2 op (units_at before k) (counts_of_block (share s) k)) n
           (λ k lk lf. let ne : k ≢ n = omega arith in others k ne ∙ h.done k lf lk)
-          (λ lf. ap (λ (k : Block). k.units) same ∙ made ∙ ap (λ (xs : List ℕ). zip2 op xs (block_of (share s) n)) (is ∙ h.left n (omega arith)))
+          (λ lf. ap (λ (k : Block). k.units) same ∙ made ∙ ap (λ (xs : List ℕ). zip2 op xs (counts_of_block (share s) n)) (is ∙ h.left n (omega arith)))
           b less low;
       low = λ b less. let ne : b ≢ n = omega arith in others b ne ∙ h.low b less;
       left = λ b more. let ne : b ≢ n = omega arith in others b ne ∙ h.left b (omega arith);
@@ -93,7 +93,7 @@ none_below s b j less lt = let k : 32 * b + j < s.start = omega arith in grind (
 none_above : (s : Span) (b j n : ℕ) → s.start + s.size ≤ 32 * n → n ≤ b → share s (32 * b + j) ≡ 0
 none_above s b j n le more = let k : s.start + s.size ≤ 32 * b + j = omega arith in grind (arith, nat_tests, k)
 
-same_outside : (uses : ℕ → ℕ) (s : Span) (b : ℕ) → ((j : ℕ) → j < 32 → share s (32 * b + j) ≡ 0) → block_of (λ u. uses u + share s u) b ≡ block_of uses b
+same_outside : (uses : ℕ → ℕ) (s : Span) (b : ℕ) → ((j : ℕ) → j < 32 → share s (32 * b + j) ≡ 0) → counts_of_block (λ u. uses u + share s u) b ≡ counts_of_block uses b
 same_outside uses s b none = block_agree (λ u. uses u + share s u) uses b (λ j lt. let z = none j lt in omega (arith, z))
 
 outside : (s : Span) (from n b : ℕ) → from ≡ s.start / 32 → s.start + s.size ≤ 32 * n → (b < from) ⊎ (n ≤ b) → (j : ℕ) → j < 32 → share s (32 * b + j) ≡ 0
@@ -133,15 +133,15 @@ lowered before blocks s from n is le h uses small counts = record {
 
 -- ---- a lane above 1
 
-pub lane_at : (uses : ℕ → ℕ) (b j : ℕ) → j < 32 → get_or (block_of uses b) j 0 ≡ uses (32 * b + j)
-unfolding block_of
+pub lane_at : (uses : ℕ → ℕ) (b j : ℕ) → j < 32 → get_or (counts_of_block uses b) j 0 ≡ uses (32 * b + j)
+unfolding counts_of_block
 lane_at uses b j lt = get_or-map-range_with_len (λ k. uses (32 * b + k)) 0 32 j j 0 lt (omega arith)
 
 abbrev pub is_high : ℕ → Bool
 is_high x = ltb 1 x
 
-pub length_block : (uses : ℕ → ℕ) (b : ℕ) → length (block_of uses b) ≡ 32
-unfolding block_of
+pub length_block : (uses : ℕ → ℕ) (b : ℕ) → length (counts_of_block uses b) ≡ 32
+unfolding counts_of_block
 length_block uses b = length-map-range_with_len (λ j. uses (32 * b + j)) 0 32
 
 -- `block.simd_gt(u8x32::splat(1)).to_bitmask()`: the model of `a > b` is that of `b < a`
@@ -196,8 +196,8 @@ none_high lanes uses counts h u lt =
 
 -- ---- no spans
 
-zeros : (b : ℕ) → block_of (λ u. 0) b ≡ replicate 32 0
-unfolding block_of
+zeros : (b : ℕ) → counts_of_block (λ u. 0) b ≡ replicate 32 0
+unfolding counts_of_block
 zeros b = refl
 
 abbrev pub blank : Block

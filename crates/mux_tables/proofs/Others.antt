@@ -7,7 +7,7 @@ use Rattle.mux_config.specs.declared.fault.EditFault.{EditFault}
 use Rattle.mux_config.specs.Configuration.{Configuration, IsConfiguration}
 use Rattle.mux_config.specs.Edits.{outcome, edit_fault, changed, edited, Edits, IsInRange}
 use Rattle.mux_config.proofs.Keeping.{edits_keep}
-use Rattle.mux_tables.specs.Units.{joined}
+use Rattle.mux_tables.specs.Units.{with_sub_channels}
 
 abbrev pub IsOfOthers : Edit → Type 0
 IsOfOthers (AddSub s) = ⊥
@@ -16,7 +16,7 @@ IsOfOthers (MoveSub id start) = ⊥
 IsOfOthers (RateSub id kbits) = ⊥
 IsOfOthers e = Unit {0}
 
-pub same_fault : (e : Edit) → IsOfOthers e → (xs : List Sub) (d : Configuration) → edit_fault e (joined xs d) ≡ edit_fault e d
+pub same_fault : (e : Edit) → IsOfOthers e → (xs : List Sub) (d : Configuration) → edit_fault e (with_sub_channels xs d) ≡ edit_fault e d
 same_fault (AddSub s) of xs d = absurd of
 same_fault (DropSub id) of xs d = absurd of
 same_fault (MoveSub id start) of xs d = absurd of
@@ -28,7 +28,7 @@ same_fault (DropComponent sid carrier) of xs d = refl
 same_fault (AddPacket p) of xs d = refl
 same_fault (DropPacket scid) of xs d = refl
 
-pub same_change : (e : Edit) → IsOfOthers e → (xs : List Sub) (d : Configuration) → changed e (joined xs d) ≡ joined xs (changed e d)
+pub same_change : (e : Edit) → IsOfOthers e → (xs : List Sub) (d : Configuration) → changed e (with_sub_channels xs d) ≡ with_sub_channels xs (changed e d)
 same_change (AddSub s) of xs d = absurd of
 same_change (DropSub id) of xs d = absurd of
 same_change (MoveSub id start) of xs d = absurd of
@@ -53,14 +53,14 @@ same_subs (AddPacket p) of d = refl
 same_subs (DropPacket scid) of d = refl
 
 -- where no fault holds
-pub known : (e : Edit) → IsOfOthers e → (xs : List Sub) (old new : Configuration) → new ≡ changed e old → joined xs new ≡ changed e (joined xs old)
-known e of xs old new is = ap (joined xs) is ∙ sym (same_change e of xs old)
+pub known : (e : Edit) → IsOfOthers e → (xs : List Sub) (old new : Configuration) → new ≡ changed e old → with_sub_channels xs new ≡ changed e (with_sub_channels xs old)
+known e of xs old new is = ap (with_sub_channels xs) is ∙ sym (same_change e of xs old)
 
-pub known_keeps : (e : Edit) → IsOfOthers e → IsInRange e → (xs : List Sub) (old new : Configuration) → old.subs ≡ [] → IsConfiguration (joined xs old) → edit_fault e old ≡ None → new ≡ changed e old
-    → (new.subs ≡ []) × IsConfiguration (joined xs new)
+pub known_keeps : (e : Edit) → IsOfOthers e → IsInRange e → (xs : List Sub) (old new : Configuration) → old.subs ≡ [] → IsConfiguration (with_sub_channels xs old) → edit_fault e old ≡ None → new ≡ changed e old
+    → (new.subs ≡ []) × IsConfiguration (with_sub_channels xs new)
 known_keeps e of within xs old new none c fault is = (
   ap (λ (d : Configuration). d.subs) is ∙ same_subs e of old ∙ none,
-  subst IsConfiguration (sym (known e of xs old new is)) (edits_keep e (joined xs old) within c (same_fault e of xs old ∙ fault)),
+  subst IsConfiguration (sym (known e of xs old new is)) (edits_keep e (with_sub_channels xs old) within c (same_fault e of xs old ∙ fault)),
 )
 
 -- and with its answer
@@ -68,9 +68,9 @@ no_fault : (f : Option EditFault) (d new : Configuration) → outcome f d ≡ Ok
 no_fault None d new e = (refl, cc)
 no_fault (Some fault) d new e = absurd (cc)
 
-pub edits_keeps : (e : Edit) → IsOfOthers e → IsInRange e → (xs : List Sub) (old new : Configuration) (result : Result (Unit {0}) EditFault) → old.subs ≡ [] → IsConfiguration (joined xs old) → Edits old new (edited e old) result
-    → (new.subs ≡ []) × IsConfiguration (joined xs new)
+pub edits_keeps : (e : Edit) → IsOfOthers e → IsInRange e → (xs : List Sub) (old new : Configuration) (result : Result (Unit {0}) EditFault) → old.subs ≡ [] → IsConfiguration (with_sub_channels xs old) → Edits old new (edited e old) result
+    → (new.subs ≡ []) × IsConfiguration (with_sub_channels xs new)
 edits_keeps e of within xs old new (Ok done) none c is =
     let both = no_fault (edit_fault e old) (changed e old) new is in
     known_keeps e of within xs old new none c both.0 both.1
-edits_keeps e of within xs old new (Err fault) none c is = (ap (λ (d : Configuration). d.subs) is.1 ∙ none, subst (λ (d : Configuration). IsConfiguration (joined xs d)) (sym is.1) c)
+edits_keeps e of within xs old new (Err fault) none c is = (ap (λ (d : Configuration). d.subs) is.1 ∙ none, subst (λ (d : Configuration). IsConfiguration (with_sub_channels xs d)) (sym is.1) c)

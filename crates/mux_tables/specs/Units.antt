@@ -26,8 +26,8 @@ abbrev pub lane_in : ℕ → ℕ → ℕ
 lane_in base unit = if nat_lt unit base then 0 else if nat_lt unit (base + 32) then unit - base else 32
 
 -- the 32 numbers of a block, one for each of its units
-unfoldable pub block_of : (ℕ → ℕ) → ℕ → List ℕ
-block_of uses b = map (λ j. uses (32 * b + j)) (range_with_len 0 32)
+unfoldable pub counts_of_block : (ℕ → ℕ) → ℕ → List ℕ
+counts_of_block uses b = map (λ j. uses (32 * b + j)) (range_with_len 0 32)
 
 abbrev pub no_units : Block
 no_units = record { units = [] }
@@ -37,7 +37,7 @@ units_at blocks b = let block = slice_index_or blocks b no_units in block.units
 
 -- the lanes of the 27 blocks hold the number of each unit
 pub record Counts (blocks : List Block) (uses : ℕ → ℕ) : Type 0 where
-  pub each : (b : ℕ) → b < 27 → units_at blocks b ≡ block_of uses b
+  pub each : (b : ℕ) → b < 27 → units_at blocks b ≡ counts_of_block uses b
 
 -- what counting a span in does, and counting it out, where no number comes near the end of a lane
 abbrev pub CountsIn : List Block → List Block → Span → Type 0
@@ -58,11 +58,11 @@ NoneShared uses = (u : ℕ) → u < 864 → uses u ≤ 1
 -- ---- a configuration and its counted units
 
 -- these sub-channels, with the services and packet components of a configuration
-abbrev pub joined : List Sub → Configuration → Configuration
-joined subs others = record { subs = subs; services = others.services; packets = others.packets }
+abbrev pub with_sub_channels : List Sub → Configuration → Configuration
+with_sub_channels subs others = record { subs = subs; services = others.services; packets = others.packets }
 
 -- the sub-channels stand apart from the rest, and each unit's lane holds how many of them have it
-pub record IsCounted (subs : List Sub) (units : List Block) (others : Configuration) : Type 0 where
+pub record CountsUsers (subs : List Sub) (units : List Block) (others : Configuration) : Type 0 where
   pub apart : others.subs ≡ []
-  pub configuration : IsConfiguration (joined subs others)
+  pub configuration : IsConfiguration (with_sub_channels subs others)
   pub counted : Counts units (users subs)

@@ -26,13 +26,13 @@ pub struct Tables {
 
 impl Model for Tables {
     ghost use Rattle.mux_config.specs.Configuration.{Configuration};
-    ghost use Rattle.mux_tables.specs.Units.{joined, IsCounted};
+    ghost use Rattle.mux_tables.specs.Units.{with_sub_channels, CountsUsers};
 
     ghost Value = { Configuration };
 
-    ghost view = { λ t. joined t.subs t.others };
+    ghost view = { λ t. with_sub_channels t.subs t.others };
 
-    ghost invariant = { λ t. IsCounted t.subs t.units t.others };
+    ghost invariant = { λ t. CountsUsers t.subs t.units t.others };
 }
 
 impl Tables {

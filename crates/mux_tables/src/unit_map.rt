@@ -2,7 +2,7 @@
 
 ghost use Rattle.std.specs.Prelude.{◌≡◌, ℕ, [], slice_index, slice_index_or, true, false, ◌+◌, ◌-◌, ◌<◌, ◌≤◌, ◌%◌, length, nat_lt, if◌then◌else◌};
 ghost use Rattle.std.specs.Simd.Lanes.{zip2};
-ghost use Rattle.mux_tables.specs.Units.{share, lane_in, block_of, units_at, Counts, CountsIn, CountsOut, SomeShared, NoneShared};
+ghost use Rattle.mux_tables.specs.Units.{share, lane_in, counts_of_block, units_at, Counts, CountsIn, CountsOut, SomeShared, NoneShared};
 
 use crate::span::Span;
 use std::simd::prelude::*;
@@ -46,7 +46,7 @@ fn lane_in(base: u16, unit: u16) -> u8
 fn mask(block: u16, span: Span) -> u8x32
     requires within { span.start + span.size ≤ 864 }
     requires block { block < 27 }
-    ensures { result ≡ block_of (share span) block }
+    ensures { result ≡ counts_of_block (share span) block }
 {
     let base = block * 32;
     let from = lane_in(base, span.start);

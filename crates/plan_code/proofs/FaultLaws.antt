@@ -7,9 +7,9 @@ use Rattle.mux_config.specs.FieldReading.{place, byte_at, number_at, byte_within
 use Rattle.plan_code.specs.declared.fault.CodeFault.{CodeFault}
 use Rattle.plan_code.specs.declared.fault.CodeFault.TheVariants.{Magic, Version, Truncated, Field, Limit, Trailing, Memory}
 use Rattle.plan_code.specs.Program.{Program}
-use Rattle.plan_code.specs.Faults.{AreBytes, IsNoFile, HasFault, HasOneFault, HasFaultWithoutCode, BytesLackNoMemory}
+use Rattle.plan_code.specs.Faults.{AreBytes, IsNoFile, HasCodeFault, HasOneFault, HasFaultWithoutCode, BytesLackNoMemory}
 use Rattle.plan_code.specs.Spelling.{magic}
-use Rattle.plan_code.specs.Reading.{Parses, ◌>>=◌, refuse, read_from, in_file, magic_at, mode_at, plan_at, count_at, config_in, line_in, items_at, labels_in, Header, header_at, program_at, code_of}
+use Rattle.plan_code.specs.Reading.{Parses, ◌>>=◌, refuse_code, read_from, in_file, magic_at, mode_at, plan_at, count_at, config_in, line_in, items_at, labels_in, Header, header_at, program_at, code_of}
 use Rattle.plan_code.proofs.FileLaws.{code_front, code_again}
 
 abbrev is : {A : Type 0} → A → Result A CodeFault
@@ -42,7 +42,7 @@ named_part start (Err Short) = tt
 named_part start (Err (FieldOfRecord at)) = tt
 named_part start (Err Order) = tt
 
-named_test : (test : Bool) (fault : CodeFault) → (let failed : Result (Unit {0}) CodeFault = Err fault in IsNamed failed) → IsNamed (refuse test fault)
+named_test : (test : Bool) (fault : CodeFault) → (let failed : Result (Unit {0}) CodeFault = Err fault in IsNamed failed) → IsNamed (refuse_code test fault)
 named_test true fault named = named
 named_test false fault named = tt
 
@@ -53,7 +53,7 @@ named_choice false r q first second = second
 named_magic : (bytes : List ℕ) → IsNamed (magic_at bytes)
 named_magic bytes =
     named_then (in_file (number_at w32 bytes)) _ (named_part 0 (number_at w32 bytes)) (λ letters.
-    named_then (refuse (not (eqb letters.0 magic)) Magic) (λ known. is letters) (named_test _ Magic tt) (λ known. tt))
+    named_then (refuse_code (not (eqb letters.0 magic)) Magic) (λ known. is letters) (named_test _ Magic tt) (λ known. tt))
 
 named_mode : (total : ℕ) (bytes : List ℕ) → IsNamed (mode_at total bytes)
 unfolding mode_at
@@ -74,8 +74,8 @@ named_plan total bytes =
 named_count : (total limit : ℕ) (bytes : List ℕ) → IsNamed (count_at total limit bytes)
 named_count total limit bytes =
     named_then (in_file (number_at w16 bytes)) _ (named_part 0 (number_at w16 bytes)) (λ number.
-    named_then (refuse (eqb number.0 0) (Field (place total bytes))) _ (named_test _ (Field (place total bytes)) tt) (λ some.
-    named_then (refuse (ltb limit number.0) Limit) (λ few. is number) (named_test _ Limit tt) (λ few. tt)))
+    named_then (refuse_code (eqb number.0 0) (Field (place total bytes))) _ (named_test _ (Field (place total bytes)) tt) (λ some.
+    named_then (refuse_code (ltb limit number.0) Limit) (λ few. is number) (named_test _ Limit tt) (λ few. tt)))
 
 named_header : (total : ℕ) (bytes : List ℕ) → IsNamed (header_at total bytes)
 unfolding header_at
@@ -104,7 +104,7 @@ unfolding code_of
 named_code bytes =
     named_then (header_at (length bytes) bytes) _ (named_header (length bytes) bytes) (λ header.
     named_then (program_at (length bytes) header.0 header.1) _ (named_program (length bytes) header.0 header.1) (λ program.
-    named_then (refuse (not (eqb (length program.1) 0)) Trailing) (λ ended. is program.0) (named_test _ Trailing tt) (λ ended. tt)))
+    named_then (refuse_code (not (eqb (length program.1) 0)) Trailing) (λ ended. is program.0) (named_test _ Trailing tt) (λ ended. tt)))
 
 pub lacks_no_memory : BytesLackNoMemory
 lacks_no_memory bytes e =
@@ -118,7 +118,7 @@ one_fault bytes f g first second =
     cc
 
 -- what reading gives is a code or a fault
-fault_or_code : (bytes : List ℕ) (r : Result Program CodeFault) → code_of bytes ≡ r → AreBytes bytes → IsNoFile bytes → (f : CodeFault) × HasFault bytes f
+fault_or_code : (bytes : List ℕ) (r : Result Program CodeFault) → code_of bytes ≡ r → AreBytes bytes → IsNoFile bytes → (f : CodeFault) × HasCodeFault bytes f
 fault_or_code bytes (Ok p) e fits none = let read = code_front bytes p fits e in absurd (none p read.formed read.spelled)
 fault_or_code bytes (Err f) e fits none = (f, e)
 

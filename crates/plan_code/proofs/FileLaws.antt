@@ -22,7 +22,7 @@ use Rattle.plan_code.specs.declared.instr.Line.{Line}
 use Rattle.plan_code.specs.Program.{Program, IsProgram, IsPlan, IsLabel, IsLine, label_key}
 use Rattle.plan_code.specs.Spelling.{magic, mode_bytes, plan_bytes, header_bytes, label_bytes, line_bytes, code_bytes}
 use Rattle.plan_code.specs.Parts.{label_from, line_from}
-use Rattle.plan_code.specs.Reading.{Parses, ◌>>=◌, refuse, read_from, in_file, magic_at, mode_of, mode_in, mode_at, plan_at, count_at, config_in, line_in, items_at, labels_in, Header, header_at, program_at, code_of, Gives}
+use Rattle.plan_code.specs.Reading.{Parses, ◌>>=◌, refuse_code, read_from, in_file, magic_at, mode_of, mode_in, mode_at, plan_at, count_at, config_in, line_in, items_at, labels_in, Header, header_at, program_at, code_of, Gives}
 use Rattle.plan_code.proofs.Operands.{IsReading, byte_of, word_reading, byte_from_reading}
 use Rattle.plan_code.proofs.LabelLaws.{label_front, label_again}
 use Rattle.plan_code.proofs.LineLaws.{line_front, line_again}
@@ -33,7 +33,7 @@ then_ok : {A B : Type 0} (r : Result A CodeFault) (f : A → Result B CodeFault)
 then_ok (Ok x) f y e = (x, refl, e)
 then_ok (Err d) f y e = absurd cc
 
-refuse_then : {B : Type 0} (test : Bool) (fault : CodeFault) (f : Unit {0} → Result B CodeFault) (y : B) → (refuse test fault >>= f) ≡ Ok y → (test ≡ false) × (f tt ≡ Ok y)
+refuse_then : {B : Type 0} (test : Bool) (fault : CodeFault) (f : Unit {0} → Result B CodeFault) (y : B) → (refuse_code test fault >>= f) ≡ Ok y → (test ≡ false) × (f tt ≡ Ok y)
 refuse_then true fault f y e = absurd cc
 refuse_then false fault f y e = (refl, e)
 
@@ -175,7 +175,7 @@ count_front : (total limit : ℕ) (bytes : List ℕ) (x : ℕ × List ℕ) → I
 count_front total limit bytes x fits e =
     let a = then_ok (in_file (number_at w16 bytes)) _ x e in
     let f = word_reading.front bytes a.0 fits (read_ok 0 _ a.0 a.1) in
-    let s = refuse_then (eqb a.0.0 0) (Field (place total bytes)) (λ some. refuse (ltb limit a.0.0) Limit >>= λ few. made a.0) x a.2 in
+    let s = refuse_then (eqb a.0.0 0) (Field (place total bytes)) (λ some. refuse_code (ltb limit a.0.0) Limit >>= λ few. made a.0) x a.2 in
     let k = refuse_then (ltb limit a.0.0) Limit (λ few. made a.0) x s.1 in
     let some : a.0.0 ≢ 0 = eqb-false _ _ s.0 in
     let few : a.0.0 ≤ limit = ltb-false _ _ k.0 in

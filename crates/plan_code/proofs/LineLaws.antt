@@ -13,7 +13,7 @@ use Rattle.plan_code.specs.declared.opcode.Opcode.{Opcode}
 use Rattle.plan_code.specs.Opcodes.{opcode_byte, opcode_of}
 use Rattle.plan_code.specs.Program.{IsInstr, IsLine}
 use Rattle.plan_code.specs.Spelling.{instr_bytes, line_bytes}
-use Rattle.plan_code.specs.Parts.{contact_at, counter_at, word_at, times_at, delay_at, day_frame_at, wait_at, until_at, wait_contact_at, commit_in_at, commit_at_at, test_at, jump_at, set_at, loop_at, opcode_at, edited, instr_of, instr_from, line_from}
+use Rattle.plan_code.specs.Parts.{contact_at, counter_at, any_word, times_at, delay_at, day_frame_at, wait_at, until_at, wait_contact_at, commit_in_at, commit_at_at, test_at, jump_at, set_at, loop_at, opcode_at, edit_instr, instr_of, instr_from, line_from}
 use Rattle.plan_code.proofs.Operands.{IsReading, giving, byte_of, flag_of, long_of, byte_reading, word_from_reading, word_reading, flag_reading, day_frame_reading, one_front, one_again, two_front, two_again}
 use Rattle.plan_code.proofs.OpcodeLaws.{some_given, opcode_only}
 use Rattle.plan_code.proofs.EditLaws.{behind, IsEditRead, add_sub_front, drop_sub_front, move_sub_front, rate_sub_front, add_service_front, drop_service_front, add_component_front, drop_component_front, add_packet_front, drop_packet_front, edit_again}
@@ -69,7 +69,7 @@ commit_in_front total bytes x fits e =
 commit_at_front : (bytes : List ℕ) (x : Instr × List ℕ) → IsBytes bytes → commit_at_at bytes ≡ Ok x → IsInstrRead Opcode.CommitAt bytes x
 unfolding commit_at_at
 commit_at_front bytes x fits e =
-    let t = one_front word_at word_bytes (λ n. n < 65536) CommitAt word_reading bytes x fits e in
+    let t = one_front any_word word_bytes (λ n. n < 65536) CommitAt word_reading bytes x fits e in
     is_read Opcode.CommitAt bytes (word_bytes t.first) x (CommitAt t.first) t.is t.front refl t.formed
 
 bare_front : (opcode : Opcode) (bytes : List ℕ) (x : Instr × List ℕ) (i : Instr) → IsBytes bytes → instr_bytes i ≡ opcode_byte opcode ∷ [] → IsInstr i → giving (λ (j : Instr). j) (i, bytes) ≡ Ok x → IsInstrRead opcode bytes x
@@ -83,13 +83,13 @@ bare_front opcode bytes x i fits spelled formed e =
 test_front : (total : ℕ) (bytes : List ℕ) (x : Instr × List ℕ) → IsBytes bytes → test_at total bytes ≡ Ok x → IsInstrRead Opcode.Test bytes x
 unfolding test_at
 test_front total bytes x fits e =
-    let t = two_front (contact_at total) byte_of (λ n. n < 16) word_at word_bytes (λ n. n < 65536) Test (byte_reading total 15) word_reading bytes x fits e in
+    let t = two_front (contact_at total) byte_of (λ n. n < 16) any_word word_bytes (λ n. n < 65536) Test (byte_reading total 15) word_reading bytes x fits e in
     is_read Opcode.Test bytes (byte_of t.first ++ word_bytes t.second) x (Test t.first t.second) t.is t.front refl (t.formed, t.formed')
 
 jump_front : (bytes : List ℕ) (x : Instr × List ℕ) → IsBytes bytes → jump_at bytes ≡ Ok x → IsInstrRead Opcode.Jump bytes x
 unfolding jump_at
 jump_front bytes x fits e =
-    let t = one_front word_at word_bytes (λ n. n < 65536) Jump word_reading bytes x fits e in
+    let t = one_front any_word word_bytes (λ n. n < 65536) Jump word_reading bytes x fits e in
     is_read Opcode.Jump bytes (word_bytes t.first) x (Jump t.first) t.is t.front refl t.formed
 
 set_front : (total : ℕ) (bytes : List ℕ) (x : Instr × List ℕ) → IsBytes bytes → set_at total bytes ≡ Ok x → IsInstrRead Opcode.Set bytes x
@@ -101,13 +101,13 @@ set_front total bytes x fits e =
 loop_front : (total : ℕ) (bytes : List ℕ) (x : Instr × List ℕ) → IsBytes bytes → loop_at total bytes ≡ Ok x → IsInstrRead Opcode.Loop bytes x
 unfolding loop_at
 loop_front total bytes x fits e =
-    let t = two_front (counter_at total) byte_of (λ n. n < 8) word_at word_bytes (λ n. n < 65536) Loop (byte_reading total 7) word_reading bytes x fits e in
+    let t = two_front (counter_at total) byte_of (λ n. n < 8) any_word word_bytes (λ n. n < 65536) Loop (byte_reading total 7) word_reading bytes x fits e in
     is_read Opcode.Loop bytes (byte_of t.first ++ word_bytes t.second) x (Loop t.first t.second) t.is t.front refl (t.formed, t.formed')
 
 -- ---- any instruction
 
 edited_front : (opcode : Opcode) (bytes : List ℕ) (x : Instr × List ℕ) (read : Reads Edit) → ((y : Edit × List ℕ) → read ≡ Ok y → IsEditRead opcode bytes y)
-    → edited read ≡ Ok x → IsInstrRead opcode bytes x
+    → edit_instr read ≡ Ok x → IsInstrRead opcode bytes x
 edited_front opcode bytes x read front e =
     let a = bind_ok read (giving Edits) x e in
     let t = front a.0 a.1 in
@@ -160,7 +160,7 @@ instr_front total bytes x fits e =
 pub line_front : (total : ℕ) (bytes : List ℕ) (x : Line × List ℕ) → IsBytes bytes → line_from total bytes ≡ Ok x → Front bytes (line_bytes x.0) x.1 × IsLine x.0
 unfolding line_from
 line_front total bytes x fits e =
-    let n = bind_ok (word_at bytes) _ x e in
+    let n = bind_ok (any_word bytes) _ x e in
     let fn = word_reading.front bytes n.0 fits n.1 in
     let i = bind_ok (instr_from total n.0.1) _ x n.2 in
     let fi = instr_front total n.0.1 i.0 fn.0.rest_fits i.1 in
@@ -176,15 +176,15 @@ instr_again total (Wait n) rest is = one_again (times_at total) word_bytes AreTi
 instr_again total (Until t) rest is = one_again (day_frame_at total) long_of (λ n. n < 3600000) Until (day_frame_reading total) t rest is
 instr_again total (WaitContact c closed) rest is = two_again (contact_at total) byte_of (λ n. n < 16) (flag_at total) flag_of (λ b. Unit {0}) WaitContact (byte_reading total 15) (flag_reading total) c closed rest is tt
 instr_again total (CommitIn k) rest is = one_again (delay_at total) word_bytes IsDelay CommitIn (delay_reading total) k rest is
-instr_again total (CommitAt n) rest is = one_again word_at word_bytes (λ m. m < 65536) CommitAt word_reading n rest is
+instr_again total (CommitAt n) rest is = one_again any_word word_bytes (λ m. m < 65536) CommitAt word_reading n rest is
 instr_again total Join rest is = refl
 instr_again total End rest is = refl
 instr_again total Settle rest is = refl
 instr_again total (Edits e) rest is = edit_again total e rest is
-instr_again total (Test c target) rest is = two_again (contact_at total) byte_of (λ n. n < 16) word_at word_bytes (λ n. n < 65536) Test (byte_reading total 15) word_reading c target rest is.0 is.1
-instr_again total (Jump target) rest is = one_again word_at word_bytes (λ m. m < 65536) Jump word_reading target rest is
+instr_again total (Test c target) rest is = two_again (contact_at total) byte_of (λ n. n < 16) any_word word_bytes (λ n. n < 65536) Test (byte_reading total 15) word_reading c target rest is.0 is.1
+instr_again total (Jump target) rest is = one_again any_word word_bytes (λ m. m < 65536) Jump word_reading target rest is
 instr_again total (Set r n) rest is = two_again (counter_at total) byte_of (λ m. m < 8) (times_at total) word_bytes AreTimes Set (byte_reading total 7) (times_reading total) r n rest is.0 (is.1, omega (arith, is.2))
-instr_again total (Loop r target) rest is = two_again (counter_at total) byte_of (λ m. m < 8) word_at word_bytes (λ m. m < 65536) Loop (byte_reading total 7) word_reading r target rest is.0 is.1
+instr_again total (Loop r target) rest is = two_again (counter_at total) byte_of (λ m. m < 8) any_word word_bytes (λ m. m < 65536) Loop (byte_reading total 7) word_reading r target rest is.0 is.1
 
 pub line_again : (total : ℕ) (l : Line) (rest : List ℕ) → IsLine l → line_from total (line_bytes l ++ rest) ≡ Ok (l, rest)
 unfolding line_from

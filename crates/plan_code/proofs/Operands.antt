@@ -9,13 +9,13 @@ use Rattle.mux_types.specs.declared.parts.Carrier.{Carrier}
 use Rattle.mux_types.specs.declared.parts.Carrier.TheVariants.{Sub as BySub, Packet as ByPacket}
 use Rattle.byte_fields.specs.declared.record.RecordFault.TheVariants.{Field}
 use Rattle.mux_config.specs.Configuration.{IsSid, IsComponent}
-use Rattle.mux_config.specs.FieldSpelling.{word_bytes, flag_byte, protection_bytes, sid_bytes, component_bytes}
-use Rattle.mux_config.specs.Spelling.{sub_bytes, packet_bytes}
+use Rattle.mux_config.specs.FieldSpelling.{word_bytes, flag_byte, protection_bytes, sid_field, component_bytes}
+use Rattle.mux_config.specs.Spelling.{sub_record, packet_record}
 use Rattle.mux_config.specs.FieldReading.{Reads, ◌>>=◌, place, number_at, judged, byte_within, word_within, flag_at, protection_at, sid_at, component_at}
 use Rattle.byte_fields.proofs.FieldLaws.{IsBytes, Front, front_then, bind_ok, guard_ok, done, ok_is, word_front, word_again, long_front, long_again, byte_within_front, byte_within_again, word_within_front, word_within_again, flag_front, flag_again, protection_front, protection_again, sid_front, sid_again, component_front, component_again}
 use Rattle.plan_code.specs.Program.{IsNewSub, IsNewPacket, IsCarrier}
 use Rattle.plan_code.specs.Spelling.{carrier_bytes}
-use Rattle.plan_code.specs.Parts.{sub_id_at, type_at, scid_at, start_at, word_at, day_frame_at, new_sub_at, new_packet_at, wide_sub_id_at, carrier_of_kind, carrier_at}
+use Rattle.plan_code.specs.Parts.{sub_id_at, type_at, scid_at, start_at, any_word, day_frame_at, new_sub_at, new_packet_at, wide_sub_id_at, carrier_of_kind, carrier_at}
 
 -- what is read is spelled so, and formed; and what is formed and spelled so is read again
 pub record IsReading {T : Type 0} (read : List ℕ → Reads T) (spell : T → List ℕ) (P : T → Type 0) : Type 0 where
@@ -54,7 +54,7 @@ byte_from_reading total low high = record {
   again = λ n rest within. byte_within_again total low high n rest within.0 within.1;
 }
 
-pub word_reading : IsReading word_at word_bytes (λ n. n < 65536)
+pub word_reading : IsReading any_word word_bytes (λ n. n < 65536)
 word_reading = record { front = word_front; again = word_again }
 
 pub flag_reading : (total : ℕ) → IsReading (flag_at total) flag_of (λ b. Unit {0})
@@ -85,7 +85,7 @@ day_frame_reading total = record {
       rw (long_again n rest (omega (arith, lt)), from, small) refl;
 }
 
-pub sid_reading : (total : ℕ) → IsReading (sid_at total) sid_bytes IsSid
+pub sid_reading : (total : ℕ) → IsReading (sid_at total) sid_field IsSid
 sid_reading total = record { front = sid_front total; again = sid_again total }
 
 pub component_reading : (total : ℕ) → IsReading (component_at total) component_bytes IsComponent
@@ -154,7 +154,7 @@ two_again read spell P read' spell' Q make reading reading' a b rest formed form
 
 -- ---- operands that have parts
 
-pub new_sub_reading : (total : ℕ) → IsReading (new_sub_at total) sub_bytes IsNewSub
+pub new_sub_reading : (total : ℕ) → IsReading (new_sub_at total) sub_record IsNewSub
 unfolding new_sub_at
 new_sub_reading total = record {
   front = λ bytes x fits e.
@@ -164,13 +164,13 @@ new_sub_reading total = record {
       let fb = (word_below_reading total 1023 (omega arith)).front a.0.1 b.0 fa.0.rest_fits b.1 in
       let p = bind_ok (protection_at total b.0.1) _ x b.2 in
       let fp = (protection_reading total).front b.0.1 p.0 fb.0.rest_fits p.1 in
-      let k = bind_ok (word_at p.0.1) _ x p.2 in
+      let k = bind_ok (any_word p.0.1) _ x p.2 in
       let fk = word_reading.front p.0.1 k.0 fp.0.rest_fits k.1 in
       let made : Sub × List ℕ = (record { id = a.0.0; start = b.0.0; protection = p.0.0; kbits = k.0.0 }, k.0.1) in
       let ab = front_then bytes (byte_of a.0.0) a.0.1 (word_bytes b.0.0) b.0.1 fa.0 fb.0 in
       let abp = front_then bytes (byte_of a.0.0 ++ word_bytes b.0.0) b.0.1 (protection_bytes p.0.0) p.0.1 ab fp.0 in
       let all = front_then bytes ((byte_of a.0.0 ++ word_bytes b.0.0) ++ protection_bytes p.0.0) p.0.1 (word_bytes k.0.0) k.0.1 abp fk.0 in
-      subst (λ (y : Sub × List ℕ). Front bytes (sub_bytes y.0) y.1 × IsNewSub y.0) (ok_is made x k.2)
+      subst (λ (y : Sub × List ℕ). Front bytes (sub_record y.0) y.1 × IsNewSub y.0) (ok_is made x k.2)
       (all, record { named = omega (arith, fa.1); start = omega (arith, fb.1); from_one = fp.1.0; to_four = fp.1.1; rate = fk.1 });
   again = λ s rest is.
       rw (
@@ -181,7 +181,7 @@ new_sub_reading total = record {
       ) refl;
 }
 
-pub new_packet_reading : (total : ℕ) → IsReading (new_packet_at total) packet_bytes IsNewPacket
+pub new_packet_reading : (total : ℕ) → IsReading (new_packet_at total) packet_record IsNewPacket
 unfolding new_packet_at
 new_packet_reading total = record {
   front = λ bytes x fits e.
@@ -193,14 +193,14 @@ new_packet_reading total = record {
       let ft = (byte_reading total 63).front b.0.1 t.0 fb.0.rest_fits t.1 in
       let s = bind_ok (sub_id_at total t.0.1) _ x t.2 in
       let fs = (byte_reading total 63).front t.0.1 s.0 ft.0.rest_fits s.1 in
-      let w = bind_ok (word_at s.0.1) _ x s.2 in
+      let w = bind_ok (any_word s.0.1) _ x s.2 in
       let fw = word_reading.front s.0.1 w.0 fs.0.rest_fits w.1 in
       let made : Packet × List ℕ = (record { scid = a.0.0; dg = b.0.0; ty = t.0.0; sub = s.0.0; address = w.0.0 }, w.0.1) in
       let ab = front_then bytes (word_bytes a.0.0) a.0.1 (flag_of b.0.0) b.0.1 fa.0 fb.0 in
       let abt = front_then bytes (word_bytes a.0.0 ++ flag_of b.0.0) b.0.1 (byte_of t.0.0) t.0.1 ab ft.0 in
       let abts = front_then bytes ((word_bytes a.0.0 ++ flag_of b.0.0) ++ byte_of t.0.0) t.0.1 (byte_of s.0.0) s.0.1 abt fs.0 in
       let all = front_then bytes (((word_bytes a.0.0 ++ flag_of b.0.0) ++ byte_of t.0.0) ++ byte_of s.0.0) s.0.1 (word_bytes w.0.0) w.0.1 abts fw.0 in
-      subst (λ (y : Packet × List ℕ). Front bytes (packet_bytes y.0) y.1 × IsNewPacket y.0) (ok_is made x w.2)
+      subst (λ (y : Packet × List ℕ). Front bytes (packet_record y.0) y.1 × IsNewPacket y.0) (ok_is made x w.2)
       (all, record { named = omega (arith, fa.1); typed = omega (arith, ft.1); carried = omega (arith, fs.1); to_last = fw.1 });
   again = λ p rest is.
       rw (

@@ -12,8 +12,8 @@ use Rattle.plan_code.specs.declared.fault.CodeFault.TheVariants.{Magic, Version,
 use Rattle.plan_code.specs.Program.{Program, label_key}
 use Rattle.plan_code.specs.Spelling.{magic}
 use Rattle.plan_code.specs.Parts.{label_from, line_from}
-use Rattle.plan_code.specs.Reading.{Parses, ◌>>=◌, refuse, read_from, in_file, magic_at, mode_in, mode_at, plan_at, count_at, config_in, line_in, labels_in, items_at, Header, header_at, program_at, code_of}
-use Rattle.plan_code.specs.Faults.{HasFault}
+use Rattle.plan_code.specs.Reading.{Parses, ◌>>=◌, refuse_code, read_from, in_file, magic_at, mode_in, mode_at, plan_at, count_at, config_in, line_in, labels_in, items_at, Header, header_at, program_at, code_of}
+use Rattle.plan_code.specs.Faults.{HasCodeFault}
 use Rattle.plan_code.specs.FileFaults.{TruncatedBeforePlaces}
 use Rattle.plan_code.proofs.PlacedParts.{placed_label, placed_line}
 use Rattle.plan_code.proofs.SteadyFiles.{file_faults_are_first}
@@ -45,7 +45,7 @@ ends_bind : {A : Type 0} (total : ℕ) (r : Parses A) (f : A × List ℕ → Res
 ends_bind total (Ok x) f here there = there x.0 x.1 here
 ends_bind total (Err e) f here there = here
 
-stands_refuse : {T : Type 0} (total : ℕ) (test : Bool) (fault : CodeFault) (k : Parses T) → IsWithin total fault → Stands total k → Stands total (refuse test fault >>= λ _. k)
+stands_refuse : {T : Type 0} (total : ℕ) (test : Bool) (fault : CodeFault) (k : Parses T) → IsWithin total fault → Stands total k → Stands total (refuse_code test fault >>= λ _. k)
 stands_refuse total true fault k within rest = within
 stands_refuse total false fault k within rest = rest
 
@@ -132,7 +132,7 @@ stands_program total header bytes some left =
 
 -- ---- the file
 
-ended : (total : ℕ) (p : Program) (test : Bool) → EndsWithin total (refuse test Trailing >>= λ _. Ok p)
+ended : (total : ℕ) (p : Program) (test : Bool) → EndsWithin total (refuse_code test Trailing >>= λ _. Ok p)
 ended total p true = tt
 ended total p false = tt
 
@@ -147,12 +147,12 @@ none_read : code_of [] ≡ Err Truncated
 unfolding code_of header_at
 none_read = refl
 
-field_in : (bytes : List ℕ) (p : ℕ) → HasFault bytes (Field p) → p < length bytes
+field_in : (bytes : List ℕ) (p : ℕ) → HasCodeFault bytes (Field p) → p < length bytes
 field_in [] p fault = let truncated = none_read in absurd (cc)
 field_in (b ∷ rest) p fault = subst (λ (r : Result Program CodeFault). EndsWithin (length (b ∷ rest)) r) fault (within_code (b ∷ rest) (omega arith))
 
 -- a fault cannot be met before its place
-truncated_by : (bytes : List ℕ) (p : ℕ) → p < length bytes → HasFault (take p bytes) Truncated ⊎ HasFault (take p bytes) (Field p) → HasFault (take p bytes) Truncated
+truncated_by : (bytes : List ℕ) (p : ℕ) → p < length bytes → HasCodeFault (take p bytes) Truncated ⊎ HasCodeFault (take p bytes) (Field p) → HasCodeFault (take p bytes) Truncated
 truncated_by bytes p within (inl truncated) = truncated
 truncated_by bytes p within (inr field) = absurd (omega (arith, field_in (take p bytes) p field, length-take-le p bytes (omega (arith, within))))
 

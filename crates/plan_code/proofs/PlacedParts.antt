@@ -8,7 +8,7 @@ use Rattle.mux_config.specs.FieldReading.{Reads, ◌>>=◌, place, number_at}
 use Rattle.byte_fields.proofs.PlacedFields.{Placed, placed_bind, placed_byte, placed_number, placed_judged, placed_byte_within, placed_word_within, placed_flag, placed_protection, placed_sid, placed_component}
 use Rattle.plan_code.specs.declared.opcode.Opcode.{Opcode}
 use Rattle.plan_code.specs.Opcodes.{opcode_of}
-use Rattle.plan_code.specs.Parts.{bounds_of, swap_at, label_from, day_frame_at, new_sub_at, new_packet_at, carrier_of_kind, carrier_at, add_sub_at, drop_sub_at, move_sub_at, rate_sub_at, add_service_at, drop_service_at, add_component_at, drop_component_at, add_packet_at, drop_packet_at, wait_at, until_at, wait_contact_at, commit_in_at, commit_at_at, test_at, jump_at, set_at, loop_at, opcode_at, edited, instr_of, instr_from, line_from}
+use Rattle.plan_code.specs.Parts.{bounds_of, swap_at, label_from, day_frame_at, new_sub_at, new_packet_at, carrier_of_kind, carrier_at, add_sub_at, drop_sub_at, move_sub_at, rate_sub_at, add_service_at, drop_service_at, add_component_at, drop_component_at, add_packet_at, drop_packet_at, wait_at, until_at, wait_contact_at, commit_in_at, commit_at_at, test_at, jump_at, set_at, loop_at, opcode_at, edit_instr, instr_of, instr_from, line_from}
 use Rattle.plan_code.proofs.OpcodeLaws.{taken}
 
 -- ---- labels
@@ -72,7 +72,7 @@ placed_day_frame total [] left = tt
 placed_day_frame total (b ∷ bytes) left =
     placed_bind total (number_at w32 (b ∷ bytes)) _ (placed_number total w32 (b ∷ bytes) left) (λ n rest after. placed_judged total (place total (b ∷ bytes)) 0 3599999 n rest (omega (arith, left)) after)
 
-placed_edited : (total : ℕ) (read : Reads Edit) → Placed total read → Placed total (edited read)
+placed_edited : (total : ℕ) (read : Reads Edit) → Placed total read → Placed total (edit_instr read)
 placed_edited total read here = placed_bind total read _ here (λ edit rest after. after)
 
 placed_operands : (total : ℕ) (opcode : Opcode) (bytes : List ℕ) → length bytes ≤ total → Placed total (instr_of total opcode bytes)

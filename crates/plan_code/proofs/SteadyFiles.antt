@@ -12,7 +12,7 @@ use Rattle.plan_code.specs.declared.fault.CodeFault.TheVariants.{Magic, Version,
 use Rattle.plan_code.specs.Program.{Program, IsProgram, label_key}
 use Rattle.plan_code.specs.Spelling.{magic, code_bytes}
 use Rattle.plan_code.specs.Parts.{label_from}
-use Rattle.plan_code.specs.Reading.{Parses, ◌>>=◌, refuse, read_from, in_file, magic_at, mode_in, mode_at, plan_at, count_at, config_in, line_in, items_at, Header, header_at, program_at, code_of}
+use Rattle.plan_code.specs.Reading.{Parses, ◌>>=◌, refuse_code, read_from, in_file, magic_at, mode_in, mode_at, plan_at, count_at, config_in, line_in, items_at, Header, header_at, program_at, code_of}
 use Rattle.plan_code.specs.FileFaults.{CutsAreTruncated, FileFaultsStay, FileFaultsAreFirst}
 use Rattle.plan_code.proofs.SteadyParts.{goes_label, goes_line}
 use Rattle.plan_code.proofs.FileLaws.{code_again}
@@ -50,7 +50,7 @@ runs_fault T more Limit g e = ap Err (sym e)
 runs_fault T more Trailing g e = ap Err (sym e)
 runs_fault T more Memory g e = ap Err (sym e)
 
-runs_refuse : {T : Type 0} (more : List ℕ) (test : Bool) (f g : CodeFault) (k l : Parses T) → f ≡ g → Runs more k l → Runs more (refuse test f >>= λ _. k) (refuse test g >>= λ _. l)
+runs_refuse : {T : Type 0} (more : List ℕ) (test : Bool) (f g : CodeFault) (k l : Parses T) → f ≡ g → Runs more k l → Runs more (refuse_code test f >>= λ _. k) (refuse_code test g >>= λ _. l)
 runs_refuse more true f g k l e h = runs_fault _ more f g e
 runs_refuse more false f g k l e h = h
 
@@ -149,14 +149,14 @@ ends_bind more (Err Trailing) s k l h f = ap (λ t. t >>= l) h
 ends_bind more (Err Memory) s k l h f = ap (λ t. t >>= l) h
 
 -- bytes that are left over are too many
-refused : (p : Program) (n : ℕ) → 0 < n → (refuse (not (eqb n 0)) Trailing >>= λ _. Ok p) ≡ Err Trailing
-refused p n some = ap (λ (t : Bool). refuse (not t) Trailing >>= λ _. Ok p) (ne_eqb n 0 (λ e. omega (arith, e, some)))
+refused : (p : Program) (n : ℕ) → 0 < n → (refuse_code (not (eqb n 0)) Trailing >>= λ _. Ok p) ≡ Err Trailing
+refused p n some = ap (λ (t : Bool). refuse_code (not t) Trailing >>= λ _. Ok p) (ne_eqb n 0 (λ e. omega (arith, e, some)))
 
-ended : (p : Program) (more rest : List ℕ) → Ends more (refuse (not (eqb (length rest) 0)) Trailing >>= λ _. Ok p) (refuse (not (eqb (length (rest ++ more)) 0)) Trailing >>= λ _. Ok p)
+ended : (p : Program) (more rest : List ℕ) → Ends more (refuse_code (not (eqb (length rest) 0)) Trailing >>= λ _. Ok p) (refuse_code (not (eqb (length (rest ++ more)) 0)) Trailing >>= λ _. Ok p)
 ended p [] [] = λ some. absurd (some refl)
 ended p (m ∷ more) [] = λ some. refused p (length (m ∷ more)) (omega arith)
 ended p more (b ∷ rest) =
-    subst (λ r. Ends more r (refuse (not (eqb (length (b ∷ rest ++ more)) 0)) Trailing >>= λ _. Ok p))
+    subst (λ r. Ends more r (refuse_code (not (eqb (length (b ∷ rest ++ more)) 0)) Trailing >>= λ _. Ok p))
     (sym (refused p (length (b ∷ rest)) (omega arith))) (refused p (length (b ∷ rest ++ more)) (omega arith))
 
 ends_code : (bytes more : List ℕ) → Ends more (code_of bytes) (code_of (bytes ++ more))

@@ -9,7 +9,7 @@ use Rattle.mux_config.specs.FieldReading.{Reads, ◌>>=◌}
 use Rattle.byte_fields.proofs.SteadyFields.{Goes, goes_bind, goes_fault, place_same, goes_byte, goes_number, goes_judged, goes_byte_within, goes_word_within, goes_flag, goes_protection, goes_sid, goes_component}
 use Rattle.plan_code.specs.declared.opcode.Opcode.{Opcode}
 use Rattle.plan_code.specs.Opcodes.{opcode_of}
-use Rattle.plan_code.specs.Parts.{bounds_of, swap_at, label_from, day_frame_at, new_sub_at, new_packet_at, carrier_of_kind, carrier_at, add_sub_at, drop_sub_at, move_sub_at, rate_sub_at, add_service_at, drop_service_at, add_component_at, drop_component_at, add_packet_at, drop_packet_at, wait_at, until_at, wait_contact_at, commit_in_at, commit_at_at, test_at, jump_at, set_at, loop_at, opcode_at, edited, instr_of, instr_from, line_from}
+use Rattle.plan_code.specs.Parts.{bounds_of, swap_at, label_from, day_frame_at, new_sub_at, new_packet_at, carrier_of_kind, carrier_at, add_sub_at, drop_sub_at, move_sub_at, rate_sub_at, add_service_at, drop_service_at, add_component_at, drop_component_at, add_packet_at, drop_packet_at, wait_at, until_at, wait_contact_at, commit_in_at, commit_at_at, test_at, jump_at, set_at, loop_at, opcode_at, edit_instr, instr_of, instr_from, line_from}
 use Rattle.plan_code.proofs.OpcodeLaws.{taken}
 
 -- ---- labels
@@ -71,7 +71,7 @@ goes_carrier total bytes more = goes_bind more _ _ _ _ (goes_byte_within total 0
 goes_day_frame : (total : ℕ) (bytes more : List ℕ) → Goes more (day_frame_at total bytes) (day_frame_at (total + length more) (bytes ++ more))
 goes_day_frame total bytes more = goes_bind more _ _ _ _ (goes_number w32 bytes more) (λ n rest. goes_judged more _ _ 0 3599999 n rest (place_same total bytes more))
 
-goes_edited : (more : List ℕ) (r s : Reads Edit) → Goes more r s → Goes more (edited r) (edited s)
+goes_edited : (more : List ℕ) (r s : Reads Edit) → Goes more r s → Goes more (edit_instr r) (edit_instr s)
 goes_edited more r s h = goes_bind more r s _ _ h (λ edit rest. refl)
 
 goes_operands : (total : ℕ) (opcode : Opcode) (bytes more : List ℕ) → Goes more (instr_of total opcode bytes) (instr_of (total + length more) opcode (bytes ++ more))

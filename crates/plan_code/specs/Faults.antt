@@ -14,17 +14,17 @@ abbrev pub IsNoFile : List ℕ → Type 0
 IsNoFile bytes = (p : Program) → IsProgram p → bytes ≡ code_bytes p → ⊥
 
 -- the first fault that is met from the front
-abbrev pub HasFault : List ℕ → CodeFault → Type 0
-HasFault bytes fault = code_of bytes ≡ Err fault
+abbrev pub HasCodeFault : List ℕ → CodeFault → Type 0
+HasCodeFault bytes fault = code_of bytes ≡ Err fault
 
 -- there is one fault at most
 abbrev pub HasOneFault : Type 0
-HasOneFault = (bytes : List ℕ) (f g : CodeFault) → HasFault bytes f → HasFault bytes g → f ≡ g
+HasOneFault = (bytes : List ℕ) (f g : CodeFault) → HasCodeFault bytes f → HasCodeFault bytes g → f ≡ g
 
 -- there is one exactly where there is no code
 abbrev pub HasFaultWithoutCode : Type 0
-HasFaultWithoutCode = (bytes : List ℕ) → AreBytes bytes → ((f : CodeFault) × HasFault bytes f) ↔ IsNoFile bytes
+HasFaultWithoutCode = (bytes : List ℕ) → AreBytes bytes → ((f : CodeFault) × HasCodeFault bytes f) ↔ IsNoFile bytes
 
 -- want of memory is none of the bytes' faults
 abbrev pub BytesLackNoMemory : Type 0
-BytesLackNoMemory = (bytes : List ℕ) → HasFault bytes Memory → ⊥
+BytesLackNoMemory = (bytes : List ℕ) → HasCodeFault bytes Memory → ⊥

@@ -4,28 +4,28 @@ use Rattle.plan_code.specs.declared.fault.CodeFault.{CodeFault}
 use Rattle.plan_code.specs.declared.fault.CodeFault.TheVariants.{Truncated, Field, Trailing}
 use Rattle.plan_code.specs.Program.{Program, IsProgram}
 use Rattle.plan_code.specs.Spelling.{code_bytes}
-use Rattle.plan_code.specs.Faults.{HasFault, IsNoFile}
+use Rattle.plan_code.specs.Faults.{HasCodeFault, IsNoFile}
 
 -- a code file that is cut off, wherever that is, is truncated
 abbrev pub CutsAreTruncated : Type 0
-CutsAreTruncated = (p : Program) (n : ℕ) → IsProgram p → n < length (code_bytes p) → HasFault (take n (code_bytes p)) Truncated
+CutsAreTruncated = (p : Program) (n : ℕ) → IsProgram p → n < length (code_bytes p) → HasCodeFault (take n (code_bytes p)) Truncated
 
 -- any other fault lies in the bytes that were read: it stays whatever follows them, and nothing that begins with them
 -- is a code file
 abbrev pub FileFaultsStay : Type 0
 FileFaultsStay =
-    (bytes more : List ℕ) (fault : CodeFault) → HasFault bytes fault → fault ≢ Truncated
-    → HasFault (bytes ++ more) fault × IsNoFile (bytes ++ more)
+    (bytes more : List ℕ) (fault : CodeFault) → HasCodeFault bytes fault → fault ≢ Truncated
+    → HasCodeFault (bytes ++ more) fault × IsNoFile (bytes ++ more)
 
 -- and it is the first one: what comes before it is truncated, or has it too; only that bytes are left over is seen at
 -- the end
 abbrev pub FileFaultsAreFirst : Type 0
 FileFaultsAreFirst =
-    (bytes : List ℕ) (n : ℕ) (fault : CodeFault) → HasFault bytes fault → fault ≢ Trailing
-    → HasFault (take n bytes) Truncated ⊎ HasFault (take n bytes) fault
+    (bytes : List ℕ) (n : ℕ) (fault : CodeFault) → HasCodeFault bytes fault → fault ≢ Trailing
+    → HasCodeFault (take n bytes) Truncated ⊎ HasCodeFault (take n bytes) fault
 
 -- the place of a field that is at fault is the number of one of the bytes, from 0, and the bytes before it are
 -- truncated: none of their fields is at fault
 abbrev pub TruncatedBeforePlaces : Type 0
 TruncatedBeforePlaces =
-    (bytes : List ℕ) (place : ℕ) → HasFault bytes (Field place) → (place < length bytes) × HasFault (take place bytes) Truncated
+    (bytes : List ℕ) (place : ℕ) → HasCodeFault bytes (Field place) → (place < length bytes) × HasCodeFault (take place bytes) Truncated

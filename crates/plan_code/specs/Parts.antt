@@ -75,8 +75,8 @@ abbrev pub start_at : (total : ℕ) → List ℕ → Reads ℕ
 start_at total bytes = word_within total 0 1023 bytes
 
 -- any number of two bytes
-abbrev pub word_at : List ℕ → Reads ℕ
-word_at bytes = number_at w16 bytes
+abbrev pub any_word : List ℕ → Reads ℕ
+any_word bytes = number_at w16 bytes
 
 -- 1 or more
 abbrev pub times_at : (total : ℕ) → List ℕ → Reads ℕ
@@ -93,7 +93,7 @@ new_sub_at total bytes = do
   id ← sub_id_at total bytes
   start ← start_at total id.1
   protection ← protection_at total start.1
-  kbits ← word_at protection.1
+  kbits ← any_word protection.1
   Ok (record { id = id.0; start = start.0; protection = protection.0; kbits = kbits.0 }, kbits.1)
 
 unfoldable pub new_packet_at : (total : ℕ) → List ℕ → Reads Packet
@@ -102,7 +102,7 @@ new_packet_at total bytes = do
   dg ← flag_at total scid.1
   ty ← type_at total dg.1
   sub ← sub_id_at total ty.1
-  address ← word_at sub.1
+  address ← any_word sub.1
   Ok (record { scid = scid.0; dg = dg.0; ty = ty.0; sub = sub.0; address = address.0 }, address.1)
 
 -- a sub-channel as a carrier: its identifier in two bytes
@@ -139,7 +139,7 @@ move_sub_at total bytes = do
 unfoldable pub rate_sub_at : (total : ℕ) → List ℕ → Reads Edit
 rate_sub_at total bytes = do
   id ← sub_id_at total bytes
-  kbits ← word_at id.1
+  kbits ← any_word id.1
   Ok (RateSub id.0 kbits.0, kbits.1)
 
 unfoldable pub add_service_at : (total : ℕ) → List ℕ → Reads Edit
@@ -199,18 +199,18 @@ commit_in_at total bytes = do
 
 unfoldable pub commit_at_at : List ℕ → Reads Instr
 commit_at_at bytes = do
-  count ← word_at bytes
+  count ← any_word bytes
   Ok (CommitAt count.0, count.1)
 
 unfoldable pub test_at : (total : ℕ) → List ℕ → Reads Instr
 test_at total bytes = do
   contact ← contact_at total bytes
-  target ← word_at contact.1
+  target ← any_word contact.1
   Ok (Test contact.0 target.0, target.1)
 
 unfoldable pub jump_at : List ℕ → Reads Instr
 jump_at bytes = do
-  target ← word_at bytes
+  target ← any_word bytes
   Ok (Jump target.0, target.1)
 
 unfoldable pub set_at : (total : ℕ) → List ℕ → Reads Instr
@@ -222,7 +222,7 @@ set_at total bytes = do
 unfoldable pub loop_at : (total : ℕ) → List ℕ → Reads Instr
 loop_at total bytes = do
   counter ← counter_at total bytes
-  target ← word_at counter.1
+  target ← any_word counter.1
   Ok (Loop counter.0 target.0, target.1)
 
 -- ---- any instruction, and its line
@@ -234,8 +234,8 @@ opcode_at total bytes = do
   Ok (opcode, byte.1)
 
 -- an edit as an instruction
-abbrev pub edited : Reads Edit → Reads Instr
-edited read = read >>= λ edit. Ok (Edits edit.0, edit.1)
+abbrev pub edit_instr : Reads Edit → Reads Instr
+edit_instr read = read >>= λ edit. Ok (Edits edit.0, edit.1)
 
 -- an instruction, after its opcode
 unfoldable pub instr_of : (total : ℕ) → Opcode → List ℕ → Reads Instr
@@ -247,16 +247,16 @@ instr_of total Opcode.CommitAt bytes = commit_at_at bytes
 instr_of total Opcode.Join bytes = Ok (Join, bytes)
 instr_of total Opcode.End bytes = Ok (End, bytes)
 instr_of total Opcode.Settle bytes = Ok (Settle, bytes)
-instr_of total Opcode.AddSub bytes = edited (add_sub_at total bytes)
-instr_of total Opcode.DropSub bytes = edited (drop_sub_at total bytes)
-instr_of total Opcode.MoveSub bytes = edited (move_sub_at total bytes)
-instr_of total Opcode.RateSub bytes = edited (rate_sub_at total bytes)
-instr_of total Opcode.AddService bytes = edited (add_service_at total bytes)
-instr_of total Opcode.DropService bytes = edited (drop_service_at total bytes)
-instr_of total Opcode.AddComponent bytes = edited (add_component_at total bytes)
-instr_of total Opcode.DropComponent bytes = edited (drop_component_at total bytes)
-instr_of total Opcode.AddPacket bytes = edited (add_packet_at total bytes)
-instr_of total Opcode.DropPacket bytes = edited (drop_packet_at total bytes)
+instr_of total Opcode.AddSub bytes = edit_instr (add_sub_at total bytes)
+instr_of total Opcode.DropSub bytes = edit_instr (drop_sub_at total bytes)
+instr_of total Opcode.MoveSub bytes = edit_instr (move_sub_at total bytes)
+instr_of total Opcode.RateSub bytes = edit_instr (rate_sub_at total bytes)
+instr_of total Opcode.AddService bytes = edit_instr (add_service_at total bytes)
+instr_of total Opcode.DropService bytes = edit_instr (drop_service_at total bytes)
+instr_of total Opcode.AddComponent bytes = edit_instr (add_component_at total bytes)
+instr_of total Opcode.DropComponent bytes = edit_instr (drop_component_at total bytes)
+instr_of total Opcode.AddPacket bytes = edit_instr (add_packet_at total bytes)
+instr_of total Opcode.DropPacket bytes = edit_instr (drop_packet_at total bytes)
 instr_of total Opcode.Test bytes = test_at total bytes
 instr_of total Opcode.Jump bytes = jump_at bytes
 instr_of total Opcode.Set bytes = set_at total bytes
@@ -269,6 +269,6 @@ instr_from total bytes = do
 
 unfoldable pub line_from : (total : ℕ) → List ℕ → Reads Line
 line_from total bytes = do
-  number ← word_at bytes
+  number ← any_word bytes
   instr ← instr_from total number.1
   Ok (record { number = number.0; instr = instr.0 }, instr.1)

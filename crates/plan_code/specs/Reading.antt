@@ -27,8 +27,8 @@ abbrev pub ◌>>=◌ : {A B : Type 0} → Result A CodeFault → (A → Result B
 (Ok x) >>= f = f x
 (Err e) >>= f = Err e
 
-abbrev pub refuse : Bool → CodeFault → Result (Unit {0}) CodeFault
-refuse test fault = if test then Err fault else Ok tt
+abbrev pub refuse_code : Bool → CodeFault → Result (Unit {0}) CodeFault
+refuse_code test fault = if test then Err fault else Ok tt
 
 -- the fault of a part that begins at `start`: the places of its fields are counted from there, and an
 -- identifier out of order is a fault of the whole part
@@ -67,7 +67,7 @@ GivesNext view (Err fault) left read = Fails fault read
 abbrev pub magic_at : List ℕ → Parses ℕ
 magic_at bytes = do
   letters ← in_file (number_at w32 bytes)
-  known ← refuse (not (letters.0 == magic)) Magic
+  known ← refuse_code (not (letters.0 == magic)) Magic
   Ok letters
 
 -- modes II to IV by their numbers
@@ -99,8 +99,8 @@ plan_at total bytes = do
 abbrev pub count_at : (total limit : ℕ) → List ℕ → Parses ℕ
 count_at total limit bytes = do
   number ← in_file (number_at w16 bytes)
-  some ← refuse (number.0 == 0) (Field (place total bytes))
-  few ← refuse (nat_lt limit number.0) Limit
+  some ← refuse_code (number.0 == 0) (Field (place total bytes))
+  few ← refuse_code (nat_lt limit number.0) Limit
   Ok number
 
 pub record Header : Type 0 where
@@ -149,5 +149,5 @@ unfoldable pub code_of : List ℕ → Result Program CodeFault
 code_of bytes = do
   header ← header_at (length bytes) bytes
   program ← program_at (length bytes) header.0 header.1
-  ended ← refuse (not (length program.1 == 0)) Trailing
+  ended ← refuse_code (not (length program.1 == 0)) Trailing
   Ok program.0

@@ -2,8 +2,8 @@
 use Rattle.std.specs.Prelude.{ℕ, List, [], ◌∷◌, ◌++◌, length}
 use Rattle.std.specs.Int.{w32, to_be_bytes}
 use Rattle.std.specs.List.{flat_map}
-use Rattle.mux_config.specs.FieldSpelling.{word_bytes, flag_byte, sid_bytes, component_bytes}
-use Rattle.mux_config.specs.Spelling.{sub_bytes, packet_bytes, config_bytes}
+use Rattle.mux_config.specs.FieldSpelling.{word_bytes, flag_byte, sid_field, component_bytes}
+use Rattle.mux_config.specs.Spelling.{sub_record, packet_record, config_bytes}
 use Rattle.mux_types.specs.declared.parts.Carrier.{Carrier}
 use Rattle.mux_types.specs.declared.parts.Carrier.TheVariants.{Sub as BySub, Packet as ByPacket}
 use Rattle.mux_config.specs.declared.edit.Edit.{Edit}
@@ -58,15 +58,15 @@ carrier_bytes (ByPacket scid) = 1 ∷ word_bytes scid
 
 -- an instruction: its opcode, and its operands
 abbrev pub edit_bytes : Edit → List ℕ
-edit_bytes (AddSub s) = opcode_byte Opcode.AddSub ∷ sub_bytes s
+edit_bytes (AddSub s) = opcode_byte Opcode.AddSub ∷ sub_record s
 edit_bytes (DropSub id) = opcode_byte Opcode.DropSub ∷ id ∷ []
 edit_bytes (MoveSub id start) = opcode_byte Opcode.MoveSub ∷ id ∷ word_bytes start
 edit_bytes (RateSub id kbits) = opcode_byte Opcode.RateSub ∷ id ∷ word_bytes kbits
-edit_bytes (AddService sid) = opcode_byte Opcode.AddService ∷ sid_bytes sid
-edit_bytes (DropService sid) = opcode_byte Opcode.DropService ∷ sid_bytes sid
-edit_bytes (AddComponent sid m) = opcode_byte Opcode.AddComponent ∷ sid_bytes sid ++ component_bytes m
-edit_bytes (DropComponent sid carrier) = opcode_byte Opcode.DropComponent ∷ sid_bytes sid ++ carrier_bytes carrier
-edit_bytes (AddPacket p) = opcode_byte Opcode.AddPacket ∷ packet_bytes p
+edit_bytes (AddService sid) = opcode_byte Opcode.AddService ∷ sid_field sid
+edit_bytes (DropService sid) = opcode_byte Opcode.DropService ∷ sid_field sid
+edit_bytes (AddComponent sid m) = opcode_byte Opcode.AddComponent ∷ sid_field sid ++ component_bytes m
+edit_bytes (DropComponent sid carrier) = opcode_byte Opcode.DropComponent ∷ sid_field sid ++ carrier_bytes carrier
+edit_bytes (AddPacket p) = opcode_byte Opcode.AddPacket ∷ packet_record p
 edit_bytes (DropPacket scid) = opcode_byte Opcode.DropPacket ∷ word_bytes scid
 
 abbrev pub instr_bytes : Instr → List ℕ

@@ -3,7 +3,7 @@
 ghost use Rattle.std.specs.Prelude.{◌≡◌, ℕ, ◌++◌, ◌∷◌, [], List, length, Ok, OnOk, IfOk};
 ghost use Rattle.std.specs.List.{flat_map};
 ghost use Rattle.mux_config.specs.FieldSpelling.{word_bytes};
-ghost use Rattle.mux_config.specs.Spelling.{sub_bytes, packet_bytes, config_bytes};
+ghost use Rattle.mux_config.specs.Spelling.{sub_record, packet_record, config_bytes};
 ghost use Rattle.plan_code.specs.Opcodes.{opcode_byte};
 ghost use Rattle.plan_code.specs.Program.{IsProgram};
 ghost use Rattle.plan_code.specs.Spelling.{mode_bytes, plan_bytes, header_bytes, swap_bytes, label_bytes, carrier_bytes, edit_bytes, instr_bytes, line_bytes, code_bytes};
@@ -65,7 +65,7 @@ fn put_swap(out: &mut Vec<u8>, swap: Swap) -> Result<(), AllocError>
 }
 
 fn put_new_sub(out: &mut Vec<u8>, new_sub: NewSub) -> Result<(), AllocError>
-    ensures { OnOk result (out.new.items ≡ out.old.items ++ sub_bytes new_sub) }
+    ensures { OnOk result (out.new.items ≡ out.old.items ++ sub_record new_sub) }
 {
     let sub = new_sub.get();
     out.push(sub.id.get())?;
@@ -75,7 +75,7 @@ fn put_new_sub(out: &mut Vec<u8>, new_sub: NewSub) -> Result<(), AllocError>
 }
 
 fn put_new_packet(out: &mut Vec<u8>, packet: Packet) -> Result<(), AllocError>
-    ensures { OnOk result (out.new.items ≡ out.old.items ++ packet_bytes packet) }
+    ensures { OnOk result (out.new.items ≡ out.old.items ++ packet_record packet) }
 {
     put_u16(out, packet.scid.get())?;
     out.extend_from_slice(&[u8::from(packet.dg), packet.ty.get(), packet.sub.get()])?;

@@ -2,9 +2,9 @@
 use Rattle.std.proofs.Common.{rules, ◌≡◌, ℕ, zero, suc, ◌≤◌, ◌%◌, ◌==◌, Bool, true, false, if◌then◌else◌, List, [], ◌∷◌, map, Contains, Option, Some, None, refl, sym, ap, subst, ◌∙◌, arith}
 use Rattle.std.proofs.Math.Dec.{eqb-suc-zero}
 use Rattle.mux_config.specs.Configuration.{Each}
-use Rattle.mux_config.specs.Entries.{EnsembleInformation}
-use Rattle.mux_config.specs.Facts.{marked}
-use Rattle.mux_config.specs.declared.entry.Entry.TheVariants.{Ensemble as EnsembleOf}
+use Rattle.mux_entries.specs.Entries.{EnsembleInformation}
+use Rattle.mux_entries.specs.Facts.{marked}
+use Rattle.mux_entries.specs.declared.entry.Entry.TheVariants.{Ensemble as EnsembleOf}
 use Rattle.fib_codec.specs.declared.modes.Mode.{Mode}
 use Rattle.fib_codec.specs.declared.modes.Mode.TheVariants.{I, II, III, IV}
 use Rattle.fib_codec.specs.Modes.{fib_count, count_step}

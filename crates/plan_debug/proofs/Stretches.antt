@@ -12,7 +12,7 @@ use Rattle.plan_player.specs.Playing.{Playing, played}
 use Rattle.plan_player.proofs.Delivering.{played_join}
 use Rattle.plan_debug.specs.declared.announcement.Announcement.{Announcement}
 use Rattle.plan_events.specs.declared.command.Command.{Command}
-use Rattle.plan_debug.specs.Announcements.{announced, listed, frame_announcement}
+use Rattle.plan_debug.specs.Announcements.{announced, announcement_list, frame_announcement}
 use Rattle.plan_debug.specs.Commands.{frames, after_frames, most_frames, Ends, EndsAt, last_bytes}
 use Rattle.plan_debug.proofs.Lasts.{kept_again, kept_more}
 
@@ -24,8 +24,8 @@ announced_join : (p : Program) (s : State) (events more : List Event) → announ
 announced_join p s [] more = refl
 announced_join p s (Contact c closed ∷ es) more = announced_join p (happens p s (Contact c closed)) es more
 announced_join p s (Frame ∷ es) more =
-    ap (λ (l : List Announcement). listed (frame_announcement p s) ++ l) (announced_join p (after_frame p s) es more)
-    ∙ sym (append_assoc (listed (frame_announcement p s)) (announced p (after_frame p s) es) (announced p (run p (after_frame p s) es) more))
+    ap (λ (l : List Announcement). announcement_list (frame_announcement p s) ++ l) (announced_join p (after_frame p s) es more)
+    ∙ sym (append_assoc (announcement_list (frame_announcement p s)) (announced p (after_frame p s) es) (announced p (run p (after_frame p s) es) more))
 
 -- ---- this many frames of a command were played
 

@@ -1,6 +1,6 @@
 -- Announcements: the FIG 0/0 with change flags that the frames of a run send (EN 300 401 clause 6.4).
 use Rattle.std.specs.Prelude.{ℕ, ◌==◌, if◌then◌else◌, List, [], ◌∷◌, ◌++◌, Option, Some, None}
-use Rattle.mux_config.specs.Entries.{EnsembleInformation}
+use Rattle.mux_entries.specs.Entries.{EnsembleInformation}
 use Rattle.plan_code.specs.declared.plan.Plan.{Plan}
 use Rattle.plan_code.specs.Program.{Program}
 use Rattle.plan_code.specs.Machine.{State}
@@ -28,12 +28,12 @@ shown_announcement plan s = announced_by (ensemble_sent plan s)
 abbrev pub frame_announcement : Program → State → Option Announcement
 frame_announcement p s = shown_announcement p.plan (shown p s)
 
-abbrev pub listed : Option Announcement → List Announcement
-listed None = []
-listed (Some a) = a ∷ []
+abbrev pub announcement_list : Option Announcement → List Announcement
+announcement_list None = []
+announcement_list (Some a) = a ∷ []
 
 -- what the frames of these events announce, in order
 abbrev pub announced : Program → State → List Event → List Announcement
 announced p s [] = []
 announced p s (Contact c closed ∷ es) = announced p (happens p s (Contact c closed)) es
-announced p s (Frame ∷ es) = listed (frame_announcement p s) ++ announced p (after_frame p s) es
+announced p s (Frame ∷ es) = announcement_list (frame_announcement p s) ++ announced p (after_frame p s) es

@@ -30,13 +30,13 @@ abbrev pub after_frames : Program → State → ℕ → State
 after_frames p s n = run p s (frames n)
 
 -- what a command stands for, where it plays this many frames
-abbrev pub events_of : Command → ℕ → List Event
-events_of (Contact c closed) n = ContactEvent c closed ∷ []
-events_of (Run most) n = frames n
-events_of Next n = frames n
-events_of (Break line) n = frames n
-events_of Clear n = frames n
-events_of Show n = frames n
+abbrev pub events_of_command : Command → ℕ → List Event
+events_of_command (Contact c closed) n = ContactEvent c closed ∷ []
+events_of_command (Run most) n = frames n
+events_of_command Next n = frames n
+events_of_command (Break line) n = frames n
+events_of_command Clear n = frames n
+events_of_command Show n = frames n
 
 -- ---- how many frames
 
@@ -125,8 +125,8 @@ pub record Answers (before : Debugging) (command : Command) (after : Debugging) 
   pub count : IsCount before.player.code before.stop command before.player.state r.frames
   pub broke : IsTrue r.broke ↔ IsBroken before.player.code before.stop command before.player.state r.frames
   pub bytes : r.fibs ≡ last_bytes before.player.code before.player.state r.frames
-  pub player : after.player ≡ played before.player (events_of command r.frames)
+  pub player : after.player ≡ played before.player (events_of_command command r.frames)
   pub views : IsView after.player r
   pub stop : after.stop ≡ stop_after command before.stop
   pub announcements : after.announcements ≡ keep_last 64
-      (before.announcements ++ announced before.player.code before.player.state (events_of command r.frames))
+      (before.announcements ++ announced before.player.code before.player.state (events_of_command command r.frames))

@@ -7,7 +7,7 @@ ghost use Rattle.plan_runs.specs.declared.event.Event.TheVariants.{Frame};
 ghost use Rattle.plan_runs.specs.Frames.{frame_bytes};
 ghost use Rattle.plan_player.specs.Playing.{played};
 ghost use Rattle.plan_debug.specs.Announcements.{announced};
-ghost use Rattle.plan_debug.specs.Commands.{Ends, EndsAt, IsCount, IsBroken, IsView, events_of, most_frames, stop_after, last_bytes, frames};
+ghost use Rattle.plan_debug.specs.Commands.{Ends, EndsAt, IsCount, IsBroken, IsView, events_of_command, most_frames, stop_after, last_bytes, frames};
 
 use crate::announcement::Announcement;
 use crate::heard::announcement_in;
@@ -192,12 +192,12 @@ impl<'a, S: Store> Debugger<'a, S> {
         ensures bytes { let p = self.old.player in
             result.fibs ≡ last_bytes p.code p.state result.frames }
         ensures player { self.new.player
-            ≡ played self.old.player (events_of command result.frames) }
+            ≡ played self.old.player (events_of_command command result.frames) }
         ensures views { IsView self.new.player result }
         ensures stop { self.new.stop ≡ stop_after command self.old.stop }
         ensures announcements { let p = self.old.player in
             self.new.announcements ≡ keep_last 64 (self.old.announcements
-            ++ announced p.code p.state (events_of command result.frames)) }
+            ++ announced p.code p.state (events_of_command command result.frames)) }
     {
         match command {
             Command::Contact(contact, closed) => {

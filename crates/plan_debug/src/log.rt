@@ -2,7 +2,7 @@
 
 ghost use Rattle.std.specs.Prelude.{◌≡◌, ◌≤◌, IfOk, [], ◌∷◌, ◌++◌, length, slice_get};
 ghost use Rattle.circular_buffer.specs.Buffer.{keep_last};
-ghost use Rattle.plan_debug.specs.Announcements.{listed};
+ghost use Rattle.plan_debug.specs.Announcements.{announcement_list};
 
 use crate::announcement::Announcement;
 use circular_buffer::HeapCircularBuffer;
@@ -41,7 +41,7 @@ impl Log {
 
     /// Adds an announcement, where there is one; where 64 are there, the oldest goes.
     pub fn note(&mut self, announcement: Option<Announcement>)
-        ensures { self.new ≡ keep_last 64 (self.old ++ listed announcement) }
+        ensures { self.new ≡ keep_last 64 (self.old ++ announcement_list announcement) }
     {
         if let Some(announcement) = announcement {
             let _oldest = self.ring.push_back(announcement);

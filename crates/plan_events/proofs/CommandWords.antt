@@ -8,13 +8,13 @@ use Rattle.plan_events.specs.declared.command.Command.TheVariants.{Contact, Run,
 use Rattle.plan_events.specs.declared.commands.Keyword.{Keyword}
 use Rattle.plan_events.specs.declared.commands.Keyword.TheVariants.{Contact as ContactWord, Run as RunWord, Next as NextWord, Break as BreakWord, Clear as ClearWord, Show as ShowWord}
 use Rattle.plan_events.specs.Commands.{IsCommand, command_words, HoldsCommands, HoldsOneListOfCommands}
-use Rattle.plan_events.specs.Events.{level_word, words_of}
+use Rattle.plan_events.specs.Events.{contact_word, words_of_text}
 use Rattle.plan_events.specs.Words.{keyword_word}
-use Rattle.script_words.specs.declared.token.Inside.TheVariants.{Nothing}
-use Rattle.script_words.specs.declared.token.TheConstants.{NO_LIMITS}
-use Rattle.script_words.specs.declared.fault.ScriptFault.{ScriptFault}
-use Rattle.script_words.specs.Bytes.{first_place}
-use Rattle.script_words.specs.Lexing.{lexed}
+use Rattle.script_tokens.specs.declared.token.Inside.TheVariants.{Nothing}
+use Rattle.script_tokens.specs.declared.token.TheConstants.{NO_LIMITS}
+use Rattle.script_tokens.specs.declared.fault.ScriptFault.{ScriptFault}
+use Rattle.script_tokens.specs.Bytes.{first_place}
+use Rattle.script_tokens.specs.Lexing.{lexed}
 use Rattle.plan_events.proofs.Listed.{one_list}
 use Rattle.plan_events.proofs.Spelled.{head_told, level_told, same_tokens}
 
@@ -28,7 +28,7 @@ keyword_in Clear = ClearWord
 keyword_in Show = ShowWord
 
 abbrev pub tail_words : Command → List (List ℕ)
-tail_words (Contact c closed) = decimal c ∷ level_word closed ∷ []
+tail_words (Contact c closed) = decimal c ∷ contact_word closed ∷ []
 tail_words (Run n) = decimal n ∷ []
 tail_words Next = []
 tail_words (Break line) = decimal line ∷ []
@@ -75,7 +75,7 @@ told_by s t xs ys e =
 
 -- ---- one command
 
-same_contact : (c d : ℕ) (b e : Bool) (xs ys : List (List ℕ)) → c < 16 → d < 16 → decimal c ∷ level_word b ∷ xs ≡ decimal d ∷ level_word e ∷ ys → (Contact c b ≡ Contact d e) × (xs ≡ ys)
+same_contact : (c d : ℕ) (b e : Bool) (xs ys : List (List ℕ)) → c < 16 → d < 16 → decimal c ∷ contact_word b ∷ xs ≡ decimal d ∷ contact_word e ∷ ys → (Contact c b ≡ Contact d e) × (xs ≡ ys)
 same_contact c d b e xs ys h k same =
     let number = head_told _ _ _ _ same in
     let level = head_told _ _ _ _ number.1 in
@@ -145,4 +145,4 @@ holds_no_commands text fault commands e h = let cut = h.cut in absurd (cc)
 pub holds_one_list : HoldsOneListOfCommands
 holds_one_list text commands others h k =
     let same : h.tokens ≡ k.tokens = same_tokens text h.tokens k.tokens h.cut k.cut in
-    one_list command_words IsCommand one_command some_words commands others h.in_range k.in_range (sym h.spelled ∙ ap (words_of text) same ∙ k.spelled)
+    one_list command_words IsCommand one_command some_words commands others h.in_range k.in_range (sym h.spelled ∙ ap (words_of_text text) same ∙ k.spelled)

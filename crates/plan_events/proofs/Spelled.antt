@@ -4,18 +4,18 @@ use Rattle.std.specs.Fmt.{decimal}
 use Rattle.std.proofs.lemmas.Fmt.{decimal_injective}
 use Rattle.plan_events.specs.declared.step.Step.{Step}
 use Rattle.plan_events.specs.declared.step.Step.TheVariants.{Contact, Frames}
-use Rattle.plan_events.specs.Events.{IsStep, step_words, level_word, first_word, words_of, Holds, HoldsOneList}
+use Rattle.plan_events.specs.Events.{IsStep, step_words, contact_word, first_word, words_of_text, Holds, HoldsOneList}
 use Rattle.plan_events.specs.Words.{AreSpans}
-use Rattle.script_words.specs.declared.token.Token.{Token}
-use Rattle.script_words.specs.declared.token.Inside.TheVariants.{Nothing}
-use Rattle.script_words.specs.declared.token.TheConstants.{NO_LIMITS}
-use Rattle.script_words.specs.declared.fault.ScriptFault.{ScriptFault}
-use Rattle.script_words.specs.Bytes.{first_place}
-use Rattle.script_words.specs.Lexing.{lexed, InOrder}
-use Rattle.script_words.proofs.Spans.{cut_in_order}
+use Rattle.script_tokens.specs.declared.token.Token.{Token}
+use Rattle.script_tokens.specs.declared.token.Inside.TheVariants.{Nothing}
+use Rattle.script_tokens.specs.declared.token.TheConstants.{NO_LIMITS}
+use Rattle.script_tokens.specs.declared.fault.ScriptFault.{ScriptFault}
+use Rattle.script_tokens.specs.Bytes.{first_place}
+use Rattle.script_tokens.specs.Lexing.{lexed, InOrder}
+use Rattle.script_tokens.proofs.Spans.{cut_in_order}
 use Rattle.plan_events.proofs.Listed.{one_list}
 
-pub level_told : (b c : Bool) → level_word b ≡ level_word c → b ≡ c
+pub level_told : (b c : Bool) → contact_word b ≡ contact_word c → b ≡ c
 level_told true true e = refl
 level_told true false e = let n : 6 ≡ 4 = ap length e in absurd (omega (arith, n))
 level_told false true e = let n : 4 ≡ 6 = ap length e in absurd (omega (arith, n))
@@ -93,4 +93,4 @@ same_tokens text ts us h k = cc
 pub holds_one_list : HoldsOneList
 holds_one_list text steps others h k =
     let same : h.tokens ≡ k.tokens = same_tokens text h.tokens k.tokens h.cut k.cut in
-    one_list step_words IsStep one_step some_words steps others h.in_range k.in_range (sym h.spelled ∙ ap (words_of text) same ∙ k.spelled)
+    one_list step_words IsStep one_step some_words steps others h.in_range k.in_range (sym h.spelled ∙ ap (words_of_text text) same ∙ k.spelled)

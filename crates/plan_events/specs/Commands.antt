@@ -2,14 +2,14 @@
 use Rattle.std.specs.Prelude.{◌≡◌, ℕ, ◌<◌, ◌≤◌, List, [], ◌∷◌, flat_map, codes, Ok}
 use Rattle.std.specs.Fmt.{decimal}
 use Rattle.mux_config.specs.Configuration.{Each}
-use Rattle.script_words.specs.declared.token.Token.{Token}
-use Rattle.script_words.specs.declared.token.Inside.TheVariants.{Nothing}
-use Rattle.script_words.specs.declared.token.TheConstants.{NO_LIMITS}
-use Rattle.script_words.specs.Bytes.{first_place}
-use Rattle.script_words.specs.Lexing.{lexed}
+use Rattle.script_tokens.specs.declared.token.Token.{Token}
+use Rattle.script_tokens.specs.declared.token.Inside.TheVariants.{Nothing}
+use Rattle.script_tokens.specs.declared.token.TheConstants.{NO_LIMITS}
+use Rattle.script_tokens.specs.Bytes.{first_place}
+use Rattle.script_tokens.specs.Lexing.{lexed}
 use Rattle.plan_events.specs.declared.command.Command.{Command}
 use Rattle.plan_events.specs.declared.command.Command.TheVariants.{Contact, Run, Next, Break, Clear, Show}
-use Rattle.plan_events.specs.Events.{level_word, words_of}
+use Rattle.plan_events.specs.Events.{contact_word, words_of_text}
 
 -- the numbers of a command are in their ranges
 abbrev pub IsCommand : Command → Type 0
@@ -22,7 +22,7 @@ IsCommand Show = Unit {0}
 
 -- the words that spell a command
 abbrev pub command_words : Command → List (List ℕ)
-command_words (Contact c closed) = codes "contact" ∷ decimal c ∷ level_word closed ∷ []
+command_words (Contact c closed) = codes "contact" ∷ decimal c ∷ contact_word closed ∷ []
 command_words (Run n) = codes "run" ∷ decimal n ∷ []
 command_words Next = codes "next" ∷ []
 command_words (Break line) = codes "break" ∷ decimal line ∷ []
@@ -33,7 +33,7 @@ command_words Show = codes "show" ∷ []
 pub record HoldsCommands (text : List ℕ) (commands : List Command) : Type 0 where
   pub tokens : List Token
   pub cut : lexed NO_LIMITS Nothing first_place text ≡ Ok tokens
-  pub spelled : words_of text tokens ≡ flat_map command_words commands
+  pub spelled : words_of_text text tokens ≡ flat_map command_words commands
   pub in_range : Each IsCommand commands
 
 -- a text holds one list of commands at most

@@ -2,11 +2,11 @@
 use Rattle.std.specs.Prelude.{◌≡◌, ℕ, ◌<◌, ◌≤◌, Bool, true, false, List, [], ◌∷◌, map, flat_map, replicate, codes, slice_range, Ok}
 use Rattle.std.specs.Fmt.{decimal}
 use Rattle.mux_config.specs.Configuration.{Each}
-use Rattle.script_words.specs.declared.token.Token.{Token}
-use Rattle.script_words.specs.declared.token.Inside.TheVariants.{Nothing}
-use Rattle.script_words.specs.declared.token.TheConstants.{NO_LIMITS}
-use Rattle.script_words.specs.Bytes.{first_place}
-use Rattle.script_words.specs.Lexing.{lexed}
+use Rattle.script_tokens.specs.declared.token.Token.{Token}
+use Rattle.script_tokens.specs.declared.token.Inside.TheVariants.{Nothing}
+use Rattle.script_tokens.specs.declared.token.TheConstants.{NO_LIMITS}
+use Rattle.script_tokens.specs.Bytes.{first_place}
+use Rattle.script_tokens.specs.Lexing.{lexed}
 use Rattle.plan_runs.specs.declared.event.Event.{Event}
 use Rattle.plan_runs.specs.declared.event.Event.TheVariants.{Contact as ContactChanges, Frame}
 use Rattle.plan_events.specs.declared.step.Step.{Step}
@@ -19,29 +19,29 @@ IsStep (Contact c closed) = c < 16
 IsStep (Frames n) = (1 ≤ n) × (n ≤ 3600000)
 
 -- the words that spell a step
-abbrev pub level_word : Bool → List ℕ
-level_word true = codes "closed"
-level_word false = codes "open"
+abbrev pub contact_word : Bool → List ℕ
+contact_word true = codes "closed"
+contact_word false = codes "open"
 
 abbrev pub first_word : Bool → List ℕ
 first_word true = codes "frames"
 first_word false = codes "contact"
 
 abbrev pub step_words : Step → List (List ℕ)
-step_words (Contact c closed) = codes "contact" ∷ decimal c ∷ level_word closed ∷ []
+step_words (Contact c closed) = codes "contact" ∷ decimal c ∷ contact_word closed ∷ []
 step_words (Frames n) = codes "frames" ∷ decimal n ∷ []
 
 -- ---- texts
 
 -- the bytes of each token of a text
-abbrev pub words_of : List ℕ → List Token → List (List ℕ)
-words_of text tokens = map (λ t. slice_range text t.start t.end) tokens
+abbrev pub words_of_text : List ℕ → List Token → List (List ℕ)
+words_of_text text tokens = map (λ t. slice_range text t.start t.end) tokens
 
 -- the text is cut into tokens, without the limits of scripts, and they spell these steps
 pub record Holds (text : List ℕ) (steps : List Step) : Type 0 where
   pub tokens : List Token
   pub cut : lexed NO_LIMITS Nothing first_place text ≡ Ok tokens
-  pub spelled : words_of text tokens ≡ flat_map step_words steps
+  pub spelled : words_of_text text tokens ≡ flat_map step_words steps
   pub in_range : Each IsStep steps
 
 -- a text holds one list of steps at most

@@ -1,6 +1,6 @@
 -- The tokens of a text that lie within it, and the first words of commands. No public contract needs this to be believed.
 use Rattle.std.specs.Prelude.{ℕ, ◌≤◌, List, [], ◌∷◌, codes}
-use Rattle.script_words.specs.declared.token.Token.{Token}
+use Rattle.script_tokens.specs.declared.token.Token.{Token}
 use Rattle.plan_events.specs.declared.commands.Keyword.{Keyword}
 use Rattle.plan_events.specs.declared.commands.Keyword.TheVariants.{Contact, Run, Next, Break, Clear, Show}
 

@@ -6,7 +6,7 @@ ghost use Rattle.plan_events.specs.declared.command.Command.{Command};
 ghost use Rattle.plan_events.specs.declared.commands.Keyword.{Keyword};
 ghost use Rattle.plan_events.specs.declared.fault.EventFault.TheVariants.{Memory};
 ghost use Rattle.plan_events.specs.Commands.{IsCommand, command_words, HoldsCommands};
-ghost use Rattle.plan_events.specs.Events.{words_of};
+ghost use Rattle.plan_events.specs.Events.{words_of_text};
 ghost use Rattle.plan_events.specs.Words.{AreSpans, keyword_word};
 
 use crate::command::Command;
@@ -137,10 +137,10 @@ fn push(commands: &mut Vec<Command>, command: Command) -> Result<(), EventFault>
 fn commands(alloc: Global, text: &[u8], tokens: &[Token]) -> Result<Vec<Command>, EventFault>
     requires { AreSpans (length text.now) tokens.now }
     ensures read { IfOk result (λ v.
-        words_of text.now tokens.now ≡ flat_map command_words v.items) }
+        words_of_text text.now tokens.now ≡ flat_map command_words v.items) }
     ensures range { IfOk result (λ v. Each IsCommand v.items) }
     ensures none { IfErr result (λ e. e ≢ Memory → (all : List Command) → Each IsCommand all
-        → words_of text.now tokens.now ≢ flat_map command_words all) }
+        → words_of_text text.now tokens.now ≢ flat_map command_words all) }
 {
     let mut commands = Vec::new(alloc);
     let mut words = Words::new(text, tokens);

@@ -1,7 +1,7 @@
 //! Why a text is no event file.
 
 ghost use Rattle.std.specs.Prelude.{◌≡◌};
-ghost use Rattle.script_words.specs.declared.fault.ScriptFault.TheVariants.{Memory as NoMemory};
+ghost use Rattle.script_tokens.specs.declared.fault.ScriptFault.TheVariants.{Memory as NoMemory};
 ghost use Rattle.plan_events.specs.declared.fault.EventFault.TheVariants.{Memory};
 
 use script_words::{Position, ScriptFault};

@@ -5,7 +5,7 @@ ghost use Rattle.std.specs.Fmt.{decimal};
 ghost use Rattle.mux_config.specs.Configuration.{Each};
 ghost use Rattle.plan_events.specs.declared.step.Step.{Step};
 ghost use Rattle.plan_events.specs.declared.fault.EventFault.TheVariants.{Memory};
-ghost use Rattle.plan_events.specs.Events.{IsStep, step_words, level_word, first_word, words_of, Holds};
+ghost use Rattle.plan_events.specs.Events.{IsStep, step_words, contact_word, first_word, words_of_text, Holds};
 ghost use Rattle.plan_events.specs.Words.{AreSpans};
 
 use crate::fault::{EventFault, fault_of};
@@ -55,8 +55,8 @@ pub(crate) fn number(words: &mut Words, low: u32, high: u32) -> Result<u32, Even
 
 /// What a word says of a contact: `closed`, or `open`.
 fn level_of(word: &[u8]) -> Option<bool>
-    ensures found { IfSome result (λ closed. word.now ≡ level_word closed) }
-    ensures none { IfNone result ((closed : Bool) → word.now ≢ level_word closed) }
+    ensures found { IfSome result (λ closed. word.now ≡ contact_word closed) }
+    ensures none { IfNone result ((closed : Bool) → word.now ≢ contact_word closed) }
 {
     match word {
         b"closed" => Some(true),
@@ -67,9 +67,9 @@ fn level_of(word: &[u8]) -> Option<bool>
 
 /// The level of a contact: closed, or open.
 pub(crate) fn level(words: &mut Words) -> Result<bool, EventFault>
-    ensures read { IfOk result (λ closed. words.old ≡ level_word closed ∷ words.new) }
+    ensures read { IfOk result (λ closed. words.old ≡ contact_word closed ∷ words.new) }
     ensures none { IfErr result (λ e. (closed : Bool) (rest : List (List ℕ))
-        → words.old ≢ level_word closed ∷ rest) }
+        → words.old ≢ contact_word closed ∷ rest) }
     ensures named { IfErr result (λ e. e ≢ Memory) }
 {
     let Some(word) = words.peek() else {
@@ -159,10 +159,10 @@ fn push(steps: &mut Vec<Step>, step: Step) -> Result<(), EventFault>
 fn steps(alloc: Global, text: &[u8], tokens: &[Token]) -> Result<Vec<Step>, EventFault>
     requires { AreSpans (length text.now) tokens.now }
     ensures read { IfOk result (λ v.
-        words_of text.now tokens.now ≡ flat_map step_words v.items) }
+        words_of_text text.now tokens.now ≡ flat_map step_words v.items) }
     ensures range { IfOk result (λ v. Each IsStep v.items) }
     ensures none { IfErr result (λ e. e ≢ Memory → (all : List Step) → Each IsStep all
-        → words_of text.now tokens.now ≢ flat_map step_words all) }
+        → words_of_text text.now tokens.now ≢ flat_map step_words all) }
 {
     let mut steps = Vec::new(alloc);
     let mut words = Words::new(text, tokens);

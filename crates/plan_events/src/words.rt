@@ -12,25 +12,25 @@ pub(crate) struct Words<'a> {
 
 impl<'a> Model for Words<'a> {
     ghost use Rattle.std.specs.Prelude.{ℕ, List, length};
-    ghost use Rattle.plan_events.specs.Events.{words_of};
+    ghost use Rattle.plan_events.specs.Events.{words_of_text};
     ghost use Rattle.plan_events.specs.Words.{AreSpans};
 
     ghost Value = { List (List ℕ) };
 
-    ghost view = { λ w. words_of w.text.now w.tokens.now };
+    ghost view = { λ w. words_of_text w.text.now w.tokens.now };
 
     ghost invariant = { λ w. AreSpans (length w.text.now) w.tokens.now };
 }
 
 impl<'a> Words<'a> {
     ghost use Rattle.std.specs.Prelude.{◌≡◌, ◌↔◌, ℕ, List, [], ◌∷◌, length, drop, IsTrue, MatchOption};
-    ghost use Rattle.plan_events.specs.Events.{words_of};
+    ghost use Rattle.plan_events.specs.Events.{words_of_text};
     ghost use Rattle.plan_events.specs.Words.{AreSpans};
 
     /// The words of these tokens of a text.
     pub(crate) fn new(text: &'a [u8], tokens: &'a [Token]) -> Self
         requires { AreSpans (length text.now) tokens.now }
-        ensures { result ≡ words_of text.now tokens.now }
+        ensures { result ≡ words_of_text text.now tokens.now }
     {
         Words { text, tokens }
     }

@@ -3,9 +3,9 @@ use Rattle.std.specs.Prelude.{take}
 use Rattle.std.proofs.Common.{◌≡◌, ◌≢◌, ℕ, zero, suc, ◌+◌, ◌%◌, ◌==◌, Bool, true, false, cond, List, ◌∷◌, Option, Some, None, inl, inr, ◌⊎◌, refl, ap, sym, ◌∙◌, subst, arith}
 use Rattle.std.proofs.lemmas.Bool.{eq-eqb, eqb-true}
 use Rattle.mux_config.specs.Configuration.{Configuration}
-use Rattle.mux_config.specs.Entries.{EnsembleInformation}
-use Rattle.mux_config.specs.Facts.{marked}
-use Rattle.mux_config.specs.declared.entry.Entry.{Entry}
+use Rattle.mux_entries.specs.Entries.{EnsembleInformation}
+use Rattle.mux_entries.specs.Facts.{marked}
+use Rattle.mux_entries.specs.declared.entry.Entry.{Entry}
 use Rattle.fib_codec.specs.Modes.{fib_count, count_step}
 use Rattle.fib_codec.specs.Heard.{IsHeardInRow}
 use Rattle.fib_reader.specs.Raw.{Raw, raw_entry}

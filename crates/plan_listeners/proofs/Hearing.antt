@@ -1,10 +1,10 @@
 -- What a listener makes of the FIGs of entries: it hears the entries one after another.
 use Rattle.std.specs.Prelude.{IfSome}
 use Rattle.std.proofs.Common.{◌≡◌, ℕ, ◌/◌, ◌%◌, ◌≤◌, ◌==◌, Bool, true, false, cond, List, [], ◌∷◌, ◌++◌, map, Option, Some, None, refl, ap, ◌∙◌, subst, arith}
-use Rattle.mux_config.specs.Entries.{EnsembleInformation}
-use Rattle.mux_config.specs.Facts.{Marked, marked}
-use Rattle.mux_config.specs.declared.entry.Entry.{Entry}
-use Rattle.mux_config.specs.declared.entry.Entry.TheVariants.{Ensemble as EnsembleOf, Sub as SubOf, Short as ShortOf, Service as ServiceOf, Packet as PacketOf}
+use Rattle.mux_entries.specs.Entries.{EnsembleInformation}
+use Rattle.mux_entries.specs.Facts.{Marked, marked}
+use Rattle.mux_entries.specs.declared.entry.Entry.{Entry}
+use Rattle.mux_entries.specs.declared.entry.Entry.TheVariants.{Ensemble as EnsembleOf, Sub as SubOf, Short as ShortOf, Service as ServiceOf, Packet as PacketOf}
 use Rattle.fib_codec.specs.Ranges.{IsEnsembleInformation}
 use Rattle.fib_codec.specs.Spelling.{Written, head_of, head_byte, bit_of, entry_bytes, ext_of, is_long_entry}
 use Rattle.fib_codec.specs.Grammar.{fig_of, is_next, is_long}
@@ -13,24 +13,24 @@ use Rattle.fib_carousel.specs.Packing.{same_head}
 use Rattle.fib_carousel.specs.Bytes.{joined, figs_of, ensemble_figs}
 use Rattle.fib_carousel.proofs.Sharing.{same_head_is}
 use Rattle.fib_reader.specs.Raw.{Raw, raw_of, raw_entry}
-use Rattle.fib_reader.specs.Listening.{Listening, and_then, hear_entry, hear_entries, hear_fig, hear_figs, at_ensemble}
+use Rattle.fib_reader.specs.Listening.{Listening, where_heard, hear_entry, hear_entries, hear_fig, hear_figs, at_ensemble}
 use Rattle.fib_reader.specs.Laws.{EnsembleIsHeard}
 
 abbrev pub hear_marked : List Marked → Listening → Option Listening
 hear_marked [] l = Some l
-hear_marked (m ∷ ms) l = and_then (hear_entry m.next (raw_entry m.entry) l) (hear_marked ms)
+hear_marked (m ∷ ms) l = where_heard (hear_entry m.next (raw_entry m.entry) l) (hear_marked ms)
 
 -- ---- one after another
 
-then_last : (o : Option Listening) (f g : Listening → Option Listening) → ((l : Listening) → f l ≡ g l) → and_then o f ≡ and_then o g
+then_last : (o : Option Listening) (f g : Listening → Option Listening) → ((l : Listening) → f l ≡ g l) → where_heard o f ≡ where_heard o g
 then_last None f g h = refl
 then_last (Some l) f g h = h l
 
-then_nothing : (o : Option Listening) (f : Listening → Option Listening) → ((l : Listening) → f l ≡ Some l) → and_then o f ≡ o
+then_nothing : (o : Option Listening) (f : Listening → Option Listening) → ((l : Listening) → f l ≡ Some l) → where_heard o f ≡ o
 then_nothing None f h = refl
 then_nothing (Some l) f h = h l
 
-then_joined : (o : Option Listening) (f g h : Listening → Option Listening) → ((l : Listening) → and_then (f l) g ≡ h l) → and_then (and_then o f) g ≡ and_then o h
+then_joined : (o : Option Listening) (f g h : Listening → Option Listening) → ((l : Listening) → where_heard (f l) g ≡ h l) → where_heard (where_heard o f) g ≡ where_heard o h
 then_joined None f g h e = refl
 then_joined (Some l) f g h e = e l
 
@@ -91,11 +91,11 @@ abbrev under : Marked → List Entry → Written
 under m es = record { head = head_of m; entries = es }
 
 fig_more : (m : Marked) (es : List Entry) (l : Listening)
-    → hear_fig (fig_of (under m (m.entry ∷ es))) l ≡ and_then (hear_entry m.next (raw_entry m.entry) l) (hear_fig (fig_of (under m es)))
+    → hear_fig (fig_of (under m (m.entry ∷ es))) l ≡ where_heard (hear_entry m.next (raw_entry m.entry) l) (hear_fig (fig_of (under m es)))
 fig_more m es l =
     let second : ℕ = head_byte (head_of m) in
     let rest : List Raw = map (raw_of (second % 32) (is_long second)) (map entry_bytes es) in
-    ap (λ (o : Option Listening). and_then o (hear_entries (is_next second) rest)) (entry_heard m l)
+    ap (λ (o : Option Listening). where_heard o (hear_entries (is_next second) rest)) (entry_heard m l)
     ∙ then_last (hear_entry m.next (raw_entry m.entry) l) (hear_entries (is_next second) rest) (hear_fig (fig_of (under m es))) (λ k. refl)
 
 fig_one : (m : Marked) (l : Listening) → hear_fig (fig_of (under m (m.entry ∷ []))) l ≡ hear_entry m.next (raw_entry m.entry) l
@@ -103,20 +103,20 @@ fig_one m l = fig_more m [] l ∙ then_nothing (hear_entry m.next (raw_entry m.e
 
 joined_by : (m : Marked) (f : Written) (fs : List Written) (l : Listening) (b : Bool) → same_head (head_of m) f.head ≡ b
     → hear_figs (map fig_of (cond b ((let w : Written = record { head = f.head; entries = m.entry ∷ f.entries } in w) ∷ fs) (under m (m.entry ∷ []) ∷ f ∷ fs))) l
-    ≡ and_then (hear_entry m.next (raw_entry m.entry) l) (hear_figs (map fig_of (f ∷ fs)))
+    ≡ where_heard (hear_entry m.next (raw_entry m.entry) l) (hear_figs (map fig_of (f ∷ fs)))
 joined_by m f fs l true e =
     let same : head_of m ≡ f.head = same_head_is (head_of m) f.head e in
-    let one : hear_fig (fig_of (record { head = f.head; entries = m.entry ∷ f.entries })) l ≡ and_then (hear_entry m.next (raw_entry m.entry) l) (hear_fig (fig_of f)) =
+    let one : hear_fig (fig_of (record { head = f.head; entries = m.entry ∷ f.entries })) l ≡ where_heard (hear_entry m.next (raw_entry m.entry) l) (hear_fig (fig_of f)) =
     subst (λ (h : Head). hear_fig (fig_of (record { head = h; entries = m.entry ∷ f.entries })) l
-    ≡ and_then (hear_entry m.next (raw_entry m.entry) l) (hear_fig (fig_of (record { head = h; entries = f.entries })))) same (fig_more m f.entries l) in
-    ap (λ (o : Option Listening). and_then o (hear_figs (map fig_of fs))) one
+    ≡ where_heard (hear_entry m.next (raw_entry m.entry) l) (hear_fig (fig_of (record { head = h; entries = f.entries })))) same (fig_more m f.entries l) in
+    ap (λ (o : Option Listening). where_heard o (hear_figs (map fig_of fs))) one
     ∙ then_joined (hear_entry m.next (raw_entry m.entry) l) (hear_fig (fig_of f)) (hear_figs (map fig_of fs)) (hear_figs (map fig_of (f ∷ fs))) (λ k. refl)
 joined_by m f fs l false e =
-    ap (λ (o : Option Listening). and_then o (hear_figs (map fig_of (f ∷ fs)))) (fig_one m l)
+    ap (λ (o : Option Listening). where_heard o (hear_figs (map fig_of (f ∷ fs)))) (fig_one m l)
 
-joined_heard : (m : Marked) (fs : List Written) (l : Listening) → hear_figs (map fig_of (joined m fs)) l ≡ and_then (hear_entry m.next (raw_entry m.entry) l) (hear_figs (map fig_of fs))
+joined_heard : (m : Marked) (fs : List Written) (l : Listening) → hear_figs (map fig_of (joined m fs)) l ≡ where_heard (hear_entry m.next (raw_entry m.entry) l) (hear_figs (map fig_of fs))
 joined_heard m [] l =
-    ap (λ (o : Option Listening). and_then o (hear_figs [])) (fig_one m l)
+    ap (λ (o : Option Listening). where_heard o (hear_figs [])) (fig_one m l)
 joined_heard m (f ∷ fs) l = joined_by m f fs l (same_head (head_of m) f.head) refl
 
 pub figs_heard : (ms : List Marked) (l : Listening) → hear_figs (map fig_of (figs_of ms)) l ≡ hear_marked ms l
@@ -134,6 +134,6 @@ pub first_heard : EnsembleIsHeard → (o : Option EnsembleInformation) → IfSom
     → hear_figs (map fig_of (ensemble_figs o ++ figs_of ms)) l ≡ hear_marked ms (headed o l)
 first_heard law None h ms l = figs_heard ms l
 first_heard law (Some e) h ms l =
-    ap (λ (o : Option Listening). and_then o (hear_figs (map fig_of (figs_of ms)))) (fig_one (marked false (EnsembleOf e)) l)
+    ap (λ (o : Option Listening). where_heard o (hear_figs (map fig_of (figs_of ms)))) (fig_one (marked false (EnsembleOf e)) l)
     ∙ ap (λ (x : EnsembleInformation). hear_figs (map fig_of (figs_of ms)) (at_ensemble x l)) (law e h)
     ∙ figs_heard ms (at_ensemble e l)

@@ -1,11 +1,11 @@
 -- A listener that is tuned, and what entries of the current and of the next configuration make of it.
 use Rattle.std.proofs.Common.{◌≡◌, ℕ, ◌==◌, Bool, true, false, cond, List, [], ◌∷◌, take, zero, suc, Option, Some, None, inl, inr, ◌⊎◌, refl, ap, sym, ◌∙◌, subst}
 use Rattle.mux_config.specs.Configuration.{Configuration, Each}
-use Rattle.mux_config.specs.Entries.{EnsembleInformation}
-use Rattle.mux_config.specs.Facts.{Marked}
+use Rattle.mux_entries.specs.Entries.{EnsembleInformation}
+use Rattle.mux_entries.specs.Facts.{Marked}
 use Rattle.fib_codec.specs.Grammar.{Fig, IsFib, OneList}
 use Rattle.fib_reader.specs.Raw.{Raw, raw_entry, ensemble_in}
-use Rattle.fib_reader.specs.Listening.{Pictured, blank, pictured, Listening, untuned, picture_of, into, and_then, hear_entry, hear_figs, at_ensemble}
+use Rattle.fib_reader.specs.Listening.{Pictured, blank, pictured, Listening, untuned, picture_of, into, where_heard, hear_entry, hear_figs, at_ensemble}
 use Rattle.plan_runs.specs.Listening.{HearsAll}
 use Rattle.plan_listeners.proofs.Parts.{In, Also}
 use Rattle.plan_listeners.proofs.Pictures.{whole_of, IsSet, IsOf, IsPartial, grows, weaker, entries_of, entry_is_of}
@@ -151,7 +151,7 @@ hears_entries noticed c n C N awaited (m ∷ ms) l set_c set_n sent h =
     let rest = hears_entries noticed c n (Or C (IsSaying false m)) (Or N (IsSaying true m)) awaited ms one.after set_c set_n sent.1 one.knows in
     record {
       after = rest.after;
-      is = ap (λ (o : Option Listening). and_then o (hear_marked ms)) one.is ∙ rest.is;
+      is = ap (λ (o : Option Listening). where_heard o (hear_marked ms)) one.is ∙ rest.is;
       knows = tuned_weaker noticed c n (Or (Or C (IsSaying false m)) (SaidIn false ms)) (Or C (SaidIn false (m ∷ ms))) (Or (Or N (IsSaying true m)) (SaidIn true ms)) (Or N (SaidIn true (m ∷ ms))) awaited rest.after
           (regroup C (IsSaying false m) (SaidIn false ms)) (regroup N (IsSaying true m) (SaidIn true ms)) rest.knows;
     }
@@ -163,7 +163,7 @@ sent_ext noticed c n m (inr h) = some_ext (raw_entry m.entry) (whole_of n) (entr
 pub passes_entries : (noticed : Bool) (c n : Configuration) (ms : List Marked) → Each (IsSentOf noticed c n) ms → hear_marked ms untuned ≡ Some untuned
 passes_entries noticed c n [] sent = refl
 passes_entries noticed c n (m ∷ ms) sent =
-    ap (λ (o : Option Listening). and_then o (hear_marked ms)) (heard_past m.next (raw_entry m.entry) (sent_ext noticed c n m sent.0)) ∙ passes_entries noticed c n ms sent.1
+    ap (λ (o : Option Listening). where_heard o (hear_marked ms)) (heard_past m.next (raw_entry m.entry) (sent_ext noticed c n m sent.0)) ∙ passes_entries noticed c n ms sent.1
 
 -- ---- FIBs without FIG 0/0
 

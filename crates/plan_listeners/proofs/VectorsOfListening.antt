@@ -2,8 +2,8 @@
 use Rattle.std.specs.Prelude.{is_some, get_or}
 use Rattle.std.proofs.Common.{◌≡◌, ℕ, zero, suc, ◌+◌, ◌*◌, ◌/◌, ◌%◌, ◌==◌, cond, ◌<◌, Bool, true, false, List, [], ◌∷◌, ◌++◌, length, map, Option, Some, None, inl, inr, refl, sym, ap, ◌∙◌, replicate, arith}
 use Rattle.std.proofs.lemmas.Bool.{false≢true}
-use Rattle.mux_config.specs.Entries.{EnsembleInformation}
-use Rattle.mux_config.specs.Facts.{marked, facts_of, sub_entry}
+use Rattle.mux_entries.specs.Entries.{EnsembleInformation}
+use Rattle.mux_entries.specs.Facts.{marked, facts_of, sub_entry}
 use Rattle.fib_codec.specs.Ranges.{IsEnsembleInformation}
 use Rattle.fib_codec.specs.Grammar.{Fig, fig_of}
 use Rattle.fib_codec.specs.Heard.{fib_at}
@@ -26,7 +26,7 @@ use Rattle.fib_codec.proofs.Uniqueness.{one_fib}
 use Rattle.fib_carousel.proofs.Hearing.{pages_are_valid, pages_are_heard, ensemble_is_heard, page_sets_are_pageable}
 use Rattle.fib_carousel.proofs.Pieces.{each_in_a_page, page_is_fibs}
 use Rattle.fib_reader.specs.declared.fault.FibFault.TheVariants.{Entry}
-use Rattle.fib_reader.specs.Faults.{IsFault}
+use Rattle.fib_reader.specs.Faults.{IsFibFault}
 use Rattle.fib_codec.specs.Crc.{IsChecked}
 use Rattle.fib_reader.specs.FirstFault.{entries_fault, figs_fault}
 use Rattle.fib_reader.proofs.FigFaults.{found_is_fault, no_fault}
@@ -384,7 +384,7 @@ past_the_counts = record announces { next = with_sub 128; left = None; count = 5
 abbrev unheard_frame : List ℕ
 unheard_frame = frame_bytes ended past_the_counts
 
-its_fault : IsChecked (fib_at unheard_frame 0) → IsFault (fib_at unheard_frame 0) (Entry 2)
+its_fault : IsChecked (fib_at unheard_frame 0) → IsFibFault (fib_at unheard_frame 0) (Entry 2)
 unfolding figs_fault entries_fault
 its_fault checked = found_is_fault (fib_at unheard_frame 0) (Entry 2) checked refl
 

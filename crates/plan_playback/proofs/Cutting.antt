@@ -18,7 +18,7 @@ use Rattle.plan_runs.specs.Headline.{HeadlineHolds}
 use Rattle.plan_runs.specs.TypedRuns.{StartsAreReached}
 use Rattle.plan_code.specs.declared.limits.TheConstants.{COUNTS, FRAMES_A_DAY}
 use Rattle.plan_player.specs.Playing.{Playing, played}
-use Rattle.plan_player.specs.Delivery.{frames_of, bytes_of, next_frame, Stopped}
+use Rattle.plan_player.specs.Delivery.{frames_of, played_bytes, next_frame, Stopped}
 use Rattle.plan_player.specs.declared.fault.StartFault.{StartFault}
 use Rattle.plan_player.proofs.Delivering.{bytes_join}
 use Rattle.plan_events.specs.declared.step.Step.{Step}
@@ -88,8 +88,8 @@ cut_at code size s (Frame ∷ es) n (suc k) bytes sized right split part inside 
     }
 
 -- playing that stopped with these bytes out
-stopped_at : (p : Playing) (events : List Event) (size n frames bytes : ℕ) → size ≡ 32 * fib_count p.code.plan.mode → FramesAreRight p.code p.state events → n ≡ frames * size + bytes → bytes < size → n < length (bytes_of p events)
-    → (new : Playing) × Stopped p new events (Some []) (Some (take n (bytes_of p events))) frames bytes
+stopped_at : (p : Playing) (events : List Event) (size n frames bytes : ℕ) → size ≡ 32 * fib_count p.code.plan.mode → FramesAreRight p.code p.state events → n ≡ frames * size + bytes → bytes < size → n < length (played_bytes p events)
+    → (new : Playing) × Stopped p new events (Some []) (Some (take n (played_bytes p events))) frames bytes
 stopped_at p events size n frames bytes sized right split part inside =
     let c = cut_at p.code size p.state events n frames bytes sized right split part inside in (
       played p (c.done ++ Frame ∷ []),
@@ -165,14 +165,14 @@ handed_on before begun taken after [] text e k a m none =
     rw (e, x.1) (sym (append-nil x.0) ∙ x.2)
 handed_on before begun taken after (h ∷ hs) text e k a m none = absurd (omega (arith, none))
 
-cut_out : (p : Playing) (events : List Event) (size : ℕ) (x held rest : List ℕ) (frames bytes : ℕ) → size ≡ 32 * fib_count p.code.plan.mode → FramesAreRight p.code p.state events → bytes_of p events ≡ (x ++ held) ++ rest → 0 < length held + length rest
+cut_out : (p : Playing) (events : List Event) (size : ℕ) (x held rest : List ℕ) (frames bytes : ℕ) → size ≡ 32 * fib_count p.code.plan.mode → FramesAreRight p.code p.state events → played_bytes p events ≡ (x ++ held) ++ rest → 0 < length held + length rest
     → frames * size + bytes ≡ length x → bytes < size → (new : Playing) × Stopped p new events (Some []) (Some x) frames bytes
 cut_out p events size x held rest frames bytes is right all some count part =
-    let split : bytes_of p events ≡ x ++ (held ++ rest) = all ∙ append_assoc x held rest in
-    let lengths : length (bytes_of p events) ≡ length x + length (held ++ rest) = ap (λ (l : List ℕ). length l) split ∙ length-append x (held ++ rest) in
+    let split : played_bytes p events ≡ x ++ (held ++ rest) = all ∙ append_assoc x held rest in
+    let lengths : length (played_bytes p events) ≡ length x + length (held ++ rest) = ap (λ (l : List ℕ). length l) split ∙ length-append x (held ++ rest) in
     let behind : length (held ++ rest) ≡ length held + length rest = length-append held rest in
     let stopped = stopped_at p events size (length x) frames bytes is right (sym count) part (omega (arith, lengths, behind, some)) in
-    let text : take (length x) (bytes_of p events) ≡ x = ap (λ (l : List ℕ). take (length x) l) split ∙ take-append_seam x (held ++ rest) in
+    let text : take (length x) (played_bytes p events) ≡ x = ap (λ (l : List ℕ). take (length x) l) split ∙ take-append_seam x (held ++ rest) in
     (stopped.0, subst (λ (l : List ℕ). Stopped p stopped.0 events (Some []) (Some l) frames bytes) text stopped.1)
 
 stopped_in : (p new : Playing) (events : List Event) (frames bytes : ℕ) (before after : Option (List ℕ)) (x : List ℕ) → before ≡ Some [] → after ≡ Some x → Stopped p new events (Some []) (Some x) frames bytes → Stopped p new events before after frames bytes
@@ -181,15 +181,15 @@ stopped_in p new events frames bytes before after x e f s =
 
 -- the run was whole, and its end was not handed on
 pub cut_at_end : (p : Playing) (events : List Event) (size total frames bytes : ℕ) (before begun taken after : Option (List ℕ)) (held : List ℕ) → size ≡ 32 * fib_count p.code.plan.mode → FramesAreRight p.code p.state events
-    → before ≡ Some [] → Keeps before begun → total ≡ length (frames_of p events) → Appends begun taken (bytes_of p events) → Keeps taken (append_known after held) → 0 < length held
+    → before ≡ Some [] → Keeps before begun → total ≡ length (frames_of p events) → Appends begun taken (played_bytes p events) → Keeps taken (append_known after held) → 0 < length held
     → (length held ≤ total * size + 0 → frames * size + bytes + length held ≡ total * size + 0) → bytes < size
     → (new : Playing) × Stopped p new events before after frames bytes
 cut_at_end p events size total frames bytes before begun taken after held is right e k whole a m some back part =
-    let x = known before begun taken after held (bytes_of p events) e k a m in
-    let counted : length (bytes_of p events) ≡ total * size = sized p.code size p.state events is right ∙ ap (λ (n : ℕ). n * size) (sym whole) in
-    let lengths : length (bytes_of p events) ≡ length x.0 + length held = ap (λ (l : List ℕ). length l) (sym x.2) ∙ length-append x.0 held in
+    let x = known before begun taken after held (played_bytes p events) e k a m in
+    let counted : length (played_bytes p events) ≡ total * size = sized p.code size p.state events is right ∙ ap (λ (n : ℕ). n * size) (sym whole) in
+    let lengths : length (played_bytes p events) ≡ length x.0 + length held = ap (λ (l : List ℕ). length l) (sym x.2) ∙ length-append x.0 held in
     let sum = back (omega (arith, counted, lengths)) in
-    let all : bytes_of p events ≡ (x.0 ++ held) ++ [] = sym x.2 ∙ sym (append-nil (x.0 ++ held)) in
+    let all : played_bytes p events ≡ (x.0 ++ held) ++ [] = sym x.2 ∙ sym (append-nil (x.0 ++ held)) in
     let stopped = cut_out p events size x.0 held [] frames bytes is right all (omega (arith, some)) (omega (arith, sum, counted, lengths)) part in
     (stopped.0, stopped_in p stopped.0 events frames bytes before after x.0 e x.1 stopped.1)
 
@@ -202,23 +202,23 @@ pub cut_before : (p new : Playing) (events : List Event) (size total more frames
 cut_before p new events size total more frames bytes before begun taken after held is right rights e k s m back part =
     let next : List ℕ = next_frame (played p s.done) in
     let others : List ℕ = concat (run_frames p.code (after_frame p.code (run p.code p.state s.done)) s.rest) in
-    let text : List ℕ = bytes_of p s.done ++ take more next in
+    let text : List ℕ = played_bytes p s.done ++ take more next in
     let x = known before begun taken after held text e k s.out m in
     let there : FrameIsRight p.code (run p.code p.state s.done) = right_there p.code p.state s.done s.rest (subst (λ (l : List Event). FramesAreRight p.code p.state l) s.cut right) in
     let long : length next ≡ size = there.length_of_fibs ∙ sym is in
     let front : length (take more next) ≡ more = length-take-le more next (omega (arith, s.part)) in
-    let done : length (bytes_of p s.done) ≡ total * size = sized p.code size p.state s.done is (rights s.done) ∙ ap (λ (n : ℕ). n * size) (sym s.whole) in
-    let counted : length text ≡ length (bytes_of p s.done) + length (take more next) = length-append (bytes_of p s.done) (take more next) in
+    let done : length (played_bytes p s.done) ≡ total * size = sized p.code size p.state s.done is (rights s.done) ∙ ap (λ (n : ℕ). n * size) (sym s.whole) in
+    let counted : length text ≡ length (played_bytes p s.done) + length (take more next) = length-append (played_bytes p s.done) (take more next) in
     let lengths : length text ≡ length x.0 + length held = ap (λ (l : List ℕ). length l) (sym x.2) ∙ length-append x.0 held in
     let sum = back (omega (arith, counted, done, front, lengths)) in
     let seam : take more next ++ drop more next ≡ next = take-append-drop more next in
     let halves : length next ≡ length (take more next) + length (drop more next) = ap (λ (l : List ℕ). length l) (sym seam) ∙ length-append (take more next) (drop more next) in
     let behind : length (drop more next ++ others) ≡ length (drop more next) + length others = length-append (drop more next) others in
-    let all : bytes_of p events ≡ (x.0 ++ held) ++ (drop more next ++ others) =
-    ap (λ (l : List Event). bytes_of p l) s.cut ∙ bytes_join p s.done (Frame ∷ s.rest)
-    ∙ ap (λ (l : List ℕ). bytes_of p s.done ++ (l ++ others)) (sym seam)
-    ∙ ap (λ (l : List ℕ). bytes_of p s.done ++ l) (append_assoc (take more next) (drop more next) others)
-    ∙ sym (append_assoc (bytes_of p s.done) (take more next) (drop more next ++ others))
+    let all : played_bytes p events ≡ (x.0 ++ held) ++ (drop more next ++ others) =
+    ap (λ (l : List Event). played_bytes p l) s.cut ∙ bytes_join p s.done (Frame ∷ s.rest)
+    ∙ ap (λ (l : List ℕ). played_bytes p s.done ++ (l ++ others)) (sym seam)
+    ∙ ap (λ (l : List ℕ). played_bytes p s.done ++ l) (append_assoc (take more next) (drop more next) others)
+    ∙ sym (append_assoc (played_bytes p s.done) (take more next) (drop more next ++ others))
     ∙ ap (λ (l : List ℕ). l ++ (drop more next ++ others)) (sym x.2) in
     let stopped = cut_out p events size x.0 held (drop more next ++ others) frames bytes is right all (omega (arith, s.part, halves, front, behind))
     (omega (arith, sum, counted, done, front, lengths)) (part (omega (arith, s.part, long))) in

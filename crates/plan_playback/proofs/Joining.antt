@@ -11,7 +11,7 @@ use Rattle.plan_runs.specs.Frames.{after_frame}
 use Rattle.plan_runs.specs.Runs.{happens, run_frames}
 use Rattle.plan_runs.proofs.Joined.{runs_join}
 use Rattle.plan_player.specs.Playing.{Playing, played}
-use Rattle.plan_player.specs.Delivery.{frames_of, bytes_of, next_frame, Stopped}
+use Rattle.plan_player.specs.Delivery.{frames_of, played_bytes, next_frame, Stopped}
 use Rattle.plan_player.proofs.Delivering.{played_join, bytes_join}
 use Rattle.plan_playback.specs.Parts.{Delivered}
 
@@ -25,12 +25,12 @@ counts_join p events more = ap (λ (fs : List (List ℕ)). length fs) (frames_jo
 
 pub joined : (a b c : Playing) (es fs : List Event) (x y z : Option (List ℕ)) (m n : ℕ) → Delivered a b es x y m → Delivered b c fs y z n → Delivered a c (es ++ fs) x z (m + n)
 joined a b c es fs x y z m n d e =
-    let bytes : bytes_of a es ++ bytes_of b fs ≡ bytes_of a (es ++ fs) = ap (λ (p : Playing). bytes_of a es ++ bytes_of p fs) d.state ∙ sym (bytes_join a es fs) in
+    let bytes : played_bytes a es ++ played_bytes b fs ≡ played_bytes a (es ++ fs) = ap (λ (p : Playing). played_bytes a es ++ played_bytes p fs) d.state ∙ sym (bytes_join a es fs) in
     let count : length (frames_of b fs) ≡ length (frames_of (played a es) fs) = ap (λ (p : Playing). length (frames_of p fs)) d.state in
     let all = counts_join a es fs in
     record {
       state = e.state ∙ ap (λ (p : Playing). played p fs) d.state ∙ sym (played_join a es fs);
-      out = subst (λ (l : List ℕ). Appends x z l) bytes (Appends-trans x y z (bytes_of a es) (bytes_of b fs) d.out e.out);
+      out = subst (λ (l : List ℕ). Appends x z l) bytes (Appends-trans x y z (played_bytes a es) (played_bytes b fs) d.out e.out);
       whole = omega (arith, d.whole, e.whole, count, all);
     }
 
@@ -40,11 +40,11 @@ pub stopped_later : (a b c : Playing) (es fs : List Event) (x y z : Option (List
 stopped_later a b c es fs x y z m n k d s =
     let at : played b s.done ≡ played a (es ++ s.done) = ap (λ (p : Playing). played p s.done) d.state ∙ sym (played_join a es s.done) in
     let next : next_frame (played b s.done) ≡ next_frame (played a (es ++ s.done)) = ap (λ (p : Playing). next_frame p) at in
-    let before : bytes_of a es ++ bytes_of b s.done ≡ bytes_of a (es ++ s.done) = ap (λ (p : Playing). bytes_of a es ++ bytes_of p s.done) d.state ∙ sym (bytes_join a es s.done) in
-    let bytes : bytes_of a es ++ (bytes_of b s.done ++ take k (next_frame (played b s.done))) ≡ bytes_of a (es ++ s.done) ++ take k (next_frame (played a (es ++ s.done))) =
-    sym (append_assoc (bytes_of a es) (bytes_of b s.done) (take k (next_frame (played b s.done))))
+    let before : played_bytes a es ++ played_bytes b s.done ≡ played_bytes a (es ++ s.done) = ap (λ (p : Playing). played_bytes a es ++ played_bytes p s.done) d.state ∙ sym (bytes_join a es s.done) in
+    let bytes : played_bytes a es ++ (played_bytes b s.done ++ take k (next_frame (played b s.done))) ≡ played_bytes a (es ++ s.done) ++ take k (next_frame (played a (es ++ s.done))) =
+    sym (append_assoc (played_bytes a es) (played_bytes b s.done) (take k (next_frame (played b s.done))))
     ∙ ap (λ (l : List ℕ). l ++ take k (next_frame (played b s.done))) before
-    ∙ ap (λ (l : List ℕ). bytes_of a (es ++ s.done) ++ take k l) next in
+    ∙ ap (λ (l : List ℕ). played_bytes a (es ++ s.done) ++ take k l) next in
     let count : length (frames_of b s.done) ≡ length (frames_of (played a es) s.done) = ap (λ (p : Playing). length (frames_of p s.done)) d.state in
     let all = counts_join a es s.done in
     record {
@@ -55,7 +55,7 @@ stopped_later a b c es fs x y z m n k d s =
       part = subst (λ (l : List ℕ). k < length l) next s.part;
       state = s.state ∙ ap (λ (p : Playing). played p (s.done ++ Frame ∷ [])) d.state ∙ sym (played_join a es (s.done ++ Frame ∷ []))
           ∙ ap (λ (l : List Event). played a l) (sym (append_assoc es s.done (Frame ∷ [])));
-      out = subst (λ (l : List ℕ). Appends x z l) bytes (Appends-trans x y z (bytes_of a es) (bytes_of b s.done ++ take k (next_frame (played b s.done))) d.out s.out);
+      out = subst (λ (l : List ℕ). Appends x z l) bytes (Appends-trans x y z (played_bytes a es) (played_bytes b s.done ++ take k (next_frame (played b s.done))) d.out s.out);
     }
 
 -- and no later one is done

@@ -9,8 +9,8 @@ use Rattle.plan_code.specs.Machine.{State}
 use Rattle.plan_code.specs.Program.{Program}
 use Rattle.plan_runs.specs.declared.event.Start.{Start as Starting}
 use Rattle.plan_runs.specs.Runs.{IsStart}
-use Rattle.plan_player.specs.Playing.{Playing, BeginsWith}
-use Rattle.plan_player.specs.Delivery.{frames_of, bytes_of, Stopped}
+use Rattle.plan_player.specs.Playing.{Playing, IsAtStart}
+use Rattle.plan_player.specs.Delivery.{frames_of, played_bytes, Stopped}
 use Rattle.plan_events.specs.declared.fault.EventFault.{EventFault}
 use Rattle.plan_events.specs.declared.fault.EventFault.TheVariants.{Byte, Number, Expected, Memory}
 use Rattle.plan_events.specs.declared.step.Step.{Step}
@@ -33,7 +33,7 @@ same_current code start s t h k =
     let both : Some s.current ≡ Some t.current = sym h.current ∙ ap (λ (l : Label). slice_get code.configurations l.cur) label ∙ k.current in
     cc both
 
-pub same_start : (code : Program) (start : Starting) (p q : Playing) → BeginsWith code start p → BeginsWith code start q → p ≡ q
+pub same_start : (code : Program) (start : Starting) (p q : Playing) → IsAtStart code start p → IsAtStart code start q → p ≡ q
 same_start code start p q h k =
     let states : p.state ≡ q.state = is_opening code start p.state h.state_is ∙ ap (λ (c : Configuration). opening c start) (same_current code start p.state q.state h.state_is k.state_is)
     ∙ sym (is_opening code start q.state k.state_is) in
@@ -43,20 +43,20 @@ same_start code start p q h k =
     ∙ ap (λ (s : State). let r : Playing = record { code = q.code; state = s; steps = p.steps } in r) states
     ∙ ap (λ (n : ℕ). let r : Playing = record { code = q.code; state = q.state; steps = n } in r) steps
 
-pub same_player : (r : Request) (p q : Playing) (steps : List Step) (code : Program) (start : Starting) → IsPlayback r p steps → code ≡ p.code → start ≡ start_of code r → BeginsWith code start q → q ≡ p
+pub same_player : (r : Request) (p q : Playing) (steps : List Step) (code : Program) (start : Starting) → IsPlayback r p steps → code ≡ p.code → start ≡ start_of code r → IsAtStart code start q → q ≡ p
 same_player r p q steps code start h codes starts begins =
-    let at : BeginsWith code (start_of code r) q = subst (λ (s : Starting). BeginsWith code s q) starts begins in
-    let there : BeginsWith p.code (start_of p.code r) q = subst (λ (c : Program). BeginsWith c (start_of c r) q) codes at in
+    let at : IsAtStart code (start_of code r) q = subst (λ (s : Starting). IsAtStart code s q) starts begins in
+    let there : IsAtStart p.code (start_of p.code r) q = subst (λ (c : Program). IsAtStart c (start_of c r) q) codes at in
     same_start p.code (start_of p.code r) q p there h.begins
 
 -- ---- what is delivered of it
 
 pub whole : (p q new : Playing) (steps others : List Step) (x y : Option (List ℕ)) (n : ℕ) → q ≡ p → others ≡ steps → Delivered q new (events_of others) x y n
-    → (n ≡ length (frames_of p (events_of steps))) × Appends x y (bytes_of p (events_of steps))
+    → (n ≡ length (frames_of p (events_of steps))) × Appends x y (played_bytes p (events_of steps))
 whole p q new steps others x y n players lists d =
-    let one : (n ≡ length (frames_of p (events_of others))) × Appends x y (bytes_of p (events_of others)) =
-    subst (λ (a : Playing). (n ≡ length (frames_of a (events_of others))) × Appends x y (bytes_of a (events_of others))) players (d.whole, d.out) in
-    subst (λ (l : List Step). (n ≡ length (frames_of p (events_of l))) × Appends x y (bytes_of p (events_of l))) lists one
+    let one : (n ≡ length (frames_of p (events_of others))) × Appends x y (played_bytes p (events_of others)) =
+    subst (λ (a : Playing). (n ≡ length (frames_of a (events_of others))) × Appends x y (played_bytes a (events_of others))) players (d.whole, d.out) in
+    subst (λ (l : List Step). (n ≡ length (frames_of p (events_of l))) × Appends x y (played_bytes p (events_of l))) lists one
 
 pub cut_off : (p q new : Playing) (steps others : List Step) (x y : Option (List ℕ)) (n k : ℕ) → q ≡ p → others ≡ steps → Stopped q new (events_of others) x y n k
     → Stopped p new (events_of steps) x y n k

@@ -3,9 +3,9 @@ use Rattle.std.specs.Prelude.{◌≡◌, ◌≢◌, ℕ, List, length, Option}
 use Rattle.std.specs.Io.KnownBytes.{Appends}
 use Rattle.plan_runs.specs.declared.event.Event.{Event}
 use Rattle.plan_player.specs.Playing.{Playing, played}
-use Rattle.plan_player.specs.Delivery.{frames_of, bytes_of}
+use Rattle.plan_player.specs.Delivery.{frames_of, played_bytes}
 use Rattle.plan_code.specs.declared.fault.CodeFault.TheVariants.{Memory as NoMemoryForCode}
-use Rattle.plan_code.specs.Faults.{HasFault}
+use Rattle.plan_code.specs.Faults.{HasCodeFault}
 use Rattle.plan_code.specs.Program.{Program, line_at}
 use Rattle.plan_verifier.specs.Refusals.{IsRefused}
 use Rattle.plan_playback.specs.declared.fault.RunFault.{RunFault}
@@ -15,12 +15,12 @@ use Rattle.plan_playback.specs.Playback.{IsFileOf, or_zero}
 -- the player after these events, and the sink with their bytes; this many frames
 pub record Delivered (old new : Playing) (events : List Event) (before after : Option (List ℕ)) (frames : ℕ) : Type 0 where
   pub state : new ≡ played old events
-  pub out : Appends before after (bytes_of old events)
+  pub out : Appends before after (played_bytes old events)
   pub whole : frames ≡ length (frames_of old events)
 
 -- what holds where a file is not played for its code
 abbrev pub IsCodeFault : List ℕ → RunFault → Type 0
-IsCodeFault file (Code fault) = fault ≢ NoMemoryForCode → HasFault file fault
+IsCodeFault file (Code fault) = fault ≢ NoMemoryForCode → HasCodeFault file fault
 IsCodeFault file (Refused pc line cause) = (code : Program) × IsFileOf code file × IsRefused code pc cause × (line ≡ or_zero (line_at code pc))
 IsCodeFault file (Start fault) = ⊥
 IsCodeFault file (Events fault) = ⊥

@@ -3,15 +3,15 @@ use Rattle.std.specs.Prelude.{◌≡◌, ◌≢◌, ℕ, Bool, true, false, List
 use Rattle.std.specs.Io.KnownBytes.{Appends, Keeps}
 use Rattle.plan_code.specs.declared.fault.CodeFault.TheVariants.{Memory as NoMemoryForCode}
 use Rattle.plan_code.specs.declared.flags.Contacts.{Contacts}
-use Rattle.plan_code.specs.Faults.{HasFault}
+use Rattle.plan_code.specs.Faults.{HasCodeFault}
 use Rattle.plan_code.specs.Program.{Program, IsProgram, line_at}
 use Rattle.plan_code.specs.Spelling.{code_bytes}
 use Rattle.plan_verifier.specs.Typing.{IsTyped}
 use Rattle.plan_verifier.specs.Refusals.{IsRefused}
 use Rattle.plan_runs.specs.declared.event.Event.{Event}
 use Rattle.plan_runs.specs.declared.event.Start.{Start as Starting}
-use Rattle.plan_player.specs.Playing.{Playing, BeginsWith, start_fault}
-use Rattle.plan_player.specs.Delivery.{frames_of, bytes_of, Stopped}
+use Rattle.plan_player.specs.Playing.{Playing, IsAtStart, start_fault}
+use Rattle.plan_player.specs.Delivery.{frames_of, played_bytes, Stopped}
 use Rattle.plan_events.specs.declared.fault.EventFault.TheVariants.{Memory as NoMemoryForEvents}
 use Rattle.plan_events.specs.declared.step.Step.{Step}
 use Rattle.plan_events.specs.Events.{Holds}
@@ -53,14 +53,14 @@ pub record CanStart (code : Program) (r : Request) : Type 0 where
 -- and this is the player at its start, and the text holds these steps
 pub record IsPlayback (r : Request) (p : Playing) (steps : List Step) : Type 0 where
   pub ready : CanStart p.code r
-  pub begins : BeginsWith p.code (start_of p.code r) p
+  pub begins : IsAtStart p.code (start_of p.code r) p
   pub holds : Holds r.text steps
 
 -- ---- what is delivered
 
 -- the bytes of the plain run, and the number of its frames; or as much as the sink took of it; memory aside
 abbrev pub Delivers : Playing → List Event → Option (List ℕ) → Option (List ℕ) → Result ℕ RunFault → Type 0
-Delivers p events before after (Ok frames) = (frames ≡ length (frames_of p events)) × Appends before after (bytes_of p events)
+Delivers p events before after (Ok frames) = (frames ≡ length (frames_of p events)) × Appends before after (played_bytes p events)
 Delivers p events before after (Err (Code fault)) = fault ≡ NoMemoryForCode
 Delivers p events before after (Err (Refused pc line cause)) = ⊥
 Delivers p events before after (Err (Start fault)) = ⊥
@@ -74,12 +74,12 @@ or_zero None = 0
 or_zero (Some n) = n
 
 -- what holds where a fault comes: that it is one, and that none of those before it is
-abbrev pub IsFault : Request → RunFault → Type 0
-IsFault r (Code fault) = fault ≢ NoMemoryForCode → HasFault r.file fault
-IsFault r (Refused pc line cause) = (code : Program) × IsFileOf code r.file × IsRefused code pc cause × (line ≡ or_zero (line_at code pc))
-IsFault r (Start fault) = (code : Program) × IsTypedFileOf code r.file × (start_fault (start_of code r) ≡ Some fault)
-IsFault r (Events fault) = (code : Program) × CanStart code r × (fault ≢ NoMemoryForEvents → (steps : List Step) → Holds r.text steps → ⊥)
-IsFault r (Write frames bytes) = (p : Playing) × (steps : List Step) × IsPlayback r p steps
+abbrev pub IsRunFault : Request → RunFault → Type 0
+IsRunFault r (Code fault) = fault ≢ NoMemoryForCode → HasCodeFault r.file fault
+IsRunFault r (Refused pc line cause) = (code : Program) × IsFileOf code r.file × IsRefused code pc cause × (line ≡ or_zero (line_at code pc))
+IsRunFault r (Start fault) = (code : Program) × IsTypedFileOf code r.file × (start_fault (start_of code r) ≡ Some fault)
+IsRunFault r (Events fault) = (code : Program) × CanStart code r × (fault ≢ NoMemoryForEvents → (steps : List Step) → Holds r.text steps → ⊥)
+IsRunFault r (Write frames bytes) = (p : Playing) × (steps : List Step) × IsPlayback r p steps
 
 abbrev pub is_write : Result ℕ RunFault → Bool
 is_write (Ok frames) = false

@@ -6,7 +6,7 @@ ghost use Rattle.plan_player.specs.Playing.{Playing};
 ghost use Rattle.plan_player.specs.Delivery.{frames_of};
 ghost use Rattle.plan_events.specs.declared.step.Step.{Step};
 ghost use Rattle.plan_events.specs.Events.{events_of};
-ghost use Rattle.plan_playback.specs.Playback.{asked, IsPlayback, Delivers, IsFault, IsSilent};
+ghost use Rattle.plan_playback.specs.Playback.{asked, IsPlayback, Delivers, IsRunFault, IsSilent};
 ghost use Rattle.plan_playback.specs.Buffering.{size_in};
 
 use crate::buffer::{Buffer, without};
@@ -64,7 +64,7 @@ pub fn run_into<W: Write>(
     ensures only { OnOk result.0 ((p : Playing) × (steps : List Step)
         × IsPlayback (asked code.now events.now count day contacts) p steps) }
     ensures first_fault { IfErr result.0 (λ e.
-        IsFault (asked code.now events.now count day contacts) e) }
+        IsRunFault (asked code.now events.now count day contacts) e) }
     ensures silent { IfErr result.0 (λ e. W.contents out ≡ Some []
         → IsSilent (W.contents out) (W.contents result.1) e) }
 {

@@ -6,7 +6,7 @@ ghost use Rattle.plan_code.specs.Program.{Program};
 ghost use Rattle.plan_player.specs.Playing.{Playing};
 ghost use Rattle.plan_events.specs.declared.step.Step.{Step};
 ghost use Rattle.plan_events.specs.Events.{events_of};
-ghost use Rattle.plan_playback.specs.Playback.{asked, IsPlayback, Delivers, IsFault, is_write, IsSilent};
+ghost use Rattle.plan_playback.specs.Playback.{asked, IsPlayback, Delivers, IsRunFault, is_write, IsSilent};
 
 use crate::code_file::typed_code;
 use crate::fault::RunFault;
@@ -45,7 +45,7 @@ pub fn run<K: Sink>(
     ensures only { OnOk result ((p : Playing) × (steps : List Step)
         × IsPlayback (asked code.now events.now count day contacts) p steps) }
     ensures first_fault { IfErr result (λ e.
-        IsFault (asked code.now events.now count day contacts) e) }
+        IsRunFault (asked code.now events.now count day contacts) e) }
     // The sink has failed exactly where the fault is `Write`, and has taken nothing at another fault.
     ensures failed { K.has_failed out.new ≡ is_write result }
     ensures silent { IfErr result (λ e. IsSilent (K.taken out.old) (K.taken out.new) e) }

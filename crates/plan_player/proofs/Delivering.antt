@@ -11,7 +11,7 @@ use Rattle.plan_runs.specs.Frames.{frame_steps, after_frame}
 use Rattle.plan_runs.specs.Runs.{happens, run}
 use Rattle.plan_runs.proofs.Joined.{state_joins, runs_join}
 use Rattle.plan_player.specs.Playing.{Playing, last_steps, played}
-use Rattle.plan_player.specs.Delivery.{frames_of, bytes_of, next_frame, Stopped}
+use Rattle.plan_player.specs.Delivery.{frames_of, played_bytes, next_frame, Stopped}
 
 -- ---- events and then more
 
@@ -32,32 +32,32 @@ concat_join : (xs ys : List (List ℕ)) → concat (xs ++ ys) ≡ concat xs ++ c
 concat_join [] ys = refl
 concat_join (x ∷ xs) ys = ap (λ (l : List ℕ). x ++ l) (concat_join xs ys) ∙ sym (append_assoc x (concat xs) (concat ys))
 
-pub bytes_join : (p : Playing) (events more : List Event) → bytes_of p (events ++ more) ≡ bytes_of p events ++ bytes_of (played p events) more
+pub bytes_join : (p : Playing) (events more : List Event) → played_bytes p (events ++ more) ≡ played_bytes p events ++ played_bytes (played p events) more
 bytes_join p events more = ap (λ (fs : List (List ℕ)). concat fs) (frames_join p events more) ∙ concat_join (frames_of p events) (frames_of (played p events) more)
 
 -- ---- this many events done
 
 pub record Delivered (old new : Playing) (events : List Event) (index : ℕ) (before after : Option (List ℕ)) (frames : ℕ) : Type 0 where
   pub state : new ≡ played old (take index events)
-  pub out : Appends before after (bytes_of old (take index events))
+  pub out : Appends before after (played_bytes old (take index events))
   pub whole : frames ≡ length (frames_of old (take index events))
   pub few : frames ≤ index
 
 pub one_more : (old p q : Playing) (events : List Event) (i : ℕ) (e : Event) (before mid after : Option (List ℕ)) (frames n : ℕ) → Delivered old p events i before mid frames → take (i + 1) events ≡ take i events ++ e ∷ []
-    → q ≡ played p (e ∷ []) → Appends mid after (bytes_of p (e ∷ [])) → n ≡ length (frames_of p (e ∷ [])) → n ≤ 1 → Delivered old q events (i + 1) before after (frames + n)
+    → q ≡ played p (e ∷ []) → Appends mid after (played_bytes p (e ∷ [])) → n ≡ length (frames_of p (e ∷ [])) → n ≤ 1 → Delivered old q events (i + 1) before after (frames + n)
 one_more old p q events i e before mid after frames n d more state out whole few =
     let es : List Event = take i events in
     let at : Playing = played old es in
-    let bytes : bytes_of p (e ∷ []) ≡ bytes_of at (e ∷ []) = ap (λ (x : Playing). bytes_of x (e ∷ [])) d.state in
-    let all : bytes_of old es ++ bytes_of p (e ∷ []) ≡ bytes_of old (take (i + 1) events) =
-    ap (λ (l : List ℕ). bytes_of old es ++ l) bytes ∙ sym (bytes_join old es (e ∷ [])) ∙ ap (λ (l : List Event). bytes_of old l) (sym more) in
+    let bytes : played_bytes p (e ∷ []) ≡ played_bytes at (e ∷ []) = ap (λ (x : Playing). played_bytes x (e ∷ [])) d.state in
+    let all : played_bytes old es ++ played_bytes p (e ∷ []) ≡ played_bytes old (take (i + 1) events) =
+    ap (λ (l : List ℕ). played_bytes old es ++ l) bytes ∙ sym (bytes_join old es (e ∷ [])) ∙ ap (λ (l : List Event). played_bytes old l) (sym more) in
     let count : length (frames_of old (take (i + 1) events)) ≡ length (frames_of old es) + length (frames_of p (e ∷ [])) =
     ap (λ (l : List Event). length (frames_of old l)) more ∙ ap (λ (fs : List (List ℕ)). length fs) (frames_join old es (e ∷ []))
     ∙ length-append (frames_of old es) (frames_of at (e ∷ []))
     ∙ ap (λ (x : Playing). length (frames_of old es) + length (frames_of x (e ∷ []))) (sym d.state) in
     record {
       state = state ∙ ap (λ (x : Playing). played x (e ∷ [])) d.state ∙ sym (played_join old es (e ∷ [])) ∙ ap (λ (l : List Event). played old l) (sym more);
-      out = subst (λ (l : List ℕ). Appends before after l) all (Appends-trans before mid after (bytes_of old es) (bytes_of p (e ∷ [])) d.out out);
+      out = subst (λ (l : List ℕ). Appends before after l) all (Appends-trans before mid after (played_bytes old es) (played_bytes p (e ∷ [])) d.out out);
       whole = omega (arith, count, d.whole, whole);
       few = omega (arith, d.few, few);
     }
@@ -70,7 +70,7 @@ stopped_here old p q events i e before mid after frames n d more is state part o
     let es : List Event = take i events in
     let at : Playing = played old es in
     let last : e ∷ [] ≡ Frame ∷ [] = ap (λ (x : Event). x ∷ []) is in
-    let bytes : bytes_of old es ++ take n (next_frame p) ≡ bytes_of old es ++ take n (next_frame at) = ap (λ (x : Playing). bytes_of old es ++ take n (next_frame x)) d.state in
+    let bytes : played_bytes old es ++ take n (next_frame p) ≡ played_bytes old es ++ take n (next_frame at) = ap (λ (x : Playing). played_bytes old es ++ take n (next_frame x)) d.state in
     record {
       done = es;
       rest = drop (i + 1) events;
@@ -79,5 +79,5 @@ stopped_here old p q events i e before mid after frames n d more is state part o
       whole = d.whole;
       part = subst (λ (x : Playing). n < length (next_frame x)) d.state part;
       state = state ∙ ap (λ (x : Playing). played x (e ∷ [])) d.state ∙ sym (played_join old es (e ∷ [])) ∙ ap (λ (l : List Event). played old (es ++ l)) last;
-      out = subst (λ (l : List ℕ). Appends before after l) bytes (Appends-trans before mid after (bytes_of old es) (take n (next_frame p)) d.out out);
+      out = subst (λ (l : List ℕ). Appends before after l) bytes (Appends-trans before mid after (played_bytes old es) (take n (next_frame p)) d.out out);
     }

@@ -4,7 +4,7 @@ use Rattle.std.proofs.Common.{◌≡◌, ℕ, ◌<◌, Bool, true, false, cond, 
 use Rattle.std.proofs.lemmas.Bool.{eqb-false}
 use Rattle.mux_config.specs.Configuration.{Configuration}
 use Rattle.mux_config.specs.Change.{change_of, bits_of}
-use Rattle.mux_config.specs.Facts.{Marked}
+use Rattle.mux_entries.specs.Facts.{Marked}
 use Rattle.fib_codec.specs.declared.modes.Mode.{Mode}
 use Rattle.fib_carousel.specs.Pages.{page_set}
 use Rattle.plan_code.specs.declared.plan.Plan.{Plan}
@@ -15,7 +15,7 @@ use Rattle.plan_runs.specs.declared.event.Event.TheVariants.{Contact, Frame}
 use Rattle.plan_runs.specs.declared.event.Start.{Start}
 use Rattle.plan_runs.specs.Frames.{is_due, with_swap, is_noticed, is_first_noticed, left_after_frame, shown, after_burst, sent_entries, after_frame, frame_steps, begins_phase}
 use Rattle.plan_runs.specs.Phases.{SentBy}
-use Rattle.plan_runs.specs.Runs.{IsInRange, IsStart, happens}
+use Rattle.plan_runs.specs.Runs.{StartIsInRange, IsStart, happens}
 use Rattle.plan_runs.specs.TypedRuns.{IsPlayed}
 use Rattle.plan_runs.proofs.TypedRuns.{typed_code_runs}
 use Rattle.plan_runs.proofs.Reached.{starts_are_reached, reached_is_kept}
@@ -156,7 +156,7 @@ contact_goes p s steps pages c closed h below = record {
 
 -- ---- the start
 
-pub start_goes : (p : Program) (start : Start) (s : State) (pages : PhasePages) → IsProgram p → IsTyped p → IsInRange start → IsStart p start s → ((mode : Mode) (ms : List Marked) → Keeps mode ms 0 pages) → IsGoing p s 0 pages
+pub start_goes : (p : Program) (start : Start) (s : State) (pages : PhasePages) → IsProgram p → IsTyped p → StartIsInRange start → IsStart p start s → ((mode : Mode) (ms : List Marked) → Keeps mode ms 0 pages) → IsGoing p s 0 pages
 start_goes p start s pages formed typed range starts none =
     let ms : List Marked = page_set s.current None in
     let sent : SentBy p.plan None s.current s.next ms = refl in

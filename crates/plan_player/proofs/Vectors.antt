@@ -21,8 +21,8 @@ use Rattle.plan_runs.specs.declared.event.Event.TheVariants.{Contact, Frame}
 use Rattle.plan_runs.specs.declared.event.Start.{Start}
 use Rattle.plan_player.specs.declared.fault.StartFault.TheVariants.{Count, Day}
 use Rattle.plan_player.specs.declared.fault.PlayFault.TheVariants.{Write}
-use Rattle.plan_player.specs.Playing.{Playing, start_fault, BeginsWith, last_steps, played}
-use Rattle.plan_player.specs.Delivery.{frames_of, bytes_of, next_frame, Stopped, StoppedBy}
+use Rattle.plan_player.specs.Playing.{Playing, start_fault, IsAtStart, last_steps, played}
+use Rattle.plan_player.specs.Delivery.{frames_of, played_bytes, next_frame, Stopped, StoppedBy}
 use Rattle.plan_player.specs.declared.phase_pages.Sent.TheVariants.{Kept, Headed}
 use Rattle.plan_player.specs.Phase.{HasPage, ShowsAs, HasChange, KeepsChange}
 
@@ -86,7 +86,7 @@ count_first = refl
 day_alone : start_fault (record start { day = 3600000 }) ≡ Some Day
 day_alone = refl
 
-begins : BeginsWith waits start fresh
+begins : IsAtStart waits start fresh
 begins = record {
   code_is = refl;
   state_is = record {
@@ -108,10 +108,10 @@ begins = record {
 }
 
 -- with an instruction that no frame has carried out
-begins_with_a_step : BeginsWith waits start (record fresh { steps = 1 }) → ⊥
+begins_with_a_step : IsAtStart waits start (record fresh { steps = 1 }) → ⊥
 begins_with_a_step h = let e : 1 ≡ 0 = h.none_yet in omega (arith, e)
 
-begins_at_another_count : BeginsWith waits (record start { count = 4 }) fresh → ⊥
+begins_at_another_count : IsAtStart waits (record start { count = 4 }) fresh → ⊥
 begins_at_another_count h = let e : 0 ≡ 4 = h.state_is.count in omega (arith, e)
 
 -- ---- the instructions of the last frame
@@ -131,7 +131,7 @@ none_in_the_third = refl
 -- ---- a sink that takes 100 bytes of three frames
 
 abbrev taken : List ℕ
-taken = bytes_of fresh (frames 1) ++ take 4 (next_frame (played fresh (frames 1)))
+taken = played_bytes fresh (frames 1) ++ take 4 (next_frame (played fresh (frames 1)))
 
 hundred_bytes : length taken ≡ 100
 hundred_bytes = refl
@@ -173,7 +173,7 @@ frame_not_played h =
     omega (arith, count, same)
 
 -- a frame of which all bytes are out is none that was cut
-all_bytes : Stopped fresh (played fresh (frames 1)) (frames 1) (Some []) (Some (bytes_of fresh (frames 1))) 0 96 → ⊥
+all_bytes : Stopped fresh (played fresh (frames 1)) (frames 1) (Some []) (Some (played_bytes fresh (frames 1))) 0 96 → ⊥
 all_bytes h =
     let same : length (next_frame (played fresh h.done)) ≡ 96 = ap (λ (done : List Event). length (next_frame (played fresh done))) (nothing_done h.done h.rest h.cut) in
     omega (arith, same, h.part)

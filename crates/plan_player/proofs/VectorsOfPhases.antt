@@ -5,7 +5,7 @@ use Rattle.std.proofs.Common.{◌≡◌, ℕ, zero, suc, ◌+◌, ◌*◌, ◌<�
 use Rattle.mux_eep.specs.declared.sizes.EepSet.TheVariants.{A}
 use Rattle.mux_types.specs.declared.parts.Sub.{Sub}
 use Rattle.mux_config.specs.Configuration.{Configuration, IsPlaced, IsConfiguration}
-use Rattle.mux_config.specs.Facts.{Marked}
+use Rattle.mux_entries.specs.Facts.{Marked}
 use Rattle.fib_codec.specs.declared.modes.Mode.TheVariants.{I}
 use Rattle.fib_carousel.specs.declared.kept_page.KeptPage.{KeptPage}
 use Rattle.fib_carousel.specs.declared.page_cursor.Cursor.{Cursor}
@@ -28,12 +28,12 @@ use Rattle.plan_verifier.proofs.OneVerdict.{typed_if}
 use Rattle.plan_runs.specs.declared.event.Event.TheVariants.{Frame}
 use Rattle.plan_runs.specs.declared.event.Start.{Start}
 use Rattle.plan_runs.specs.Frames.{after_frame}
-use Rattle.plan_runs.specs.Runs.{IsInRange, IsStart}
+use Rattle.plan_runs.specs.Runs.{StartIsInRange, IsStart}
 use Rattle.plan_runs.specs.TypedRuns.{IsPlayed}
 use Rattle.plan_runs.proofs.Reached.{starts_are_reached, reached_is_kept}
 use Rattle.plan_player.specs.declared.phase_pages.PhasePages.{PhasePages}
 use Rattle.plan_player.specs.declared.phase_pages.Sent.TheVariants.{Kept, Headed}
-use Rattle.plan_player.specs.Phase.{HasPage, Keeps, Shows, IsInPhase, IsFrameReady, IsGoing}
+use Rattle.plan_player.specs.Phase.{HasPage, Keeps, ShowsBytes, IsInPhase, IsFrameReady, IsGoing}
 use Rattle.plan_player.proofs.FrameFacts.{frame_ready}
 
 -- ---- values shared by these vectors: one sub-channel, at 128 kbit/s and at 96, and a code over it
@@ -230,10 +230,10 @@ page_of_others h =
 
 -- ---- the last frame
 
-shows_the_page : Shows kept (page_bytes I None 0 (entries 128))
+shows_the_page : ShowsBytes kept (page_bytes I None 0 (entries 128))
 shows_the_page = (page_of 128, refl, refl)
 
-shows_no_other : Shows kept (page_bytes I None 0 (entries 96)) → ⊥
+shows_no_other : ShowsBytes kept (page_bytes I None 0 (entries 96)) → ⊥
 shows_no_other h =
     let held : Some (Some (page_of 128)) ≡ Some (Some h.0) = h.1 in
     let same : page_of 128 ≡ h.0 = cc held in
@@ -242,10 +242,10 @@ shows_no_other h =
     omega (arith, plain, other)
 
 -- a page that no place holds
-shows_nothing : (bytes : List ℕ) → Shows (record kept { sent = Kept 1 }) bytes → ⊥
+shows_nothing : (bytes : List ℕ) → ShowsBytes (record kept { sent = Kept 1 }) bytes → ⊥
 shows_nothing bytes h = let e : Some None ≡ Some (Some h.0) = h.1 in absurd cc
 
-shows_the_headed : Shows (record kept { sent = Headed }) (replicate 96 0)
+shows_the_headed : ShowsBytes (record kept { sent = Headed }) (replicate 96 0)
 shows_the_headed = refl
 
 -- ---- between frames
@@ -334,7 +334,7 @@ it_starts = record {
   turn = refl;
 }
 
-in_range : IsInRange start
+in_range : StartIsInRange start
 in_range = record { eid = omega arith; count = omega arith; day = omega arith; contacts = omega arith }
 
 played : IsPlayed waits second

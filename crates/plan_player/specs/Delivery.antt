@@ -14,8 +14,8 @@ use Rattle.plan_player.specs.Playing.{Playing, played}
 abbrev pub frames_of : Playing → List Event → List (List ℕ)
 frames_of p events = run_frames p.code p.state events
 
-abbrev pub bytes_of : Playing → List Event → List ℕ
-bytes_of p events = concat (frames_of p events)
+abbrev pub played_bytes : Playing → List Event → List ℕ
+played_bytes p events = concat (frames_of p events)
 
 abbrev pub next_frame : Playing → List ℕ
 next_frame p = frame_bytes p.code p.state
@@ -29,7 +29,7 @@ pub record Stopped (old new : Playing) (events : List Event) (before after : Opt
   pub whole : frames ≡ length (frames_of old done)
   pub part : bytes < length (next_frame (played old done))
   pub state : new ≡ played old (done ++ Frame ∷ [])
-  pub out : Appends before after (bytes_of old done ++ take bytes (next_frame (played old done)))
+  pub out : Appends before after (played_bytes old done ++ take bytes (next_frame (played old done)))
 
 abbrev pub StoppedBy : Playing → Playing → List Event → Option (List ℕ) → Option (List ℕ) → PlayFault → Type 0
 StoppedBy old new events before after (Write frames bytes) = Stopped old new events before after frames bytes

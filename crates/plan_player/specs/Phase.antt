@@ -3,7 +3,7 @@
 use Rattle.std.specs.Prelude.{◌≡◌, ℕ, ◌<◌, ◌≤◌, true, false, List, length, Option, Some, None, slice_get}
 use Rattle.mux_config.specs.Configuration.{Configuration}
 use Rattle.mux_config.specs.Change.{change_of, bits_of}
-use Rattle.mux_config.specs.Facts.{Marked}
+use Rattle.mux_entries.specs.Facts.{Marked}
 use Rattle.fib_codec.specs.declared.modes.Mode.{Mode}
 use Rattle.fib_carousel.specs.declared.kept_page.KeptPage.{KeptPage}
 use Rattle.fib_carousel.specs.Pages.{rounds}
@@ -42,8 +42,8 @@ abbrev pub ShowsAs : Sent → List (Option KeptPage) → List ℕ → List ℕ �
 ShowsAs (Kept n) pages headed bytes = (page : KeptPage) × (slice_get pages n ≡ Some (Some page)) × (page.plain ≡ bytes)
 ShowsAs Headed pages headed bytes = headed ≡ bytes
 
-abbrev pub Shows : PhasePages → List ℕ → Type 0
-Shows p bytes = ShowsAs p.sent p.pages p.headed bytes
+abbrev pub ShowsBytes : PhasePages → List ℕ → Type 0
+ShowsBytes p bytes = ShowsAs p.sent p.pages p.headed bytes
 
 -- these are the change flags of a frame, where it is one of a notice
 abbrev pub HasChange : ℕ → Option ℕ → Configuration → Configuration → ℕ → Type 0

@@ -27,7 +27,7 @@ start_fault start =
     else None
 
 -- the code is played from this start, and no frame was made yet
-pub record BeginsWith (code : Program) (start : Start) (p : Playing) : Type 0 where
+pub record IsAtStart (code : Program) (start : Start) (p : Playing) : Type 0 where
   pub code_is : p.code ≡ code
   pub state_is : IsStart code start p.state
   pub none_yet : p.steps ≡ 0

@@ -5,7 +5,7 @@ ghost use Rattle.std.specs.Io.KnownBytes.{Appends};
 ghost use Rattle.plan_runs.specs.declared.event.Event.TheVariants.{Frame};
 ghost use Rattle.plan_runs.specs.Headline.{KeepsItsWord};
 ghost use Rattle.plan_player.specs.Playing.{played};
-ghost use Rattle.plan_player.specs.Delivery.{frames_of, bytes_of, next_frame, StoppedBy};
+ghost use Rattle.plan_player.specs.Delivery.{frames_of, played_bytes, next_frame, StoppedBy};
 
 use crate::fault::PlayFault;
 use crate::player::Player;
@@ -23,7 +23,7 @@ fn play_event<'a, S: Store, K: Sink>(
     requires working { K.has_failed sink.old ≡ false }
     ensures state { player.new ≡ played player.old (event ∷ []) }
     ensures bytes { OnOk result
-        (Appends (K.taken sink.old) (K.taken sink.new) (bytes_of player.old (event ∷ []))) }
+        (Appends (K.taken sink.old) (K.taken sink.new) (played_bytes player.old (event ∷ []))) }
     ensures frames { IfOk result (λ n. n ≡ length (frames_of player.old (event ∷ []))) }
     ensures one { IfOk result (λ n. n ≤ 1) }
     ensures works { OnOk result (K.has_failed sink.new ≡ false) }
@@ -66,7 +66,7 @@ pub fn play<'a, S: Store, K: Sink>(
 ) -> Result<u64, PlayFault>
     requires working { K.has_failed sink.old ≡ false }
     ensures bytes { OnOk result
-        (Appends (K.taken sink.old) (K.taken sink.new) (bytes_of player.old events.now)) }
+        (Appends (K.taken sink.old) (K.taken sink.new) (played_bytes player.old events.now)) }
     ensures state { OnOk result (player.new ≡ played player.old events.now) }
     ensures frames { IfOk result (λ n. n ≡ length (frames_of player.old events.now)) }
     ensures works { OnOk result (K.has_failed sink.new ≡ false) }

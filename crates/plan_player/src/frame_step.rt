@@ -2,14 +2,14 @@
 
 ghost use Rattle.std.specs.Prelude.{◌≡◌, ℕ, ◌<◌, ◌≤◌, List, true, false};
 ghost use Rattle.mux_config.specs.Change.{change_of, bits_of};
-ghost use Rattle.mux_config.specs.Facts.{Marked};
+ghost use Rattle.mux_entries.specs.Facts.{Marked};
 ghost use Rattle.fib_codec.specs.declared.modes.Mode.{Mode};
 ghost use Rattle.fib_carousel.specs.Pages.{page_after};
 ghost use Rattle.fib_carousel.specs.Bytes.{page_bytes};
 ghost use Rattle.plan_runs.specs.Frames.{is_first_noticed, shown, shown_bytes, sent_entries, sent_rounds, with_next_counts, frame_bytes, frame_steps, after_frame};
 ghost use Rattle.plan_runs.specs.TypedRuns.{CanBeSent};
 ghost use Rattle.plan_machine.specs.Positions.{state_of};
-ghost use Rattle.plan_player.specs.Phase.{HasPage, Keeps, Shows, HasChange, IsFrameReady};
+ghost use Rattle.plan_player.specs.Phase.{HasPage, Keeps, ShowsBytes, HasChange, IsFrameReady};
 
 use crate::phase_pages::{PhasePages, Sent, held, make_if_new};
 use mux_config::{Ensemble, Store, change};
@@ -37,7 +37,7 @@ fn make_page_to_send<S: Store>(plan: &Plan, machine: &Machine<S>, pages: &mut Ph
 fn show(pages: &mut PhasePages, number: u8, ensemble: Option<Ensemble>)
     requires { (mode : Mode) × (ms : List Marked) × HasPage mode ms number pages.old.pages }
     ensures bytes { (mode : Mode) (ms : List Marked) → HasPage mode ms number pages.old.pages
-        → Shows pages.new (page_bytes mode ensemble number ms) }
+        → ShowsBytes pages.new (page_bytes mode ensemble number ms) }
     ensures keeps { (mode : Mode) (ms : List Marked) (turn : ℕ) →
         Keeps mode ms turn pages.old → Keeps mode ms turn pages.new }
     ensures made { pages.new.made ≡ pages.old.made }
@@ -60,7 +60,7 @@ fn send<S: Store>(plan: &Plan, machine: &mut Machine<S>, pages: &mut PhasePages)
         Keeps plan.now.mode (sent_entries plan.now s) s.turn pages.old }
     requires change { let s = state_of S.content machine.old in
         HasChange plan.now.notice s.left s.current s.next pages.old.change }
-    ensures bytes { Shows pages.new (shown_bytes plan.now (state_of S.content machine.old)) }
+    ensures bytes { ShowsBytes pages.new (shown_bytes plan.now (state_of S.content machine.old)) }
     ensures state { state_of S.content machine.new ≡
         with_next_counts plan.now (state_of S.content machine.old) }
     ensures keeps { let s = state_of S.content machine.old in
@@ -131,7 +131,7 @@ pub(crate) fn make_frame<S: Store>(
     pages: &mut PhasePages,
 ) -> u8
     requires ready { IsFrameReady code.now (state_of S.content machine.old) pages.old }
-    ensures bytes { Shows pages.new (frame_bytes code.now (state_of S.content machine.old)) }
+    ensures bytes { ShowsBytes pages.new (frame_bytes code.now (state_of S.content machine.old)) }
     ensures steps { result ≡ frame_steps code.now (state_of S.content machine.old) }
     ensures state { state_of S.content machine.new ≡
         after_frame code.now (state_of S.content machine.old) }

@@ -2,11 +2,11 @@
 
 ghost use Rattle.std.specs.Prelude.{◌≡◌, ℕ, ◌+◌, ◌<◌, ◌≤◌, List, slice_get, Some, true, false};
 ghost use Rattle.std.specs.Option.{option_copied};
-ghost use Rattle.mux_config.specs.Facts.{Marked};
+ghost use Rattle.mux_entries.specs.Facts.{Marked};
 ghost use Rattle.fib_codec.specs.declared.modes.Mode.{Mode};
 ghost use Rattle.fib_carousel.specs.Pages.{page_set_of, rounds};
 ghost use Rattle.fib_carousel.specs.declared.kept_page.KeptPage.{KeptPage};
-ghost use Rattle.plan_player.specs.Phase.{Keeps, Shows};
+ghost use Rattle.plan_player.specs.Phase.{Keeps, ShowsBytes};
 
 use fib_carousel::{Cursor, KeptPage};
 use fib_codec::{FibFrame, Mode};
@@ -121,8 +121,8 @@ impl PhasePages {
 
     /// The last frame, which is still there.
     pub(crate) fn frame(&self) -> &FibFrame
-        requires { (bytes : List ℕ) × Shows self.now bytes }
-        ensures { (bytes : List ℕ) → Shows self.now bytes → result.now ≡ bytes }
+        requires { (bytes : List ℕ) × ShowsBytes self.now bytes }
+        ensures { (bytes : List ℕ) → ShowsBytes self.now bytes → result.now ≡ bytes }
     {
         match self.sent {
             Sent::Kept(number) => held(&self.pages, number).without_ensemble(),

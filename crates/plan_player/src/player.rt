@@ -8,13 +8,13 @@ ghost use Rattle.plan_code.specs.Program.{line_at};
 ghost use Rattle.plan_runs.specs.declared.event.Event.{Event};
 ghost use Rattle.plan_runs.specs.declared.event.Event.TheVariants.{Contact, Frame};
 ghost use Rattle.plan_runs.specs.Frames.{frame_bytes, frame_steps, after_frame};
-ghost use Rattle.plan_runs.specs.Runs.{IsInRange, happens};
+ghost use Rattle.plan_runs.specs.Runs.{StartIsInRange, happens};
 ghost use Rattle.plan_runs.specs.TypedRuns.{IsPlayed};
 ghost use Rattle.plan_runs.specs.Announced.{FrameRuns, heard_of};
 ghost use Rattle.plan_runs.specs.RightBytes.{FrameIsRight, IsHeardEachPeriod};
 ghost use Rattle.plan_runs.specs.Headline.{KeepsCount};
 ghost use Rattle.plan_machine.specs.Positions.{state_of};
-ghost use Rattle.plan_player.specs.Playing.{start_fault, BeginsWith, played};
+ghost use Rattle.plan_player.specs.Playing.{start_fault, IsAtStart, played};
 ghost use Rattle.plan_player.specs.Delivery.{next_frame};
 
 use crate::fault::StartFault;
@@ -59,7 +59,7 @@ impl<'a, S: Store> Model for Player<'a, S> {
 /// The first fault of a start.
 fn fault_of(start: Start) -> Option<StartFault>
     ensures first { result ≡ start_fault start }
-    ensures none { result ≡ None → IsInRange start }
+    ensures none { result ≡ None → StartIsInRange start }
 {
     let _eid = start.eid;
     let _contacts = start.contacts.0;
@@ -91,7 +91,7 @@ impl<'a, S: Store> Player<'a, S> {
     ///
     /// `Count`: the CIF count is 5000 or more; `Day`: the frame of the day is 3,600,000 or more. `Count` comes first.
     pub fn new(code: &'a Verified, start: Start) -> Result<Player<'a, S>, StartFault>
-        ensures begins { IfOk result (λ p. BeginsWith code.now start p) }
+        ensures begins { IfOk result (λ p. IsAtStart code.now start p) }
         ensures fault { result_err result ≡ start_fault start }
     {
         if let Some(fault) = fault_of(start) {

@@ -9,7 +9,7 @@ use Rattle.plan_runs.specs.declared.event.Event.{Event}
 use Rattle.plan_runs.specs.declared.event.Event.TheVariants.{Contact, Frame}
 use Rattle.plan_runs.specs.declared.event.Start.{Start}
 use Rattle.plan_runs.specs.Frames.{shown, after_frame}
-use Rattle.plan_runs.specs.Runs.{IsStart, IsInRange, happens, run}
+use Rattle.plan_runs.specs.Runs.{IsStart, StartIsInRange, happens, run}
 use Rattle.plan_runs.specs.TypedRuns.{IsPlayed}
 use Rattle.plan_runs.proofs.Between.{Between, frame_between, each_get}
 use Rattle.plan_runs.proofs.TypedRuns.{started_between}
@@ -52,7 +52,7 @@ pub run_holds : (p : Program) (ts : List Known) → IsCode p ts → (s : State) 
 run_holds p ts c s [] h = h
 run_holds p ts c s (e ∷ es) h = run_holds p ts c (happens p s e) es (happens_holds p ts c s e h)
 
-started_tracked : (p : Program) (start : Start) (s : State) → IsProgram p → IsInRange start → IsStart p start s → Tracked p.plan s
+started_tracked : (p : Program) (start : Start) (s : State) → IsProgram p → StartIsInRange start → IsStart p start s → Tracked p.plan s
 started_tracked p start s pr range st =
     let current : IsConfiguration s.current = each_get IsConfiguration p.configurations st.label.cur s.current pr.configurations_formed st.current in
     let turn : TurnBefore p.plan None s.current s.next 0 = some_rounds p.plan.mode (page_set s.current None) in

@@ -21,7 +21,7 @@ use Rattle.plan_code.specs.Flags.{is_set, is_closed, with_counter, without_count
 use Rattle.plan_code.proofs.Bits.{counters_change_alone}
 use Rattle.plan_code.specs.Program.{Program, IsProgram, IsInstr, label_at}
 use Rattle.plan_code.specs.Machine.{State, advance, suspend, commit, settle, effect, left_in, left_at, counter_of, IsAllowed, IsReady}
-use Rattle.plan_verifier.specs.Typing.{Known, CanCommit, IsTyping, IsSafe, IsSurelyPending, Arrives, Reaches, leaves, spent, swapped, waited, paused, settled}
+use Rattle.plan_verifier.specs.Typing.{Known, CanCommit, IsTyping, IsSafe, IsSurelyPending, Arrives, Reaches, leaves, spent, known_after_swap, waited, paused, settled}
 use Rattle.plan_runs.specs.Frames.{is_running, left_after_frame}
 use Rattle.plan_runs.proofs.Knowledge.{IsIdleAs, IsPendingAs, AgreesBy, ComesBy, PausesBy, JoinsBy, IsAhead, AreSet, IsCommitted, CommittedBy, IsKept}
 use Rattle.plan_runs.proofs.Passing.{wait_by, pause_by, after_some}
@@ -71,16 +71,16 @@ waited_counters : (n : ℕ) (q : Swap) (t : Known) → (waited n q t).counters �
 waited_counters n Idle t = refl
 waited_counters n (Within lo hi) t = by (nat_lt n lo)
   where
-    by : (test : Bool) → (let u : Known = cond test (record t { pending = Within (lo - n) (hi - n) }) (swapped t) in u.counters) ≡ t.counters
+    by : (test : Bool) → (let u : Known = cond test (record t { pending = Within (lo - n) (hi - n) }) (known_after_swap t) in u.counters) ≡ t.counters
     by true = refl
     by false = refl
 waited_counters n (Perhaps hi) t = by (nat_lt n hi)
   where
-    by : (test : Bool) → (let u : Known = cond test (record t { pending = Perhaps (hi - n) }) (swapped t) in u.counters) ≡ t.counters
+    by : (test : Bool) → (let u : Known = cond test (record t { pending = Perhaps (hi - n) }) (known_after_swap t) in u.counters) ≡ t.counters
     by true = refl
     by false = refl
 
-within_counters : (hi : ℕ) (t : Known) (test : Bool) → (let u : Known = cond test (record t { pending = Perhaps (hi - 1) }) (swapped t) in u.counters) ≡ t.counters
+within_counters : (hi : ℕ) (t : Known) (test : Bool) → (let u : Known = cond test (record t { pending = Perhaps (hi - 1) }) (known_after_swap t) in u.counters) ≡ t.counters
 within_counters hi t true = refl
 within_counters hi t false = refl
 
@@ -190,11 +190,11 @@ settle_by : (p : Program) (ts : List Known) (b : ℕ) (s : State) (t : Known) (q
 settle_by p ts b s t Idle is h arrives agrees =
     settle_idle p ts h.typing b s (spent t) agrees.none h.runs arrives (omega (arith, h.affords)) (agrees_idle t s.left s.current s.next is agrees) h.set h.kept
 settle_by p ts b s t (Within lo hi) is h arrives agrees =
-    settle_pending p ts b s (spent (swapped t)) agrees.frames agrees.is agrees.ahead h.kept arrives (omega (arith, h.affords, h.within)) h.set refl agrees.next agrees.next
+    settle_pending p ts b s (spent (known_after_swap t)) agrees.frames agrees.is agrees.ahead h.kept arrives (omega (arith, h.affords, h.within)) h.set refl agrees.next agrees.next
 settle_by p ts b s t (Perhaps hi) is h arrives (inl agrees) =
-    settle_pending p ts b s (spent (swapped t)) agrees.frames agrees.is agrees.ahead h.kept arrives (omega (arith, h.affords, h.within)) h.set refl agrees.next agrees.next
+    settle_pending p ts b s (spent (known_after_swap t)) agrees.frames agrees.is agrees.ahead h.kept arrives (omega (arith, h.affords, h.within)) h.set refl agrees.next agrees.next
 settle_by p ts b s t (Perhaps hi) is h arrives (inr agrees) =
-    settle_idle p ts h.typing b s (spent (swapped t)) agrees.none h.runs arrives (omega (arith, h.affords)) agrees h.set h.kept
+    settle_idle p ts h.typing b s (spent (known_after_swap t)) agrees.none h.runs arrives (omega (arith, h.affords)) agrees h.set h.kept
 
 settles : (p : Program) (ts : List Known) (b : ℕ) (s : State) (t : Known) → IsHere p ts b s Settle t → Succeeds p ts b s Settle
 settles p ts b s t h = (tt, settle_by p ts b s t t.pending refl h (h.safe.onward refl) h.agrees)

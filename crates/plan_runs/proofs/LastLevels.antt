@@ -14,7 +14,7 @@ use Rattle.plan_runs.specs.declared.event.Event.{Event}
 use Rattle.plan_runs.specs.declared.event.Event.TheVariants.{Frame}
 use Rattle.plan_runs.specs.Frames.{after_frame, frame_bytes}
 use Rattle.plan_runs.specs.Runs.{run, run_frames, run_states}
-use Rattle.plan_runs.specs.Settings.{Setting, IsSetting, last_of, level_by, last_level, AreAlike, set_events, schedule, LastLevelsCount}
+use Rattle.plan_runs.specs.Settings.{Setting, IsSetting, last_of, level_by, last_level, AgreeOnContacts, set_events, schedule, LastLevelsCount}
 use Rattle.plan_runs.proofs.Unmoved.{frame_contacts}
 
 -- ---- what settings make of the contacts
@@ -69,7 +69,7 @@ one_bit a b below_a below_b same = grind (arith, below_a, below_b, same)
 same_contacts : (a b : Contacts) → a.0 ≡ b.0 → a ≡ b
 same_contacts a b e = ap (λ (n : ℕ). let r : Contacts = record { 0 = n } in r) e
 
-alike_contacts : (xs ys : List Setting) (contacts : Contacts) → Each IsSetting xs → Each IsSetting ys → contacts.0 < 2 ^ 16 → AreAlike xs ys
+alike_contacts : (xs ys : List Setting) (contacts : Contacts) → Each IsSetting xs → Each IsSetting ys → contacts.0 < 2 ^ 16 → AgreeOnContacts xs ys
     → contacts_after xs contacts ≡ contacts_after ys contacts
 alike_contacts xs ys contacts in_xs in_ys below alike =
     let a = contacts_after xs contacts in

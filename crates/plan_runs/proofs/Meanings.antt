@@ -2,7 +2,7 @@
 use Rattle.std.specs.Prelude.{Contains}
 use Rattle.std.proofs.Common.{◌≡◌, ℕ, zero, suc, ◌<◌, ◌≤◌, true, false, List, [], ◌∷◌, Some, None, replicate, refl, sym, ap, subst, arith, inl, inr}
 use Rattle.mux_config.specs.Configuration.{Configuration, nothing}
-use Rattle.mux_config.specs.Facts.{Marked, facts_of}
+use Rattle.mux_entries.specs.Facts.{Marked, facts_of}
 use Rattle.fib_codec.specs.declared.modes.Mode.TheVariants.{I}
 use Rattle.plan_code.specs.declared.plan.Plan.{Plan}
 use Rattle.plan_code.specs.declared.hold.Hold.TheVariants.{Waits, Ended}
@@ -18,7 +18,7 @@ use Rattle.plan_runs.specs.declared.event.Event.{Event}
 use Rattle.plan_runs.specs.declared.event.Event.TheVariants.{Contact, Frame}
 use Rattle.plan_runs.specs.declared.event.Start.{Start}
 use Rattle.plan_runs.specs.Frames.{Executes, FrameIsAllowed, after_burst, after_frame}
-use Rattle.plan_runs.specs.Runs.{IsInRange, IsStart, IsReached, happens, run}
+use Rattle.plan_runs.specs.Runs.{StartIsInRange, IsStart, IsReached, happens, run}
 use Rattle.plan_runs.specs.Announced.{IsHeardWhole, HasThreeHeaders, IsAnnounced}
 use Rattle.plan_runs.specs.RightBytes.{IsRight, BeginsNoPhase, IsOnePhase}
 use Rattle.plan_runs.specs.Headline.{SwapsAt}
@@ -103,10 +103,10 @@ over_budget h = by h.steps h.within h.executes
 
 -- ---- starts and reached states
 
-in_range : IsInRange (start_at 4999)
+in_range : StartIsInRange (start_at 4999)
 in_range = record { eid = omega arith; count = omega arith; day = omega arith; contacts = omega arith }
 
-out_of_range : IsInRange (start_at 5000) → ⊥
+out_of_range : StartIsInRange (start_at 5000) → ⊥
 out_of_range h = omega (arith, h.count)
 
 started : IsStart (lone 20 End) (start_at 4999) (first_state 4999)

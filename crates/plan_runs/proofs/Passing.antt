@@ -5,7 +5,7 @@ use Rattle.std.proofs.lemmas.Bool.{eqb-true, eqb-false, ltb-true, ltb-false}
 use Rattle.mux_config.specs.Configuration.{Configuration}
 use Rattle.plan_code.specs.declared.label.Swap.{Swap}
 use Rattle.plan_code.specs.declared.label.Swap.TheVariants.{Idle, Within, Perhaps}
-use Rattle.plan_verifier.specs.Typing.{Known, IsCertain, waited, paused, swapped, FitsSwap}
+use Rattle.plan_verifier.specs.Typing.{Known, IsCertain, waited, paused, known_after_swap, FitsSwap}
 use Rattle.plan_runs.specs.Frames.{is_due, left_after_frame}
 use Rattle.plan_runs.proofs.Knowledge.{IsIdleAs, IsPendingAs, AgreesBy, ComesBy, PausesBy, JoinsBy, IsAhead}
 
@@ -119,7 +119,7 @@ joins_later t left n h = record { frames = h.frames - 1; is = after_some left h.
 -- ---- a wait
 
 wait_within : (n lo hi : ℕ) (t : Known) (left : Option ℕ) (c x : Configuration) → 1 ≤ n → (n < lo) ⊎ (hi ≤ n) → IsPendingAs t.current t.next 1 lo hi left c x → (test : Bool) → nat_lt n lo ≡ test
-    → (let u : Known = cond test (record t { pending = Within (lo - n) (hi - n) }) (swapped t) in ComesBy (n - 1) u.pending u.current u.next (left_after_frame left) c x)
+    → (let u : Known = cond test (record t { pending = Within (lo - n) (hi - n) }) (known_after_swap t) in ComesBy (n - 1) u.pending u.current u.next (left_after_frame left) c x)
 wait_within n lo hi t left c x some certain h true e =
     let below : n < lo = ltb-true n lo e in
     record { frames = h.frames - 1; is = after_some left h.frames h.is; ahead = omega arith; low = omega arith; high = omega arith; current = h.current; next = h.next }
@@ -129,7 +129,7 @@ wait_within n lo hi t left c x some certain h false e =
     inr (record { frames = h.frames - 1; is = after_some left h.frames h.is; most = omega arith; current = h.next; next = h.next })
 
 wait_perhaps : (n hi : ℕ) (t : Known) (left : Option ℕ) (c x : Configuration) → 1 ≤ n → AgreesBy (Perhaps hi) t.current t.next left c x → (test : Bool) → nat_lt n hi ≡ test
-    → (let u : Known = cond test (record t { pending = Perhaps (hi - n) }) (swapped t) in ComesBy (n - 1) u.pending u.current u.next (left_after_frame left) c x)
+    → (let u : Known = cond test (record t { pending = Perhaps (hi - n) }) (known_after_swap t) in ComesBy (n - 1) u.pending u.current u.next (left_after_frame left) c x)
 wait_perhaps n hi t left c x some (inl h) true e =
     let below : n < hi = ltb-true n hi e in
     inl (record { frames = h.frames - 1; is = after_some left h.frames h.is; ahead = omega arith; low = omega arith; high = omega arith; current = h.current; next = h.next })
@@ -150,7 +150,7 @@ wait_by n (Perhaps hi) t left c x is some certain h = wait_perhaps n hi t left c
 -- ---- a pause
 
 pause_within : (hi : ℕ) (t : Known) (left : Option ℕ) (c x : Configuration) (low : ℕ) → IsPendingAs t.current t.next 1 low hi left c x → (test : Bool) → nat_lt 1 hi ≡ test
-    → (let u : Known = cond test (record t { pending = Perhaps (hi - 1) }) (swapped t) in PausesBy u.pending u.current u.next (left_after_frame left) c x)
+    → (let u : Known = cond test (record t { pending = Perhaps (hi - 1) }) (known_after_swap t) in PausesBy u.pending u.current u.next (left_after_frame left) c x)
 pause_within hi t left c x low h true e =
     let below : 1 < hi = ltb-true 1 hi e in
     inl (record { frames = h.frames - 1; is = after_some left h.frames h.is; ahead = omega arith; low = omega arith; high = omega arith; current = h.current; next = h.next })
@@ -159,7 +159,7 @@ pause_within hi t left c x low h false e =
     inr (record { frames = h.frames - 1; is = after_some left h.frames h.is; most = omega arith; current = h.next; next = h.next })
 
 pause_idle : (hi : ℕ) (t : Known) (left : Option ℕ) (c x : Configuration) → IsIdleAs t.next t.next left c x → (test : Bool)
-    → (let u : Known = cond test (record t { pending = Perhaps (hi - 1) }) (swapped t) in PausesBy u.pending u.current u.next (left_after_frame left) c x)
+    → (let u : Known = cond test (record t { pending = Perhaps (hi - 1) }) (known_after_swap t) in PausesBy u.pending u.current u.next (left_after_frame left) c x)
 pause_idle hi t left c x h true = inr (record { none = after_none left h.none; current = h.current; next = h.next })
 pause_idle hi t left c x h false = inl (record { none = after_none left h.none; current = h.current; next = h.next })
 

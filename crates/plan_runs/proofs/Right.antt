@@ -5,12 +5,12 @@ use Rattle.std.proofs.lemmas.List.{drop-drop}
 use Rattle.std.proofs.lemmas.List.Elements.{Contains-append_cases}
 use Rattle.std.proofs.lemmas.Bool.{eqb-true, eq-eqb}
 use Rattle.mux_config.specs.Configuration.{Configuration, IsConfiguration, Each}
-use Rattle.mux_config.specs.Entries.{EnsembleInformation}
-use Rattle.mux_config.specs.Facts.{Marked, marked, facts_of}
+use Rattle.mux_entries.specs.Entries.{EnsembleInformation}
+use Rattle.mux_entries.specs.Facts.{Marked, marked, facts_of}
 use Rattle.mux_config.specs.Change.{change_of, bits_of, has_same_subs, has_same_services}
 use Rattle.mux_config.specs.Sameness.{is_same_sub, is_same_service, is_same_packet, is_same_list}
-use Rattle.mux_config.specs.declared.entry.Entry.TheVariants.{Ensemble as EnsembleOf, Sub as SubOf, Short as ShortOf, Service as ServiceOf, Packet as PacketOf}
-use Rattle.mux_config.specs.declared.entry.Entry.{Entry}
+use Rattle.mux_entries.specs.declared.entry.Entry.TheVariants.{Ensemble as EnsembleOf, Sub as SubOf, Short as ShortOf, Service as ServiceOf, Packet as PacketOf}
+use Rattle.mux_entries.specs.declared.entry.Entry.{Entry}
 use Rattle.mux_config.proofs.Same.{list_same, sub_same, service_same, packet_same}
 use Rattle.fib_codec.specs.declared.modes.Mode.{Mode}
 use Rattle.fib_codec.specs.declared.modes.Mode.TheVariants.{I, II, III, IV}
@@ -24,7 +24,7 @@ use Rattle.fib_carousel.specs.Packing.{same_head, entries_in_fib, entries_where}
 use Rattle.fib_carousel.specs.Pages.{page_set, page_entries, EachInAPage, first_fib, later_fibs}
 use Rattle.fib_carousel.specs.Greedy.{packing}
 use Rattle.fib_carousel.specs.Bytes.{page_figs, AreFibs, ensemble_figs, figs_of, joined}
-use Rattle.fib_carousel.specs.Carried.{IsPageable, IsSendable, AreSendable, PageSetsArePageable, PagesAreValid, PagesAreHeard, EnsembleIsHeard}
+use Rattle.fib_carousel.specs.Carried.{IsPageable, IsSendable, AreSendable, PageSetsArePageable, PagesAreValid, PagesAreHeard, EnsembleIsCarried}
 use Rattle.plan_code.specs.declared.plan.Plan.{Plan}
 use Rattle.plan_code.specs.Machine.{State}
 use Rattle.plan_runs.specs.Frames.{is_noticed, announced_next, sent_entries, ensemble_of, ensemble_sent, low_of_swap, shown_bytes}
@@ -39,7 +39,7 @@ pub record PageLaws : Type 0 where
   pub pageable : PageSetsArePageable
   pub valid : PagesAreValid
   pub heard : PagesAreHeard
-  pub ensemble : EnsembleIsHeard
+  pub ensemble : EnsembleIsCarried
 
 -- ---- a change has a flag
 

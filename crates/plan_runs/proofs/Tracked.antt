@@ -3,7 +3,7 @@ use Rattle.std.specs.Prelude.{nat_lt, nat_le, ◌&&◌}
 use Rattle.std.proofs.Common.{◌≡◌, ℕ, zero, suc, ◌+◌, ◌-◌, ◌%◌, ◌<◌, ◌≤◌, Bool, true, false, cond, leb, List, Option, Some, None, refl, sym, ap, subst, ◌∙◌, arith, inl, inr, ◌⊎◌}
 use Rattle.std.proofs.lemmas.Bool.{eqb-true, eqb-false, ltb-true, leb-true, leb-false}
 use Rattle.mux_config.specs.Configuration.{Configuration, IsConfiguration}
-use Rattle.mux_config.specs.Facts.{Marked}
+use Rattle.mux_entries.specs.Facts.{Marked}
 use Rattle.fib_codec.specs.declared.modes.Mode.{Mode}
 use Rattle.fib_codec.specs.declared.modes.Mode.TheVariants.{I, II, III, IV}
 use Rattle.fib_codec.specs.Modes.{count_step}

@@ -2,9 +2,9 @@
 use Rattle.std.proofs.Common.{◌≡◌, ℕ, zero, suc, ◌<◌, Bool, true, false, List, [], ◌∷◌, Contains, Option, Some, None, replicate, refl, sym, ap, subst, ◌∙◌, arith}
 use Rattle.std.proofs.lemmas.Option.{slice_get_within}
 use Rattle.mux_config.specs.Configuration.{Each}
-use Rattle.mux_config.specs.Entries.{EnsembleInformation}
-use Rattle.mux_config.specs.Facts.{Marked, marked, sub_entry}
-use Rattle.mux_config.specs.declared.entry.Entry.TheVariants.{Ensemble as EnsembleOf}
+use Rattle.mux_entries.specs.Entries.{EnsembleInformation}
+use Rattle.mux_entries.specs.Facts.{Marked, marked, sub_entry}
+use Rattle.mux_entries.specs.declared.entry.Entry.TheVariants.{Ensemble as EnsembleOf}
 use Rattle.mux_config.proofs.Sounding.{sound_told}
 use Rattle.fib_codec.specs.declared.modes.Mode.{Mode}
 use Rattle.fib_codec.specs.declared.modes.Mode.TheVariants.{I, II}
@@ -23,7 +23,7 @@ use Rattle.plan_code.specs.Machine.{State}
 use Rattle.plan_runs.specs.declared.event.Event.TheVariants.{Frame}
 use Rattle.plan_runs.specs.Frames.{FrameIsAllowed, sent_entries, ensemble_sent, shown_bytes, after_frame, frame_bytes}
 use Rattle.plan_runs.specs.Announced.{IsHeardInSome, IsHeardWhole, HasHeader, IsHeaded, HasThreeHeaders, IsFlagged, IsAnnounced, FrameRuns, EventRuns, Runs}
-use Rattle.plan_runs.specs.RightBytes.{IsHeader, IsNoHeader, IsFlaggedBy, IsEnsembleOf, IsHeadedBy, IsUnheaded, IsRight, BeginsNoPhase, IsOnePhase}
+use Rattle.plan_runs.specs.RightBytes.{IsEnsembleFig, IsNoHeader, IsFlaggedBy, IsEnsembleOf, IsHeadedBy, IsUnheaded, IsRight, BeginsNoPhase, IsOnePhase}
 use Rattle.plan_runs.specs.Headline.{IsAnnouncedIn, AnnouncesOnly, SwapsAt, KeepsCount}
 use Rattle.plan_runs.proofs.Tracked.{Airs}
 use Rattle.plan_runs.proofs.Right.{PageLaws, frame_right, ensemble_right, page_inside}
@@ -55,14 +55,14 @@ on_air left count =
 
 -- ---- FIGs
 
-a_header : IsHeader (Open 0 [])
+a_header : IsEnsembleFig (Open 0 [])
 a_header = refl
 
 -- FIG 0/1
-no_header : IsHeader (Open 1 []) → ⊥
+no_header : IsEnsembleFig (Open 1 []) → ⊥
 no_header h = let e : 1 ≡ 0 = h in omega (arith, e)
 
-not_looked_into : IsHeader (Other []) → ⊥
+not_looked_into : IsEnsembleFig (Other []) → ⊥
 not_looked_into h = h
 
 other_extension : IsNoHeader (Open 1 [])
@@ -265,7 +265,7 @@ no_header_in_its_second : IsUnheaded (fib_at headed 1)
 no_header_in_its_second = frame_of_8.others_unheaded 1 (omega arith) (omega arith)
 
 -- what says FIG 0/0 is one
-says_header : (fig : Fig) (e : EnsembleInformation) → IsInFig fig (marked false (EnsembleOf e)) → IsHeader fig
+says_header : (fig : Fig) (e : EnsembleInformation) → IsInFig fig (marked false (EnsembleOf e)) → IsEnsembleFig fig
 says_header (Open second es) e h = h.2.ext
 says_header (Other bytes) e h = h
 

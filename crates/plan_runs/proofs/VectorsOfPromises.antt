@@ -1,9 +1,9 @@
 -- What typed codes promise: where it holds of a small code, and where a code without a type, or a state that no run comes
 -- to, breaks it.
 use Rattle.std.proofs.Common.{◌≡◌, ◌<◌, true, false, List, [], ◌∷◌, refl, arith}
-use Rattle.mux_config.specs.Facts.{marked, sub_entry}
-use Rattle.mux_config.specs.Entries.{EnsembleInformation}
-use Rattle.mux_config.specs.declared.entry.Entry.TheVariants.{Ensemble as EnsembleOf}
+use Rattle.mux_entries.specs.Facts.{marked, sub_entry}
+use Rattle.mux_entries.specs.Entries.{EnsembleInformation}
+use Rattle.mux_entries.specs.declared.entry.Entry.TheVariants.{Ensemble as EnsembleOf}
 use Rattle.fib_codec.specs.Grammar.{Fig, Open, Other}
 use Rattle.fib_codec.specs.Heard.{IsInFig}
 use Rattle.plan_code.specs.Machine.{State}

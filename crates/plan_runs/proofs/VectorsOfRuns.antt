@@ -4,7 +4,7 @@ use Rattle.std.proofs.lemmas.Bool.{false≢true}
 use Rattle.mux_eep.specs.declared.sizes.EepSet.TheVariants.{A}
 use Rattle.mux_types.specs.declared.parts.Sub.{Sub}
 use Rattle.mux_config.specs.Configuration.{Configuration, IsPlaced, IsConfiguration}
-use Rattle.mux_config.specs.Facts.{Marked}
+use Rattle.mux_entries.specs.Facts.{Marked}
 use Rattle.fib_codec.specs.declared.modes.Mode.TheVariants.{I}
 use Rattle.fib_carousel.specs.Pages.{page_set}
 use Rattle.plan_code.specs.declared.plan.Plan.{Plan}
@@ -23,8 +23,8 @@ use Rattle.plan_verifier.proofs.OneVerdict.{typed_if, refused_if, codes_have_one
 use Rattle.plan_runs.specs.declared.event.Event.TheVariants.{Contact, Frame}
 use Rattle.plan_runs.specs.declared.event.Start.{Start}
 use Rattle.plan_runs.specs.Frames.{ready, Executes, FrameIsAllowed, after_burst, after_frame}
-use Rattle.plan_runs.specs.Runs.{IsInRange, IsEvent, IsStart, EventIsAllowed, RunIsAllowed, IsReached, run}
-use Rattle.plan_runs.specs.Settings.{Setting, IsSetting, AreAlike, AreAllAlike, last_of}
+use Rattle.plan_runs.specs.Runs.{StartIsInRange, IsEvent, IsStart, EventIsAllowed, RunIsAllowed, IsReached, run}
+use Rattle.plan_runs.specs.Settings.{Setting, IsSetting, AgreeOnContacts, AreAllAlike, last_of}
 use Rattle.plan_runs.specs.Phases.{SentBy}
 use Rattle.plan_runs.specs.TypedRuns.{IsPlayed, CanBeSent}
 use Rattle.plan_runs.specs.Announced.{IsJoined}
@@ -87,10 +87,10 @@ second = after_frame waits first
 
 -- ---- starts and events
 
-in_range : IsInRange start
+in_range : StartIsInRange start
 in_range = record { eid = omega arith; count = omega arith; day = omega arith; contacts = omega arith }
 
-past_the_day : IsInRange (record start { day = 3600000 }) → ⊥
+past_the_day : StartIsInRange (record start { day = 3600000 }) → ⊥
 past_the_day h = let e : 3600000 < 3600000 = h.day in omega (arith, e)
 
 last_contact : IsEvent (Contact 15 true)
@@ -338,14 +338,14 @@ no_setting : IsSetting (closes 16) → ⊥
 no_setting h = let e : 16 < 16 = h in omega (arith, e)
 
 -- contact 3 opens and closes
-last_counts : AreAlike (opens 3 ∷ closes 3 ∷ []) (closes 3 ∷ [])
+last_counts : AgreeOnContacts (opens 3 ∷ closes 3 ∷ []) (closes 3 ∷ [])
 last_counts contact = by (3 == contact)
   where
     by : (b : Bool) → last_of (cond b (Some false) None) (last_of (cond b (Some true) None) None) ≡ last_of (cond b (Some true) None) None
     by true = refl
     by false = refl
 
-order_counts : AreAlike (closes 3 ∷ opens 3 ∷ []) (opens 3 ∷ closes 3 ∷ []) → ⊥
+order_counts : AgreeOnContacts (closes 3 ∷ opens 3 ∷ []) (opens 3 ∷ closes 3 ∷ []) → ⊥
 order_counts h = let e : Some false ≡ Some true = h 3 in absurd cc
 
 frames_alike : AreAllAlike ((opens 3 ∷ closes 3 ∷ []) ∷ [] ∷ []) ((closes 3 ∷ []) ∷ [] ∷ [])

@@ -1,8 +1,8 @@
 -- One frame of the player, in four steps: a swap that is due, the instructions, the bytes, and the counts.
 use Rattle.std.specs.Prelude.{◌≡◌, ℕ, zero, suc, ◌+◌, ◌-◌, ◌%◌, ◌≤◌, ◌==◌, ◌&&◌, ◌||◌, Bool, true, false, if◌then◌else◌, nat_le, List, Option, Some, None}
 use Rattle.mux_config.specs.Configuration.{Configuration}
-use Rattle.mux_config.specs.Entries.{EnsembleInformation}
-use Rattle.mux_config.specs.Facts.{Marked}
+use Rattle.mux_entries.specs.Entries.{EnsembleInformation}
+use Rattle.mux_entries.specs.Facts.{Marked}
 use Rattle.mux_config.specs.Change.{change_of, bits_of}
 use Rattle.mux_config.specs.Sameness.{is_same_flag}
 use Rattle.fib_codec.specs.Modes.{count_step}

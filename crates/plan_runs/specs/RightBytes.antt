@@ -1,9 +1,9 @@
 -- What the bytes of a frame have to be, and of the frames of a phase (EN 300 401 clauses 5.2.1, 6.4 and 6.5).
 use Rattle.std.specs.Prelude.{◌≡◌, ◌≢◌, ℕ, ◌+◌, ◌*◌, ◌%◌, ◌<◌, ◌≤◌, ◌⊎◌, true, false, List, [], ◌∷◌, length, Contains, Option, Some, None}
 use Rattle.mux_config.specs.Configuration.{Each}
-use Rattle.mux_config.specs.Entries.{EnsembleInformation}
-use Rattle.mux_config.specs.Facts.{Marked, marked, facts_of}
-use Rattle.mux_config.specs.declared.entry.Entry.TheVariants.{Ensemble as EnsembleOf}
+use Rattle.mux_entries.specs.Entries.{EnsembleInformation}
+use Rattle.mux_entries.specs.Facts.{Marked, marked, facts_of}
+use Rattle.mux_entries.specs.declared.entry.Entry.TheVariants.{Ensemble as EnsembleOf}
 use Rattle.fib_codec.specs.Grammar.{Fig, Open, Other, IsFib, IsValid}
 use Rattle.fib_codec.specs.Modes.{fib_count, count_step}
 use Rattle.fib_codec.specs.Heard.{IsInFig, IsHeardInRow, fib_at}
@@ -18,12 +18,12 @@ use Rattle.plan_runs.specs.Announced.{IsFlagged, IsHeardWhole}
 
 -- ---- FIG 0/0
 
-abbrev pub IsHeader : Fig → Type 0
-IsHeader (Open second es) = second % 32 ≡ 0
-IsHeader (Other bytes) = ⊥
+abbrev pub IsEnsembleFig : Fig → Type 0
+IsEnsembleFig (Open second es) = second % 32 ≡ 0
+IsEnsembleFig (Other bytes) = ⊥
 
 abbrev pub IsNoHeader : Fig → Type 0
-IsNoHeader fig = IsHeader fig → ⊥
+IsNoHeader fig = IsEnsembleFig fig → ⊥
 
 -- the count of the swap that comes after this many frames
 abbrev pub IsFlaggedBy : State → Option ℕ → EnsembleInformation → Type 0

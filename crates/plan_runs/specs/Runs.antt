@@ -13,7 +13,7 @@ use Rattle.plan_runs.specs.Frames.{after_frame, frame_bytes, FrameIsAllowed}
 
 -- ---- starts and events within the ranges of their types
 
-pub record IsInRange (start : Start) : Type 0 where
+pub record StartIsInRange (start : Start) : Type 0 where
   pub eid : start.eid < 65536
   pub count : start.count < 5000
   pub day : start.day < 3600000
@@ -80,7 +80,7 @@ pub record IsReached (p : Program) (s : State) : Type 0 where
   pub start : Start
   pub first : State
   pub events : List Event
-  pub in_range : IsInRange start
+  pub in_range : StartIsInRange start
   pub started : IsStart p start first
   pub within : Each IsEvent events
   pub leads : run p first events ≡ s

@@ -28,14 +28,14 @@ last_level contact [] = None
 last_level contact (x ∷ xs) = last_of (level_by contact x) (last_level contact xs)
 
 -- settings that leave each contact at the same level
-abbrev pub AreAlike : List Setting → List Setting → Type 0
-AreAlike xs ys = (contact : ℕ) → last_level contact xs ≡ last_level contact ys
+abbrev pub AgreeOnContacts : List Setting → List Setting → Type 0
+AgreeOnContacts xs ys = (contact : ℕ) → last_level contact xs ≡ last_level contact ys
 
 abbrev pub AreAllAlike : List (List Setting) → List (List Setting) → Type 0
 AreAllAlike [] [] = Unit {0}
 AreAllAlike [] (y ∷ ys) = ⊥
 AreAllAlike (x ∷ xs) [] = ⊥
-AreAllAlike (x ∷ xs) (y ∷ ys) = AreAlike x y × AreAllAlike xs ys
+AreAllAlike (x ∷ xs) (y ∷ ys) = AgreeOnContacts x y × AreAllAlike xs ys
 
 -- the settings as events, and frames with settings before each of them and after the last
 abbrev pub set_events : List Setting → List Event
@@ -53,7 +53,7 @@ LastLevelsCount =
     (p : Program) (s : State) (these those : List (List Setting)) (last other : List Setting)
     → s.contacts.0 < 2 ^ 16
     → Each (Each IsSetting) these → Each (Each IsSetting) those → Each IsSetting last → Each IsSetting other
-    → AreAllAlike these those → AreAlike last other
+    → AreAllAlike these those → AgreeOnContacts last other
     → (run_frames p s (schedule these last) ≡ run_frames p s (schedule those other))
     × (run_states p s (schedule these last) ≡ run_states p s (schedule those other))
     × (run p s (schedule these last) ≡ run p s (schedule those other))

@@ -10,7 +10,7 @@ use Rattle.plan_verifier.specs.Typing.{IsTyped}
 use Rattle.plan_runs.specs.declared.event.Event.{Event}
 use Rattle.plan_runs.specs.declared.event.Start.{Start}
 use Rattle.plan_runs.specs.Frames.{shown, sent_rounds, ensemble_sent}
-use Rattle.plan_runs.specs.Runs.{IsStart, IsInRange, IsEvent, IsReached, RunIsAllowed, run}
+use Rattle.plan_runs.specs.Runs.{IsStart, StartIsInRange, IsEvent, IsReached, RunIsAllowed, run}
 
 -- a typed code, in a state that it comes to
 pub record IsPlayed (p : Program) (s : State) : Type 0 where
@@ -40,7 +40,7 @@ FramesCanBeSent = (p : Program) (s : State) → IsPlayed p s → CanBeSent p.pla
 
 -- the start is reached, and what follows a reached state is reached
 abbrev pub StartsAreReached : Type 0
-StartsAreReached = (p : Program) (start : Start) (s : State) → IsInRange start → IsStart p start s → IsReached p s
+StartsAreReached = (p : Program) (start : Start) (s : State) → StartIsInRange start → IsStart p start s → IsReached p s
 
 abbrev pub ReachedIsKept : Type 0
 ReachedIsKept = (p : Program) (s : State) (events : List Event) → IsReached p s → Each IsEvent events → IsReached p (run p s events)

@@ -6,7 +6,7 @@ use Rattle.plan_code.specs.declared.label.Swap.{Swap}
 use Rattle.plan_code.specs.declared.label.Swap.TheVariants.{Idle, Within, Perhaps}
 use Rattle.plan_code.specs.Program.{Program, IsProgram, IsLabel, label_at}
 use Rattle.plan_verifier.specs.Typing.{Known, FitsSwap}
-use Rattle.plan_verifier.specs.Walking.{fits, may_have_swapped}
+use Rattle.plan_verifier.specs.Walking.{is_fit, may_have_swapped}
 use Rattle.plan_verifier.proofs.Deciding.{Decides, is_false, decides_fits}
 use Rattle.plan_verifier.proofs.Tabled.{tabled, label_of}
 
@@ -19,7 +19,7 @@ pub label_within : (code : Program) (pc : ℕ) (o : Option Label) → IsProgram 
 label_within code pc None h e = tt
 label_within code pc (Some label) h e = label_of code h label ((tabled code h).found pc label (sym e)).0
 
--- what fits a label has its configurations, but for the current one where the swap may have been made
+-- what is_fit a label has its configurations, but for the current one where the swap may have been made
 next_there : (p q : Swap) (t declared : Known) → FitsSwap p q t declared → t.next ≡ declared.next
 next_there Idle Idle t declared h = h.1
 next_there Idle (Within low high) t declared h = absurd h
@@ -42,8 +42,8 @@ current_there (Perhaps hi) Idle t declared h no_swap = absurd h
 current_there (Perhaps hi) (Within low high) t declared h no_swap = absurd h
 current_there (Perhaps hi) (Perhaps high) t declared h no_swap = h.0.0
 
-pub next_fits : (t declared : Known) → fits t declared ≡ true → t.next ≡ declared.next
+pub next_fits : (t declared : Known) → is_fit t declared ≡ true → t.next ≡ declared.next
 next_fits t declared e = next_there t.pending declared.pending t declared ((decides_fits t declared).told e).swap
 
-pub current_fits : (t declared : Known) → fits t declared ≡ true → may_have_swapped t.pending declared.pending ≡ false → t.current ≡ declared.current
+pub current_fits : (t declared : Known) → is_fit t declared ≡ true → may_have_swapped t.pending declared.pending ≡ false → t.current ≡ declared.current
 current_fits t declared e no_swap = current_there t.pending declared.pending t declared ((decides_fits t declared).told e).swap no_swap

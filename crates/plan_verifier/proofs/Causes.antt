@@ -12,7 +12,7 @@ use Rattle.plan_verifier.specs.declared.cause.Cause.{Cause}
 use Rattle.plan_verifier.specs.declared.cause.Cause.TheVariants.{Target}
 use Rattle.plan_verifier.specs.Typing.{Known, CanCommit, IsFine, continues, target_of, spent, Declares, Fits, ComesTo, Reaches}
 use Rattle.plan_verifier.specs.Refusals.{CommitRefused, FitsLabel, EntryRefused, JumpRefused, InstrRefused, KnownRefused}
-use Rattle.plan_verifier.specs.Walking.{cause_if, cause_of, ◌first_or◌, fits, commit_cause, declared_by, entry_cause, jump_cause, instr_cause, known_cause}
+use Rattle.plan_verifier.specs.Walking.{cause_if, cause_of, ◌first_or◌, is_fit, commit_cause, declared_by, entry_cause, jump_cause, instr_cause, known_cause}
 use Rattle.plan_verifier.proofs.Deciding.{Decides, Computes, is_false, not_true, decides_not, decides_both, decides_lt, decides_eq, decides_same, decides_idle, decides_pending, decides_certain, decides_room, decides_count, decides_fits, computes_never, computes_always, computes_where, computes_some, computes_orelse}
 use Rattle.plan_verifier.proofs.Tabled.{IsTabled, declared_once}
 
@@ -33,7 +33,7 @@ commit_computes plan t b P cause d =
     (computes_orelse _ _ _ _ (computes_where _ _ _ (decides_same t.next t.current))
     (computes_where _ _ _ (decides_not _ _ (decides_room plan t))))))
 
-pub decides_label : (code : Program) (label : Label) (t : Known) → Declares code label (declared_by code label) → Decides (fits t (declared_by code label)) (FitsLabel code label t)
+pub decides_label : (code : Program) (label : Label) (t : Known) → Declares code label (declared_by code label) → Decides (is_fit t (declared_by code label)) (FitsLabel code label t)
 decides_label code label t declares =
     let d = decides_fits t (declared_by code label) in
     record {

@@ -15,7 +15,7 @@ use Rattle.plan_code.proofs.Bits.{all_included, included_all}
 use Rattle.plan_verifier.specs.declared.cause.Cause.{Cause}
 use Rattle.plan_verifier.specs.Typing.{Known, HasRoom, IsCertain, IsSurelyPending, HasConfigurationsOf, FitsSwap, Fits, IsInitial}
 use Rattle.plan_verifier.specs.Refusals.{Where, WhereSome, ◌orelse◌}
-use Rattle.plan_verifier.specs.Walking.{cause_if, cause_of, ◌first_or◌, is_same, is_idle, is_surely_pending, is_certain, has_room, is_swap_count, includes, has_configurations_of, fits_swap, fits, is_initial}
+use Rattle.plan_verifier.specs.Walking.{cause_if, cause_of, ◌first_or◌, is_same, is_idle, is_surely_pending, is_certain, has_room_for_notice, is_swap_count, includes, has_configurations_of, fits_swap, is_fit, is_initial}
 
 -- a test holds exactly where a fact does
 pub record Decides (b : Bool) (P : Type 0) : Type 0 where
@@ -116,7 +116,7 @@ decides_certain frames Idle = decides_true
 decides_certain frames (Within lo hi) = decides_one _ _ _ _ (decides_lt frames lo) (decides_le hi frames)
 decides_certain frames (Perhaps hi) = decides_true
 
-pub decides_room : (plan : Plan) (t : Known) → Decides (has_room plan t) (HasRoom plan t)
+pub decides_room : (plan : Plan) (t : Known) → Decides (has_room_for_notice plan t) (HasRoom plan t)
 decides_room plan t =
     let all = decides_both _ _ _ _ (decides_both _ _ _ _ (decides_le _ plan.period) (decides_le _ plan.notice)) (decides_le _ plan.period) in
     record {
@@ -151,7 +151,7 @@ decides_fits_swap (Perhaps hi) Idle t declared = decides_false
 decides_fits_swap (Perhaps hi) (Within low high) t declared = decides_false
 decides_fits_swap (Perhaps hi) (Perhaps high) t declared = decides_no_later hi high t declared
 
-pub decides_fits : (t declared : Known) → Decides (fits t declared) (Fits t declared)
+pub decides_fits : (t declared : Known) → Decides (is_fit t declared) (Fits t declared)
 decides_fits t declared =
     let both = decides_both _ _ _ _ (decides_includes t.counters declared.counters) (decides_fits_swap t.pending declared.pending t declared) in
     record {

@@ -10,14 +10,14 @@ use Rattle.plan_verifier.specs.declared.cause.Cause.{Cause}
 use Rattle.plan_verifier.specs.declared.cause.Cause.TheVariants.{Table, Mismatch, Config as OfConfig, Round}
 use Rattle.plan_verifier.specs.Typing.{Known, IsOpening, ComesTo, Declares, pages_alone}
 use Rattle.plan_verifier.specs.Refusals.{TakenRefused, LabelRefused, PlaceRefused, OpenedRefused, OpeningRefused, InstructionRefused, left_before}
-use Rattle.plan_verifier.specs.Walking.{whole, ◌first_or◌, taken, label_cause, opening_cause, opening_of, place_of, entered, declared_by, cause_if, cause_of, known_cause, entry_cause, is_initial}
+use Rattle.plan_verifier.specs.Walking.{whole_cause, ◌first_or◌, taken, label_cause, opening_cause, opening_known, place_of, entered, declared_by, cause_if, cause_of, known_cause, entry_cause, is_initial}
 use Rattle.plan_verifier.proofs.Deciding.{Computes, decides_not, decides_lt, decides_initial, computes_always, computes_where, computes_some, computes_orelse}
 use Rattle.plan_verifier.proofs.Causes.{known_computes, entry_computes, entry_comes, comes_none, declares_at, none_two, two_none, refuted, none_where, needed, none_unless, none_of, of_none}
 use Rattle.plan_verifier.proofs.Tabled.{IsTabled, declared_once}
 
 -- ---- the cause at an instruction, its entry included
 
-whole_taken : (o : Option Cause) (t : Known) (here : Known → Option Cause) → whole (taken o t) here ≡ o first_or here t
+whole_taken : (o : Option Cause) (t : Known) (here : Known → Option Cause) → whole_cause (taken o t) here ≡ o first_or here t
 whole_taken None t here = refl
 whole_taken (Some cause) t here = refl
 
@@ -40,7 +40,7 @@ label_computes code pc i label h declares =
 
 place_computes : (code : Program) (pc : ℕ) (i : Instr) (o : Option Label) (came : Option Known) → IsTabled code
     → ((label : Label) → o ≡ Some label → Declares code label (declared_by code label))
-    → Computes (whole (place_of code o came) (known_cause code pc i)) (PlaceRefused code pc i o came)
+    → Computes (whole_cause (place_of code o came) (known_cause code pc i)) (PlaceRefused code pc i o came)
 place_computes code pc i None None h declares = computes_always Table
 place_computes code pc i None (Some t) h declares = known_computes code pc i t h
 place_computes code pc i (Some label) None h declares =
@@ -50,7 +50,7 @@ place_computes code pc i (Some label) (Some t) h declares =
     let cost = label_cause code label in
     let here = known_cause code pc i in
     let declared = declared_by code label in
-    let cut : whole (taken (entry first_or cost) declared) here ≡ entry first_or (cost first_or here declared) =
+    let cut : whole_cause (taken (entry first_or cost) declared) here ≡ entry first_or (cost first_or here declared) =
     whole_taken (entry first_or cost) declared here ∙ first_assoc entry cost (here declared) in
     subst (λ (o : Option Cause). Computes o (PlaceRefused code pc i (Some label) (Some t))) (sym cut)
     (computes_orelse _ _ _ _ (entry_computes code label t (declares label refl)) (label_computes code pc i label h (declares label refl)))
@@ -71,12 +71,12 @@ first_assoc_4 (Some cause) b c d k = refl
 
 opening_computes : (code : Program) (i : Instr) (o : Option Label) → IsTabled code
     → ((label : Label) → o ≡ Some label → Declares code label (declared_by code label))
-    → Computes (whole (opening_of code o) (known_cause code 0 i)) (OpeningRefused code i o)
+    → Computes (whole_cause (opening_known code o) (known_cause code 0 i)) (OpeningRefused code i o)
 opening_computes code i None h declares = computes_always Table
 opening_computes code i (Some label) h declares =
     let t : Known = declared_by code label in
     let here = known_cause code 0 i in
-    let cut : whole (taken (opening_cause code label t) t) here ≡ opened_cause code label t (here t) =
+    let cut : whole_cause (taken (opening_cause code label t) t) here ≡ opened_cause code label t (here t) =
     whole_taken (opening_cause code label t) t here
     ∙ first_assoc_4 (cause_if (not (is_initial t)) Mismatch) (label_cause code label) (cause_of (first_fault t.current) OfConfig) (cause_if (nat_lt code.plan.period (pages_alone code.plan t.current)) Round) (here t) in
     let all : Computes (opened_cause code label t (here t)) (OpenedRefused code i label t) =
@@ -89,7 +89,7 @@ opening_computes code i (Some label) h declares =
     (declared_computes code label (opened_cause code label t (here t)) (OpenedRefused code i label) (declares label refl) all)
 
 pub whole_computes : (code : Program) (typing : List Known) (pc : ℕ) (i : Instr) → IsTabled code
-    → Computes (whole (entered code pc (left_before code typing pc)) (known_cause code pc i)) (InstructionRefused code typing pc i)
+    → Computes (whole_cause (entered code pc (left_before code typing pc)) (known_cause code pc i)) (InstructionRefused code typing pc i)
 whole_computes code typing zero i h = opening_computes code i (label_at code 0) h (declares_at code 0 h)
 whole_computes code typing (suc pc) i h =
     place_computes code (suc pc) i (label_at code (suc pc)) (left_before code typing (suc pc)) h (declares_at code (suc pc) h)
@@ -174,7 +174,7 @@ pub record IsOpened (code : Program) (o : Option Label) (t : Known) : Type 0 whe
   pub within : label.cost ≤ code.plan.budget
 
 pub opening_told : (code : Program) (o : Option Label) (t : Known)
-    → ((label : Label) → o ≡ Some label → Declares code label (declared_by code label)) → opening_of code o ≡ Ok t → IsOpened code o t
+    → ((label : Label) → o ≡ Some label → Declares code label (declared_by code label)) → opening_known code o ≡ Ok t → IsOpened code o t
 opening_told code None t declares e = absurd cc
 opening_told code (Some label) t declares e =
     let d : Known = declared_by code label in
@@ -197,7 +197,7 @@ opening_told code (Some label) t declares e =
     }
 
 opening_found : (code : Program) (o : Option Label) (t : Known) → IsConfiguration t.current
-    → ((label : Label) → o ≡ Some label → Declares code label (declared_by code label)) → IsOpened code o t → opening_of code o ≡ Ok t
+    → ((label : Label) → o ≡ Some label → Declares code label (declared_by code label)) → IsOpened code o t → opening_known code o ≡ Ok t
 opening_found code None t formed declares h = absurd (let f : None ≡ Some h.label = h.there in cc)
 opening_found code (Some label) t formed declares h =
     let same : label ≡ h.label = (let f : Some label ≡ Some h.label = h.there in cc) in

@@ -17,9 +17,9 @@ use Rattle.plan_code.specs.Program.{Program, IsProgram, IsInstr, IsEdit, instr_a
 use Rattle.plan_verifier.specs.declared.cause.Cause.{Cause}
 use Rattle.plan_verifier.specs.declared.cause.Cause.TheVariants.{Table}
 use Rattle.plan_verifier.specs.declared.cause.Refusal.{Refusal}
-use Rattle.plan_verifier.specs.Typing.{Known, IsFine, leaves, continues, waited, perhaps_swapped, paused, settled, swapped, Arrives, Declares, IsOpening, IsTyping, IsTyped}
+use Rattle.plan_verifier.specs.Typing.{Known, IsFine, leaves, continues, waited, perhaps_swapped, paused, settled, known_after_swap, Arrives, Declares, IsOpening, IsTyping, IsTyped}
 use Rattle.plan_verifier.specs.Refusals.{IsTypingBelow, IsFirstPast, IsRefusedAt, IsRefused, CodesHaveOneVerdict, left_before}
-use Rattle.plan_verifier.specs.Walking.{whole, entered, known_cause, passed_on, refused_at, past_label, walk, refusal_of}
+use Rattle.plan_verifier.specs.Walking.{whole_cause, entered, known_cause, passed_on, refused_at, past_label, walk, refusal_of}
 use Rattle.plan_verifier.proofs.Deciding.{decides_le}
 use Rattle.plan_verifier.proofs.Causes.{IsPassed, passed_none}
 use Rattle.plan_verifier.proofs.Entries.{whole_computes, IsHere, IsEnteredAt, entered_found}
@@ -40,7 +40,7 @@ in_range (DropComponent sid carrier) h = tt
 in_range (AddPacket p) h = (h.named, h.typed, h.carried)
 in_range (DropPacket scid) h = tt
 
-formed_swapped : (t : Known) → AreFormed t → AreFormed (swapped t)
+formed_swapped : (t : Known) → AreFormed t → AreFormed (known_after_swap t)
 formed_swapped t h = record { current = h.next; next = h.next }
 
 formed_if : (b : Bool) (t u : Known) → AreFormed t → AreFormed u → AreFormed (if b then t else u)
@@ -79,7 +79,7 @@ leaves_formed plan (CommitAt count) t is fine h = formed_as t _ refl refl h
 leaves_formed plan (Wait frames) t is fine h = formed_as (waited frames t.pending t) _ refl refl (formed_waited frames t.pending t h)
 leaves_formed plan (Until day) t is fine h = formed_as (paused t.pending t) _ refl refl (formed_paused t.pending t h)
 leaves_formed plan (WaitContact contact closed) t is fine h = formed_as (paused t.pending t) _ refl refl (formed_paused t.pending t h)
-leaves_formed plan Join t is fine h = formed_as (swapped t) _ refl refl (formed_swapped t h)
+leaves_formed plan Join t is fine h = formed_as (known_after_swap t) _ refl refl (formed_swapped t h)
 leaves_formed plan Settle t is fine h = formed_as (settled t.pending t) _ refl refl (formed_settled t.pending t h)
 leaves_formed plan (Test contact target) t is fine h = formed_as t _ refl refl h
 leaves_formed plan (Jump target) t is fine h = formed_as t _ refl refl h
@@ -275,8 +275,8 @@ refused_by code pc cause typing (Some i) h at r =
     let tables = tabled code h in
     let line = mapped (λ (l : Line). l.instr) (slice_get code.lines pc) i at in
     let lt : pc < length code.lines = slice_get_within code.lines pc line.0 line.1 in
-    let found : whole (entered code pc (left_before code typing pc)) (known_cause code pc line.0.instr) ≡ Some cause =
-    subst (λ (j : Instr). whole (entered code pc (left_before code typing pc)) (known_cause code pc j) ≡ Some cause) (sym line.2) ((whole_computes code typing pc i tables).found cause r.1) in
+    let found : whole_cause (entered code pc (left_before code typing pc)) (known_cause code pc line.0.instr) ≡ Some cause =
+    subst (λ (j : Instr). whole_cause (entered code pc (left_before code typing pc)) (known_cause code pc j) ≡ Some cause) (sym line.2) ((whole_computes code typing pc i tables).found cause r.1) in
     walk_reaches code pc typing tables r.0 (omega (arith, lt)) pc (omega arith)
     ∙ ap (λ (ls : List Line). walk code ls pc (left_before code typing pc)) (dropped code.lines pc line.0 line.1)
     ∙ stops pc (entered code pc (left_before code typing pc)) (known_cause code pc line.0.instr) (λ t. walk code (drop (suc pc) code.lines) (pc + 1) (passed_on code.plan line.0.instr t)) cause found

@@ -12,7 +12,7 @@ use Rattle.plan_code.specs.declared.instr.Instr.TheVariants.{CommitIn, Join, End
 use Rattle.plan_code.specs.Program.{Program, IsProgram, IsPlan, IsLabel, IsLine, IsInstr, instr_at, label_at, label_key}
 use Rattle.plan_verifier.specs.declared.cause.Cause.{Cause}
 use Rattle.plan_verifier.specs.declared.cause.Cause.TheVariants.{Target, Table, Edit as OfEdit, Pending, Notice, JoinIdle, Mismatch, Cost, Round, FallsOff}
-use Rattle.plan_verifier.specs.Typing.{Known, Declares, HasOpening, IsPlaced, IsAfter, IsSafe}
+use Rattle.plan_verifier.specs.Typing.{Known, Declares, HasOpening, LabelStands, IsAfter, IsSafe}
 use Rattle.plan_verifier.specs.Refusals.{Where, WhereSome, ◌orelse◌, CommitRefused, FitsLabel, EntryRefused, JumpRefused, InstrRefused, KnownRefused, TakenRefused, LabelRefused, PlaceRefused, OpenedRefused, OpeningRefused, IsSafeBelow, IsTypingBelow, InstructionRefused, IsFirstPast, IsRefusedAt, IsRefused, HasOneVerdict}
 use Rattle.plan_verifier.proofs.Tabled.{IsTabled, tabled, declared_once}
 use Rattle.plan_verifier.proofs.Causes.{decides_label, entry_computes, known_computes}
@@ -258,9 +258,9 @@ safe_there zero i t e f =
     subst (λ (u : Known). IsSafeBelow unjoined 1 (opened ∷ []) 0 i u) known (subst (λ (j : Instr). IsSafeBelow unjoined 1 (opened ∷ []) 0 j opened) same safe_below_one)
 safe_there (suc pc) i t e f = absurd cc
 
-placed_there : (l : Label) → Contains unjoined.labels l → IsPlaced unjoined (opened ∷ []) l
+placed_there : (l : Label) → Contains unjoined.labels l → LabelStands unjoined (opened ∷ []) l
 placed_there l (zero, lt, same) =
-    subst (λ (x : Label). IsPlaced unjoined (opened ∷ []) x) same (record { known = opened; there = refl; declares = unjoined_declares; within = omega arith })
+    subst (λ (x : Label). LabelStands unjoined (opened ∷ []) x) same (record { known = opened; there = refl; declares = unjoined_declares; within = omega arith })
 placed_there l (suc n, lt, same) = absurd (omega (arith, lt))
 
 no_more_below : (pc : ℕ) → pc < 1 → label_at unjoined pc ≡ None → IsAfter unjoined pc

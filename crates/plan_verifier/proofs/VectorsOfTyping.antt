@@ -17,7 +17,7 @@ use Rattle.plan_code.specs.declared.instr.Instr.{Instr}
 use Rattle.plan_code.specs.declared.instr.Line.{Line}
 use Rattle.plan_code.specs.declared.instr.Instr.TheVariants.{Wait, CommitIn, CommitAt, Join, End, Edit as Edits, Loop}
 use Rattle.plan_code.specs.Program.{Program, instr_at, label_at}
-use Rattle.plan_verifier.specs.Typing.{Known, HasRoom, CanCommit, IsCertain, IsSurelyPending, IsFine, Declares, HasConfigurationsOf, FitsSwap, Fits, ComesTo, IsInitial, IsOpening, Arrives, HasOpening, IsPlaced, Reaches, IsAfter, IsSafe, IsTyping, leaves, continues}
+use Rattle.plan_verifier.specs.Typing.{Known, HasRoom, CanCommit, IsCertain, IsSurelyPending, IsFine, Declares, HasConfigurationsOf, FitsSwap, Fits, ComesTo, IsInitial, IsOpening, Arrives, HasOpening, LabelStands, Reaches, IsAfter, IsSafe, IsTyping, leaves, continues}
 use Rattle.plan_verifier.proofs.Deciding.{decides_room, decides_includes, decides_initial}
 
 -- ---- values shared by these vectors: one sub-channel of 128 kbit/s, added to an empty multiplex
@@ -279,13 +279,13 @@ arrives_with_something_else h =
 arrives_at_its_label : Arrives joins known_there 0 (Some (label 0 3)) opened
 arrives_at_its_label = comes_to_its_label
 
-pub its_label_is_placed : IsPlaced joins known_there (label 0 3)
+pub its_label_is_placed : LabelStands joins known_there (label 0 3)
 its_label_is_placed = record { known = opened; there = refl; declares = its_label_declares; within = omega arith }
 
-no_instruction_there : IsPlaced joins known_there (label 4 3) → ⊥
+no_instruction_there : LabelStands joins known_there (label 4 3) → ⊥
 no_instruction_there h = let e : None ≡ Some h.known = h.there in absurd cc
 
-past_the_budget : IsPlaced joins known_there (label 0 21) → ⊥
+past_the_budget : LabelStands joins known_there (label 0 21) → ⊥
 past_the_budget h = let e : 21 ≤ 20 = h.within in omega (arith, e)
 
 reaches_its_label : Reaches joins 0 opened
@@ -366,8 +366,8 @@ safe_everywhere (suc (suc zero)) i t e f = safe_for 2 Join committed join_is_saf
 safe_everywhere (suc (suc (suc zero))) i t e f = safe_for 3 End joined end_is_safe i t e f
 safe_everywhere (suc (suc (suc (suc pc)))) i t e f = absurd cc
 
-placed_everywhere : (l : Label) → Contains joins.labels l → IsPlaced joins known_there l
-placed_everywhere l (zero, lt, same) = subst (λ (x : Label). IsPlaced joins known_there x) same its_label_is_placed
+placed_everywhere : (l : Label) → Contains joins.labels l → LabelStands joins known_there l
+placed_everywhere l (zero, lt, same) = subst (λ (x : Label). LabelStands joins known_there x) same its_label_is_placed
 placed_everywhere l (suc n, lt, same) = absurd (omega (arith, lt))
 
 after_another : (pc : ℕ) → pc < 4 → label_at joins pc ≡ None → IsAfter joins pc

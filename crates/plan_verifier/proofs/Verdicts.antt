@@ -1,4 +1,4 @@
--- The walk over a whole code: where it ends without a cause the code is typed, and the cause that it finds is
+-- The walk over a whole_cause code: where it ends without a cause the code is typed, and the cause that it finds is
 -- the refusal; so each code is typed, or refused at one instruction with one cause.
 use Rattle.std.proofs.Common.{◌≡◌, ℕ, zero, suc, ◌+◌, ◌<◌, ◌≤◌, ◌⊎◌, Bool, true, false, nat_le, List, [], ◌∷◌, ◌++◌, length, drop, find, slice_get, Contains, Option, Some, None, option_map, Result, Ok, Err, refl, sym, ap, subst, ◌∙◌, inl, inr, arith}
 use Rattle.std.proofs.lemmas.Bool.{cases_lt}
@@ -13,9 +13,9 @@ use Rattle.plan_code.specs.Program.{Program, IsProgram, label_key, instr_at, lab
 use Rattle.plan_verifier.specs.declared.cause.Cause.{Cause}
 use Rattle.plan_verifier.specs.declared.cause.Cause.TheVariants.{Table}
 use Rattle.plan_verifier.specs.declared.cause.Refusal.{Refusal}
-use Rattle.plan_verifier.specs.Typing.{Known, leaves, continues, Arrives, Declares, HasOpening, IsPlaced, IsAfter, IsTyping, IsTyped}
+use Rattle.plan_verifier.specs.Typing.{Known, leaves, continues, Arrives, Declares, HasOpening, LabelStands, IsAfter, IsTyping, IsTyped}
 use Rattle.plan_verifier.specs.Refusals.{InstructionRefused, IsSafeBelow, IsTypingBelow, IsFirstPast, IsRefusedAt, IsRefused, left_by, left_before}
-use Rattle.plan_verifier.specs.Walking.{whole, entered, known_cause, passed_on, refused_at, on_entry, or_after, past_label, walk}
+use Rattle.plan_verifier.specs.Walking.{whole_cause, entered, known_cause, passed_on, refused_at, on_entry, or_after, past_label, walk}
 use Rattle.plan_verifier.proofs.Deciding.{Computes, decides_le, not_true, is_false}
 use Rattle.plan_verifier.proofs.Causes.{IsPassed, known_passed}
 use Rattle.plan_verifier.proofs.Entries.{whole_computes, IsHere, IsEnteredAt, entered_told}
@@ -128,7 +128,7 @@ arrives_later : (code : Program) (typing : List Known) (y : Known) (pc : ℕ) (o
 arrives_later code typing y pc None u h = slice_before typing y pc u h
 arrives_later code typing y pc (Some label) u h = h
 
-placed_later : (code : Program) (typing : List Known) (y : Known) (label : Label) → IsPlaced code typing label → IsPlaced code (typing ++ y ∷ []) label
+placed_later : (code : Program) (typing : List Known) (y : Known) (label : Label) → LabelStands code typing label → LabelStands code (typing ++ y ∷ []) label
 placed_later code typing y label p = record { known = p.known; there = slice_before typing y label.pc p.known p.there; declares = p.declares; within = p.within }
 
 -- an instruction below: what it leaves arrives at the one that is new
@@ -252,11 +252,11 @@ first_past n (x ∷ xs) label up e other here past =
 
 -- ---- the walk
 
-whole_none : (r : Result Known Cause) (here : Known → Option Cause) → whole r here ≡ None → (t : Known) × (r ≡ Ok t) × (here t ≡ None)
+whole_none : (r : Result Known Cause) (here : Known → Option Cause) → whole_cause r here ≡ None → (t : Known) × (r ≡ Ok t) × (here t ≡ None)
 whole_none (Err cause) here e = absurd cc
 whole_none (Ok t) here e = (t, refl, e)
 
-pub stops : (pc : ℕ) (r : Result Known Cause) (here : Known → Option Cause) (rest : Known → Option Refusal) (cause : Cause) → whole r here ≡ Some cause
+pub stops : (pc : ℕ) (r : Result Known Cause) (here : Known → Option Cause) (rest : Known → Option Refusal) (cause : Cause) → whole_cause r here ≡ Some cause
     → on_entry pc r (λ t. or_after pc (here t) (rest t)) ≡ refused_at pc cause
 stops pc (Err given) here rest cause e = let h : given ≡ cause = cc in ap (refused_at pc) h
 stops pc (Ok t) here rest cause e = rw e refl
@@ -303,8 +303,8 @@ verdict_past code typing h below (Some label) is =
     (typing, subst (λ (o : Option Instr). IsRefusedAt code typing label.pc o Table) (sym none) (below, first, refl))
 
 found_next : (code : Program) → IsProgram code → (line : Line) (lines : List Line) (pc : ℕ) (typing : List Known) → instr_at code pc ≡ Some line.instr
-    → Computes (whole (entered code pc (left_before code typing pc)) (known_cause code pc line.instr)) (InstructionRefused code typing pc line.instr)
-    → (o : Option Cause) → whole (entered code pc (left_before code typing pc)) (known_cause code pc line.instr) ≡ o → IsTypingBelow code pc typing
+    → Computes (whole_cause (entered code pc (left_before code typing pc)) (known_cause code pc line.instr)) (InstructionRefused code typing pc line.instr)
+    → (o : Option Cause) → whole_cause (entered code pc (left_before code typing pc)) (known_cause code pc line.instr) ≡ o → IsTypingBelow code pc typing
     → ((t : Known) → entered code pc (left_before code typing pc) ≡ Ok t → known_cause code pc line.instr t ≡ None → IsVerdict code (walk code lines (pc + 1) (passed_on code.plan line.instr t)))
     → IsVerdict code (walk code (line ∷ lines) pc (left_before code typing pc))
 found_next code h line lines pc typing at c None is below later =
@@ -329,7 +329,7 @@ found_from code h (line ∷ lines) pc typing rest len below =
     let at : instr_at code pc ≡ Some line.instr = instr_here code pc line next.0 in
     let came = left_before code typing pc in
     let c = whole_computes code typing pc line.instr tables in
-    found_next code h line lines pc typing at c (whole (entered code pc came) (known_cause code pc line.instr)) refl below
+    found_next code h line lines pc typing at c (whole_cause (entered code pc came) (known_cause code pc line.instr)) refl below
     (λ t e k.
     let lt : pc < length code.lines = slice_get_within code.lines pc line next.0 in
     let up : suc pc ≡ pc + 1 = omega arith in

@@ -12,7 +12,7 @@ use Rattle.plan_code.specs.Machine.{IsSwapCount}
 use Rattle.plan_code.specs.Program.{Program, IsProgram, instr_at, label_at}
 use Rattle.plan_verifier.specs.declared.cause.Cause.{Cause}
 use Rattle.plan_verifier.specs.declared.cause.Cause.TheVariants.{Target, Table, Edit as OfEdit, Config as OfConfig, Pending, NoChange, Notice, Count, JoinIdle, SwapUncertain, CounterUnset, Mismatch, Cost, Round, FallsOff}
-use Rattle.plan_verifier.specs.Typing.{Known, HasRoom, IsCertain, IsSurelyPending, pages_alone, leaves, target_of, continues, spent, Declares, Fits, IsInitial, HasOpening, IsPlaced, IsAfter, IsFine, Reaches, Arrives, IsTyped}
+use Rattle.plan_verifier.specs.Typing.{Known, HasRoom, IsCertain, IsSurelyPending, pages_alone, leaves, target_of, continues, spent, Declares, Fits, IsInitial, HasOpening, LabelStands, IsAfter, IsFine, Reaches, Arrives, IsTyped}
 
 -- ---- causes in order
 
@@ -125,7 +125,7 @@ pub record IsSafeBelow (code : Program) (end : ℕ) (typing : List Known) (pc : 
 pub record IsTypingBelow (code : Program) (end : ℕ) (typing : List Known) : Type 0 where
   pub each : length typing ≡ end
   pub opening : 0 < end → HasOpening code
-  pub labels : (label : Label) → Contains code.labels label → label.pc < end → IsPlaced code typing label
+  pub labels : (label : Label) → Contains code.labels label → label.pc < end → LabelStands code typing label
   pub safe : (pc : ℕ) (i : Instr) (t : Known) → instr_at code pc ≡ Some i → slice_get typing pc ≡ Some t → IsSafeBelow code end typing pc i t
   pub reached : (pc : ℕ) → pc < end → label_at code pc ≡ None → IsAfter code pc
 

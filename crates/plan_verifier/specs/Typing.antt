@@ -85,20 +85,20 @@ IsFine plan End t = Unit {0}
 -- ---- what an instruction leaves
 
 -- the swap has been made
-abbrev pub swapped : Known → Known
-swapped t = record t { current = t.next; pending = Idle }
+abbrev pub known_after_swap : Known → Known
+known_after_swap t = record t { current = t.next; pending = Idle }
 
 -- after this many frames, of which the swap is certain to come in one, or certain to come after all, or is
 -- not known to come in any
 abbrev pub waited : ℕ → Swap → Known → Known
 waited frames Idle t = t
 waited frames (Within lo hi) t =
-    if nat_lt frames lo then record t { pending = Within (lo - frames) (hi - frames) } else swapped t
-waited frames (Perhaps hi) t = if nat_lt frames hi then record t { pending = Perhaps (hi - frames) } else swapped t
+    if nat_lt frames lo then record t { pending = Within (lo - frames) (hi - frames) } else known_after_swap t
+waited frames (Perhaps hi) t = if nat_lt frames hi then record t { pending = Perhaps (hi - frames) } else known_after_swap t
 
 -- after one frame or more, where the swap comes in this many frames at most
 abbrev pub perhaps_swapped : ℕ → Known → Known
-perhaps_swapped hi t = if nat_lt 1 hi then record t { pending = Perhaps (hi - 1) } else swapped t
+perhaps_swapped hi t = if nat_lt 1 hi then record t { pending = Perhaps (hi - 1) } else known_after_swap t
 
 -- after one frame or more
 abbrev pub paused : Swap → Known → Known
@@ -109,8 +109,8 @@ paused (Perhaps hi) t = perhaps_swapped hi t
 -- after the swap, where one is pending
 abbrev pub settled : Swap → Known → Known
 settled Idle t = t
-settled (Within lo hi) t = swapped t
-settled (Perhaps hi) t = swapped t
+settled (Within lo hi) t = known_after_swap t
+settled (Perhaps hi) t = known_after_swap t
 
 -- one instruction has run
 abbrev pub spent : Known → Known
@@ -129,7 +129,7 @@ leaves plan (CommitAt count) t = spent (record t { pending = Within plan.notice 
 leaves plan (Wait frames) t = rested plan (waited frames t.pending t)
 leaves plan (Until day) t = rested plan (paused t.pending t)
 leaves plan (WaitContact contact closed) t = rested plan (paused t.pending t)
-leaves plan Join t = rested plan (swapped t)
+leaves plan Join t = rested plan (known_after_swap t)
 leaves plan Settle t = spent (settled t.pending t)
 leaves plan (Set counter times) t = spent (record t { counters = with_counter counter t.counters })
 leaves plan (Loop counter target) t = spent (record t { counters = without_counter counter t.counters })
@@ -216,7 +216,7 @@ pub record HasOpening (code : Program) : Type 0 where
   pub opening : IsOpening code.plan known
 
 -- a label stands inside the code, what it declares is known there, and its cost is within the budget
-pub record IsPlaced (code : Program) (typing : List Known) (label : Label) : Type 0 where
+pub record LabelStands (code : Program) (typing : List Known) (label : Label) : Type 0 where
   pub known : Known
   pub there : slice_get typing label.pc ≡ Some known
   pub declares : Declares code label known
@@ -249,7 +249,7 @@ pub record IsSafe (code : Program) (typing : List Known) (pc : ℕ) (i : Instr) 
 pub record IsTyping (code : Program) (typing : List Known) : Type 0 where
   pub each : length typing ≡ length code.lines
   pub opening : HasOpening code
-  pub labels : (label : Label) → Contains code.labels label → IsPlaced code typing label
+  pub labels : (label : Label) → Contains code.labels label → LabelStands code typing label
   pub safe : (pc : ℕ) (i : Instr) (t : Known) → instr_at code pc ≡ Some i → slice_get typing pc ≡ Some t → IsSafe code typing pc i t
   pub reached : (pc : ℕ) → pc < length code.lines → label_at code pc ≡ None → IsAfter code pc
 

@@ -65,8 +65,8 @@ is_certain frames Idle = true
 is_certain frames (Within lo hi) = nat_lt frames lo || nat_le hi frames
 is_certain frames (Perhaps hi) = true
 
-abbrev pub has_room : Plan → Known → Bool
-has_room plan t =
+abbrev pub has_room_for_notice : Plan → Known → Bool
+has_room_for_notice plan t =
     nat_le (notice_pages plan t) plan.period && nat_le (3 * notice_pages plan t) plan.notice
     && nat_le (pages_alone plan t.next) plan.period
 
@@ -90,8 +90,8 @@ fits_swap (Perhaps hi) Idle t declared = false
 fits_swap (Perhaps hi) (Within low high) t declared = false
 fits_swap (Perhaps hi) (Perhaps high) t declared = nat_le hi high && has_configurations_of t declared
 
-abbrev pub fits : Known → Known → Bool
-fits t declared = includes t.counters declared.counters && fits_swap t.pending declared.pending t declared
+abbrev pub is_fit : Known → Known → Bool
+is_fit t declared = includes t.counters declared.counters && fits_swap t.pending declared.pending t declared
 
 -- no swap is pending any more where a label says that one may be
 abbrev pub may_have_swapped : Swap → Swap → Bool
@@ -107,7 +107,7 @@ abbrev pub change_cause : Plan → Known → Option Cause
 change_cause plan t =
     cause_of (first_fault t.next) OfConfig
     first_or cause_if (is_same t.next t.current) NoChange
-    first_or cause_if (not (has_room plan t)) Round
+    first_or cause_if (not (has_room_for_notice plan t)) Round
 
 abbrev pub commit_cause : Plan → Known → Bool → Cause → Option Cause
 commit_cause plan t fault cause =
@@ -136,7 +136,7 @@ refitted label t = record t { pending = label.pending; counters = label.counters
 
 abbrev pub entry_cause : Program → Label → Known → Option Cause
 entry_cause code label t =
-    cause_if (not (fits t (declared_by code label))) Mismatch
+    cause_if (not (is_fit t (declared_by code label))) Mismatch
     first_or cause_if (nat_lt t.allowance label.cost) Cost
 
 abbrev pub jump_cause : Program → Option Label → Known → Option Cause
@@ -181,9 +181,9 @@ opening_cause code label t =
     first_or cause_of (first_fault t.current) OfConfig
     first_or cause_if (nat_lt code.plan.period (pages_alone code.plan t.current)) Round
 
-abbrev pub opening_of : Program → Option Label → Result Known Cause
-opening_of code None = Err Table
-opening_of code (Some label) = taken (opening_cause code label (declared_by code label)) (declared_by code label)
+abbrev pub opening_known : Program → Option Label → Result Known Cause
+opening_known code None = Err Table
+opening_known code (Some label) = taken (opening_cause code label (declared_by code label)) (declared_by code label)
 
 abbrev pub place_of : Program → Option Label → Option Known → Result Known Cause
 place_of code None None = Err Table
@@ -192,7 +192,7 @@ place_of code (Some label) None = taken (label_cause code label) (declared_by co
 place_of code (Some label) (Some t) = taken (entry_cause code label t first_or label_cause code label) (declared_by code label)
 
 abbrev pub entered : Program → ℕ → Option Known → Result Known Cause
-entered code zero came = opening_of code (label_at code 0)
+entered code zero came = opening_known code (label_at code 0)
 entered code (suc pc) came = place_of code (label_at code (suc pc)) came
 
 -- ---- the walk
@@ -208,17 +208,17 @@ abbrev pub passed_on : Plan → Instr → Known → Option Known
 passed_on plan i t = came_of (continues i) (leaves plan i t)
 
 -- the cause at an instruction, where it is entered or else at itself
-abbrev pub whole : Result Known Cause → (Known → Option Cause) → Option Cause
-whole (Err cause) here = Some cause
-whole (Ok t) here = here t
+abbrev pub whole_cause : Result Known Cause → (Known → Option Cause) → Option Cause
+whole_cause (Err cause) here = Some cause
+whole_cause (Ok t) here = here t
 
 -- the instruction here; `End` past the last one
-abbrev pub instr_of : Option Instr → Instr
-instr_of None = End
-instr_of (Some i) = i
+abbrev pub instr_or_end : Option Instr → Instr
+instr_or_end None = End
+instr_or_end (Some i) = i
 
 -- an instruction is entered and passed, and this is left
-pub record Passes (code : Program) (pc : ℕ) (i : Instr) (came : Option Known) (left : Known) : Type 0 where
+pub record PassesInstr (code : Program) (pc : ℕ) (i : Instr) (came : Option Known) (left : Known) : Type 0 where
   pub known : Known
   pub enters : entered code pc came ≡ Ok known
   pub none : known_cause code pc i known ≡ None

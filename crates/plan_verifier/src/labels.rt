@@ -3,7 +3,7 @@
 ghost use Rattle.std.specs.Prelude.{◌≡◌, ◌<◌, length, slice_get, true, ◌&&◌, IfSome};
 ghost use Rattle.plan_code.specs.Program.{IsProgram, IsLabel, label_at};
 ghost use Rattle.plan_verifier.specs.Held.{known_of};
-ghost use Rattle.plan_verifier.specs.Walking.{unless, is_same, fits, fits_swap, has_configurations_of, declared_by, or_nothing, may_have_swapped, refitted, entry_cause, label_cause};
+ghost use Rattle.plan_verifier.specs.Walking.{unless, is_same, is_fit, fits_swap, has_configurations_of, declared_by, or_nothing, may_have_swapped, refitted, entry_cause, label_cause};
 
 use crate::cause::Cause;
 use crate::holding::holds;
@@ -136,7 +136,7 @@ fn may_have_swapped(pending: Swap, declared: Swap) -> bool
 /// for the current one of a label at which the swap may have been made.
 pub(crate) fn refit<S: Store>(code: &Code, label: &Label, state: &mut KnownState<S>)
     requires within { IsLabel (length code.now.configurations) label.now }
-    requires fitting { fits (known_of S.content state.old) (declared_by code.now label.now) ≡ true }
+    requires fit { is_fit (known_of S.content state.old) (declared_by code.now label.now) ≡ true }
     ensures { known_of S.content state.new ≡ declared_by code.now label.now }
 {
     if may_have_swapped(state.pending, label.pending) {

@@ -6,7 +6,7 @@ ghost use Rattle.plan_code.specs.Program.{IsProgram, instr_at, label_at};
 ghost use Rattle.plan_code.specs.declared.instr.Instr.TheVariants.{Edit as Edits, CommitIn, CommitAt, Wait, Join, Loop};
 ghost use Rattle.plan_verifier.specs.Held.{known_of};
 ghost use Rattle.plan_verifier.specs.Typing.{leaves, spent, rested, continues};
-ghost use Rattle.plan_verifier.specs.Walking.{unless, ◌first_or◌, cause_if, cause_of, is_same, is_swap_count, has_room, change_cause, instr_cause, known_cause, jump_cause, instr_of};
+ghost use Rattle.plan_verifier.specs.Walking.{unless, ◌first_or◌, cause_if, cause_of, is_same, is_swap_count, has_room_for_notice, change_cause, instr_cause, known_cause, jump_cause, instr_or_end};
 ghost use Rattle.plan_verifier.specs.declared.cause.Cause.TheVariants.{Config as OfConfig, NoChange, Round};
 
 use crate::cause::Cause;
@@ -20,7 +20,7 @@ use plan_code::{Code, CounterId, Delay, Frames, Instr, Plan, Swap};
 
 /// Whether a notice has room for the pages of both configurations, and the period for those of each.
 fn has_room<S: Store>(plan: &Plan, state: &KnownState<S>) -> bool
-    ensures { result ≡ has_room plan.now (known_of S.content state.now) }
+    ensures { result ≡ has_room_for_notice plan.now (known_of S.content state.now) }
 {
     let both = notice_pages(plan, &state.current, &state.next);
     both <= usize::from(plan.period)
@@ -252,7 +252,7 @@ pub(crate) fn continues(instr: Instr) -> bool
 
 /// The instruction here; `End` past the last one.
 pub(crate) fn instr_at(code: &Code, pc: u16) -> Instr
-    ensures { result ≡ instr_of (instr_at code.now pc) }
+    ensures { result ≡ instr_or_end (instr_at code.now pc) }
 {
     match code.instr(pc) {
         Some(instr) => instr,
@@ -262,7 +262,7 @@ pub(crate) fn instr_at(code: &Code, pc: u16) -> Instr
 
 /// Whether the instruction here continues to the one after it, and is the last.
 fn falls_off(code: &Code, pc: u16) -> bool
-    ensures { result ≡ (continues (instr_of (instr_at code.now pc)) &&
+    ensures { result ≡ (continues (instr_or_end (instr_at code.now pc)) &&
         (pc + 1 == length code.now.lines)) }
 {
     continues(instr_at(code, pc)) && usize::from(pc) + 1 == code.lines().len()
@@ -270,9 +270,9 @@ fn falls_off(code: &Code, pc: u16) -> bool
 
 /// An instruction of which it is known what holds: why it is refused, from the allowance on, or what it leaves.
 pub(crate) fn judge<S: Store>(code: &Code, pc: u16, state: &mut KnownState<S>) -> Result<(), Cause>
-    ensures cause { result ≡ unless (known_cause code.now pc (instr_of (instr_at code.now pc))
+    ensures cause { result ≡ unless (known_cause code.now pc (instr_or_end (instr_at code.now pc))
         (known_of S.content state.old)) }
-    ensures left { OnOk result (known_of S.content state.new ≡ leaves code.now.plan (instr_of
+    ensures left { OnOk result (known_of S.content state.new ≡ leaves code.now.plan (instr_or_end
         (instr_at code.now pc)) (known_of S.content state.old)) }
 {
     if state.allowance == 0 {

@@ -2,7 +2,7 @@
 
 ghost use Rattle.std.specs.Prelude.{◌≡◌};
 ghost use Rattle.plan_verifier.specs.Held.{known_of};
-ghost use Rattle.plan_verifier.specs.Typing.{swapped, waited, perhaps_swapped, paused, settled};
+ghost use Rattle.plan_verifier.specs.Typing.{known_after_swap, waited, perhaps_swapped, paused, settled};
 ghost use Rattle.plan_verifier.specs.Walking.{is_certain, is_surely_pending};
 
 use crate::known::KnownState;
@@ -34,7 +34,7 @@ pub(crate) fn is_surely_pending(pending: Swap) -> bool
 
 /// The swap has been made.
 pub(crate) fn swap<S: Store>(state: &mut KnownState<S>)
-    ensures { known_of S.content state.new ≡ swapped (known_of S.content state.old) }
+    ensures { known_of S.content state.new ≡ known_after_swap (known_of S.content state.old) }
 {
     state.current.copy_from(&state.next);
     state.pending = Swap::Idle;

@@ -4,7 +4,7 @@ ghost use Rattle.std.specs.Prelude.{◌≡◌, IfErr, OnOk, Ok, Err, Some, None,
 ghost use Rattle.plan_code.specs.Program.{IsProgram, instr_at, label_at};
 ghost use Rattle.plan_verifier.specs.Held.{known_of};
 ghost use Rattle.plan_verifier.specs.Typing.{Known, leaves, continues};
-ghost use Rattle.plan_verifier.specs.Walking.{whole, opening_of, place_of, entered, came_of, known_cause, past_end, walk, refusal_of, opening_cause, is_initial, unless, Passes, instr_of};
+ghost use Rattle.plan_verifier.specs.Walking.{whole_cause, opening_known, place_of, entered, came_of, known_cause, past_end, walk, refusal_of, opening_cause, is_initial, unless, PassesInstr, instr_or_end};
 
 use crate::cause::{Cause, Refusal};
 use crate::known::{KnownState, is_idle, is_same};
@@ -42,9 +42,9 @@ fn test_opening<S: Store>(code: &Code, label: &Label, state: &KnownState<S>) -> 
 
 /// What is known at the first instruction, or why the code is refused there.
 fn open<S: Store>(code: &Code, state: &mut KnownState<S>) -> Result<(), Cause>
-    ensures refused { IfErr result (λ cause. opening_of code.now (label_at code.now 0) ≡
+    ensures refused { IfErr result (λ cause. opening_known code.now (label_at code.now 0) ≡
         Err cause) }
-    ensures known { OnOk result (opening_of code.now (label_at code.now 0) ≡ Ok
+    ensures known { OnOk result (opening_known code.now (label_at code.now 0) ≡ Ok
         (known_of S.content state.new)) }
 {
     match label_at(code, 0) {
@@ -111,10 +111,10 @@ fn visit<S: Store>(
     comes: bool,
     state: &mut KnownState<S>,
 ) -> Result<(), Cause>
-    ensures refused { IfErr result (λ cause. whole (entered code.now pc (came_of comes
-        (known_of S.content state.old))) (known_cause code.now pc (instr_of
+    ensures refused { IfErr result (λ cause. whole_cause (entered code.now pc (came_of comes
+        (known_of S.content state.old))) (known_cause code.now pc (instr_or_end
         (instr_at code.now pc))) ≡ Some cause) }
-    ensures passed { OnOk result (Passes code.now pc (instr_of (instr_at code.now pc))
+    ensures passed { OnOk result (PassesInstr code.now pc (instr_or_end (instr_at code.now pc))
         (came_of comes (known_of S.content state.old)) (known_of S.content state.new)) }
 {
     match enter_at(code, pc, comes, state) {

@@ -11,8 +11,8 @@ use Rattle.script_front.specs.Tree.{Tree}
 use Rattle.script_scheme.specs.declared.flow.Mark.{Mark}
 use Rattle.script_scheme.specs.Scheme.{marks_of}
 use Rattle.script_scheme.specs.Judged.{IsJudged}
-use Rattle.script_scheme.specs.Need.{IsWithin}
-use Rattle.script_scheme.specs.Compiled.{plan_of, opening_of, beginning, body_of, places_of, lines_of, instrs_of, nested, AreFine, Added, Tabled, AreLabelsOf, IsCodeOf, IsAccepted}
+use Rattle.script_scheme.specs.Need.{IsWithinBudget}
+use Rattle.script_scheme.specs.Compiled.{plan_of, opening_of, beginning, body_of, places_of, lines_of_places, instrs_of, nested, AreFine, Added, Tabled, AreLabelsOf, IsCodeOf, IsAccepted}
 use Rattle.script_compiler.proofs.Laid.{length_lines}
 
 -- there is one table only
@@ -36,7 +36,7 @@ labels_length table (m ∷ ms) [] h = absurd h
 labels_length table (m ∷ ms) (l ∷ ls) h = omega (arith, labels_length table ms ls h.1)
 
 pub is_accepted : (s : Tree) (code : Program) → IsProgram code → IsCodeOf s code → AreFine s.items nothing → IsSound (opening_of s) → pages_alone (plan_of s) (opening_of s) ≤ s.header.period
-    → IsJudged (plan_of s) (body_of s) (beginning (opening_of s)) → nested (body_of s) ≤ 8 → IsWithin s.header.budget (instrs_of (lines_of (places_of s))) → IsAccepted s
+    → IsJudged (plan_of s) (body_of s) (beginning (opening_of s)) → nested (body_of s) ≤ 8 → IsWithinBudget s.header.budget (instrs_of (lines_of_places (places_of s))) → IsAccepted s
 is_accepted s code formed is made sound period judged repeats within = record {
   made = made;
   sound = sound;
@@ -51,7 +51,7 @@ is_accepted s code formed is made sound period judged repeats within = record {
 }
 
 -- parts that were made of what was laid down are the code of a script
-pub is_code_of : (s : Tree) (plan : Plan) (configs : List Configuration) (labels : List Label) (lines : List Line) (marks : List Mark) → plan ≡ plan_of s → lines ≡ lines_of (places_of s) → marks ≡ marks_of 0 (places_of s) → Tabled [] marks configs
+pub is_code_of : (s : Tree) (plan : Plan) (configs : List Configuration) (labels : List Label) (lines : List Line) (marks : List Mark) → plan ≡ plan_of s → lines ≡ lines_of_places (places_of s) → marks ≡ marks_of 0 (places_of s) → Tabled [] marks configs
     → AreLabelsOf configs marks labels → IsCodeOf s (record { plan = plan; configurations = configs; labels = labels; lines = lines })
 is_code_of s plan configs labels lines marks plan_is lines_are marks_are tabled labelled = record {
   plan = plan_is;

@@ -6,11 +6,11 @@ use Rattle.plan_code.specs.declared.instr.Instr.TheVariants.{Wait, Until, WaitCo
 use Rattle.plan_code.specs.declared.label.Swap.{Swap}
 use Rattle.plan_code.specs.declared.label.Swap.TheVariants.{Idle, Within, Perhaps}
 use Rattle.plan_code.specs.declared.plan.Plan.{Plan}
-use Rattle.plan_verifier.specs.Typing.{Known, IsFine, swapped, waited, paused, perhaps_swapped, settled}
+use Rattle.plan_verifier.specs.Typing.{Known, IsFine, known_after_swap, waited, paused, perhaps_swapped, settled}
 use Rattle.script_front.specs.Block.{Block, nothing, basic, stop, when, either, repeat, forever, apply}
 use Rattle.script_scheme.specs.declared.flow.Flow.{Flow}
 use Rattle.script_scheme.specs.declared.flow.Spot.{Spot}
-use Rattle.script_scheme.specs.Scheme.{Place, known_at, moved, past, at_label, widest, meet, join, onward, head, after, placed, alone, places, instr_of, falls_out}
+use Rattle.script_scheme.specs.Scheme.{Place, known_at, moved, past, at_label, widest, meet, join, onward, head, spot_after, place_of_instr, alone, places, instr_of_act, falls_out}
 use Rattle.script_scheme.specs.Judged.{IsJudged, Reached}
 
 -- the least is 1 or more, and not above the greatest
@@ -22,18 +22,18 @@ IsBounded (Perhaps hi) = 1 ≤ hi
 waited_bounded : (n : ℕ) (p : Swap) (t : Known) → IsBounded p → IsBounded t.pending → IsBounded (waited n p t).pending
 waited_bounded n Idle t h k = k
 waited_bounded n (Within lo hi) t h k = elim (cases_lt n lo) [
-  | inl lt ↦ subst (λ b. IsBounded (if b then record t { pending = Within (lo - n) (hi - n) } else swapped t).pending) (sym (lt-ltb n lo lt)) (omega (arith, lt), omega (arith, h.0, h.1, lt))
-  | inr ge ↦ subst (λ b. IsBounded (if b then record t { pending = Within (lo - n) (hi - n) } else swapped t).pending) (sym (le-ltb n lo ge)) tt
+  | inl lt ↦ subst (λ b. IsBounded (if b then record t { pending = Within (lo - n) (hi - n) } else known_after_swap t).pending) (sym (lt-ltb n lo lt)) (omega (arith, lt), omega (arith, h.0, h.1, lt))
+  | inr ge ↦ subst (λ b. IsBounded (if b then record t { pending = Within (lo - n) (hi - n) } else known_after_swap t).pending) (sym (le-ltb n lo ge)) tt
 ]
 waited_bounded n (Perhaps hi) t h k = elim (cases_lt n hi) [
-  | inl lt ↦ subst (λ b. IsBounded (if b then record t { pending = Perhaps (hi - n) } else swapped t).pending) (sym (lt-ltb n hi lt)) (omega (arith, lt))
-  | inr ge ↦ subst (λ b. IsBounded (if b then record t { pending = Perhaps (hi - n) } else swapped t).pending) (sym (le-ltb n hi ge)) tt
+  | inl lt ↦ subst (λ b. IsBounded (if b then record t { pending = Perhaps (hi - n) } else known_after_swap t).pending) (sym (lt-ltb n hi lt)) (omega (arith, lt))
+  | inr ge ↦ subst (λ b. IsBounded (if b then record t { pending = Perhaps (hi - n) } else known_after_swap t).pending) (sym (le-ltb n hi ge)) tt
 ]
 
 perhaps_bounded : (hi : ℕ) (t : Known) → IsBounded (perhaps_swapped hi t).pending
 perhaps_bounded hi t = elim (cases_lt 1 hi) [
-  | inl lt ↦ subst (λ b. IsBounded (if b then record t { pending = Perhaps (hi - 1) } else swapped t).pending) (sym (lt-ltb 1 hi lt)) (omega (arith, lt))
-  | inr ge ↦ subst (λ b. IsBounded (if b then record t { pending = Perhaps (hi - 1) } else swapped t).pending) (sym (le-ltb 1 hi ge)) tt
+  | inl lt ↦ subst (λ b. IsBounded (if b then record t { pending = Perhaps (hi - 1) } else known_after_swap t).pending) (sym (lt-ltb 1 hi lt)) (omega (arith, lt))
+  | inr ge ↦ subst (λ b. IsBounded (if b then record t { pending = Perhaps (hi - 1) } else known_after_swap t).pending) (sym (le-ltb 1 hi ge)) tt
 ]
 
 paused_bounded : (p : Swap) (t : Known) → IsBounded t.pending → IsBounded (paused p t).pending
@@ -91,23 +91,23 @@ onward_bounded : (w : Option Spot) (rest : Block) (judged : Spot → Type 0) (ne
 onward_bounded None rest judged next h r k = tt
 onward_bounded (Some u) rest judged next h r k = k u h r
 
-pub after_bounded : (plan : Plan) (b : Block) (s : Spot) → 1 ≤ plan.notice → IsJudged plan b s → IsBounded s.flow.pending → AllWay (after plan b s)
+pub after_bounded : (plan : Plan) (b : Block) (s : Spot) → 1 ≤ plan.notice → IsJudged plan b s → IsBounded s.flow.pending → AllWay (spot_after plan b s)
 after_bounded plan nothing s least j h = h
-after_bounded plan (basic line act rest) s least j h = after_bounded plan rest (past (moved plan (instr_of act) s.flow)) least j.1 (moved_bounded plan (instr_of act) s.flow least j.0 h)
+after_bounded plan (basic line act rest) s least j h = after_bounded plan rest (past (moved plan (instr_of_act act) s.flow)) least j.1 (moved_bounded plan (instr_of_act act) s.flow least j.0 h)
 after_bounded plan (stop line rest) s least j h = tt
 after_bounded plan (when line c first rest) s least j h =
-    let a = after plan first (past s.flow) in
-    onward_bounded (meet a (Some s)) rest (λ u. IsJudged plan rest u) (λ u. after plan rest u) (meet_bounded a (Some s) (after_bounded plan first (past s.flow) least j.0 h) h) j.2 (λ u k r. after_bounded plan rest u least r k)
+    let a = spot_after plan first (past s.flow) in
+    onward_bounded (meet a (Some s)) rest (λ u. IsJudged plan rest u) (λ u. spot_after plan rest u) (meet_bounded a (Some s) (after_bounded plan first (past s.flow) least j.0 h) h) j.2 (λ u k r. after_bounded plan rest u least r k)
 after_bounded plan (either line c first second rest) s least j h =
-    let a = after plan first (past s.flow) in
-    let b = after plan second (at_label s.flow) in
-    onward_bounded (join a b) rest (λ u. IsJudged plan rest u) (λ u. after plan rest u) (join_bounded a b (after_bounded plan first (past s.flow) least j.0 h) (after_bounded plan second (at_label s.flow) least j.1 h)) j.3 (λ u k r. after_bounded plan rest u least r k)
+    let a = spot_after plan first (past s.flow) in
+    let b = spot_after plan second (at_label s.flow) in
+    onward_bounded (join a b) rest (λ u. IsJudged plan rest u) (λ u. spot_after plan rest u) (join_bounded a b (after_bounded plan first (past s.flow) least j.0 h) (after_bounded plan second (at_label s.flow) least j.1 h)) j.3 (λ u k r. after_bounded plan rest u least r k)
 after_bounded plan (repeat line n body rest) s least j h =
     let start = head body (past s.flow) in
-    onward_bounded (after plan body start) rest (λ u. IsJudged plan rest (past u.flow)) (λ u. after plan rest (past u.flow)) (after_bounded plan body start least j.0 h) j.2 (λ u k r. after_bounded plan rest (past u.flow) least r k)
+    onward_bounded (spot_after plan body start) rest (λ u. IsJudged plan rest (past u.flow)) (λ u. spot_after plan rest (past u.flow)) (after_bounded plan body start least j.0 h) j.2 (λ u k r. after_bounded plan rest (past u.flow) least r k)
 after_bounded plan (forever line body rest) s least j h = tt
 after_bounded plan (apply line k named rest) s least j h =
-    onward_bounded (after plan named s) rest (λ u. IsJudged plan rest u) (λ u. after plan rest u) (after_bounded plan named s least j.0 h) j.1 (λ u q r. after_bounded plan rest u least r q)
+    onward_bounded (spot_after plan named s) rest (λ u. IsJudged plan rest u) (λ u. spot_after plan rest u) (after_bounded plan named s least j.0 h) j.1 (λ u q r. after_bounded plan rest u least r q)
 
 -- at each of these places
 abbrev pub AllBounded : List Place → Type 0
@@ -128,10 +128,10 @@ all_alone (Some u) line i r h = (h, tt)
 
 pub places_bounded : (plan : Plan) (b : Block) (r pc : ℕ) (s : Spot) → 1 ≤ plan.notice → IsJudged plan b s → IsBounded s.flow.pending → AllBounded (places plan r pc b s)
 places_bounded plan nothing r pc s least j h = tt
-places_bounded plan (basic line act rest) r pc s least j h = (h, places_bounded plan rest r (pc + 1) (past (moved plan (instr_of act) s.flow)) least j.1 (moved_bounded plan (instr_of act) s.flow least j.0 h))
+places_bounded plan (basic line act rest) r pc s least j h = (h, places_bounded plan rest r (pc + 1) (past (moved plan (instr_of_act act) s.flow)) least j.1 (moved_bounded plan (instr_of_act act) s.flow least j.0 h))
 places_bounded plan (stop line rest) r pc s least j h = (h, tt)
 places_bounded plan (when line c first rest) r pc s least j h =
-    let a = after plan first (past s.flow) in
+    let a = spot_after plan first (past s.flow) in
     let firsts = places plan r (pc + 1) first (past s.flow) in
     let end = pc + 1 + length firsts in
     let met = meet_bounded a (Some s) (after_bounded plan first (past s.flow) least j.0 h) h in (
@@ -140,8 +140,8 @@ places_bounded plan (when line c first rest) r pc s least j h =
           (all_onward (meet a (Some s)) rest (λ u. IsJudged plan rest u) (λ u. places plan r end rest u) met j.2 (λ u k q. places_bounded plan rest r end u least q k)),
     )
 places_bounded plan (either line c first second rest) r pc s least j h =
-    let a = after plan first (past s.flow) in
-    let b = after plan second (at_label s.flow) in
+    let a = spot_after plan first (past s.flow) in
+    let b = spot_after plan second (at_label s.flow) in
     let firsts = places plan r (pc + 1) first (past s.flow) in
     let start = pc + 1 + length firsts + (if falls_out first then 1 else 0) in
     let seconds = places plan r start second (at_label s.flow) in
@@ -159,16 +159,16 @@ places_bounded plan (repeat line n body rest) r pc s least j h =
     let start = head body (past s.flow) in
     let bodies = places plan (r + 1) (pc + 1) body start in
     let end = pc + 1 + length bodies in
-    let back : Spot → List Place = λ u. placed line (Loop r (pc + 1)) (r + 1) u ∷ places plan r (end + 1) rest (past u.flow) in (
+    let back : Spot → List Place = λ u. place_of_instr line (Loop r (pc + 1)) (r + 1) u ∷ places plan r (end + 1) rest (past u.flow) in (
       h,
-      all_both bodies (onward (after plan body start) [] back) (places_bounded plan body (r + 1) (pc + 1) start least j.0 h)
-          (all_onward (after plan body start) rest (λ u. IsJudged plan rest (past u.flow)) back (after_bounded plan body start least j.0 h) j.2 (λ u k q. (k, places_bounded plan rest r (end + 1) (past u.flow) least q k))),
+      all_both bodies (onward (spot_after plan body start) [] back) (places_bounded plan body (r + 1) (pc + 1) start least j.0 h)
+          (all_onward (spot_after plan body start) rest (λ u. IsJudged plan rest (past u.flow)) back (after_bounded plan body start least j.0 h) j.2 (λ u k q. (k, places_bounded plan rest r (end + 1) (past u.flow) least q k))),
     )
 places_bounded plan (forever line body rest) r pc s least j h =
     let start = head body s in
     let bodies = places plan r pc body start in
-    all_both bodies (onward (after plan body start) [] (alone line (Jump pc) r)) (places_bounded plan body r pc start least j.0 h) (all_alone (after plan body start) line (Jump pc) r (after_bounded plan body start least j.0 h))
+    all_both bodies (onward (spot_after plan body start) [] (alone line (Jump pc) r)) (places_bounded plan body r pc start least j.0 h) (all_alone (spot_after plan body start) line (Jump pc) r (after_bounded plan body start least j.0 h))
 places_bounded plan (apply line k named rest) r pc s least j h =
     let names = places plan r pc named s in
-    all_both names (onward (after plan named s) [] (λ u. places plan r (pc + length names) rest u)) (places_bounded plan named r pc s least j.0 h)
-    (all_onward (after plan named s) rest (λ u. IsJudged plan rest u) (λ u. places plan r (pc + length names) rest u) (after_bounded plan named s least j.0 h) j.1 (λ u q t. places_bounded plan rest r (pc + length names) u least t q))
+    all_both names (onward (spot_after plan named s) [] (λ u. places plan r (pc + length names) rest u)) (places_bounded plan named r pc s least j.0 h)
+    (all_onward (spot_after plan named s) rest (λ u. IsJudged plan rest u) (λ u. places plan r (pc + length names) rest u) (after_bounded plan named s least j.0 h) j.1 (λ u q t. places_bounded plan rest r (pc + length names) u least t q))

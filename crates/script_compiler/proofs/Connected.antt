@@ -7,7 +7,7 @@ use Rattle.script_front.specs.declared.tree.Act.{Act}
 use Rattle.script_front.specs.declared.tree.Act.TheVariants.{Edit as Edits, Wait as Waits, WaitContact as WaitsContact, Until as WaitsUntil, CommitIn as CommitsIn, CommitAt as CommitsAt, Join as Joins, Settle as Settles}
 use Rattle.script_front.specs.Block.{Block, nothing, basic, stop, when, either, repeat, forever, apply}
 use Rattle.script_scheme.specs.declared.flow.Spot.{Spot}
-use Rattle.script_scheme.specs.Scheme.{Place, moved, past, at_label, meet, join, onward, head, after, placed, alone, places, all_places, instr_of, falls_out}
+use Rattle.script_scheme.specs.Scheme.{Place, moved, past, at_label, meet, join, onward, head, spot_after, place_of_instr, alone, places, all_places, instr_of_act, falls_out}
 
 -- what comes before continues to this spot, or a label stands there
 abbrev pub Follows : Bool → Spot → Type 0
@@ -29,7 +29,7 @@ pub connected_both : (came : Bool) (a b : List Place) → Connected came a → C
 connected_both came [] b h k = k
 connected_both came (p ∷ a) b h k = (h.0, connected_both (continues p.instr) a b h.1 k)
 
--- connected, and so is what comes after
+-- connected, and so is what comes spot_after
 pub record Chain (came : Bool) (ps : List Place) (w : Option Spot) : Type 0 where
   pub inner : Connected came ps
   pub exits : (u : Spot) → w ≡ Some u → Follows (ends came ps) u
@@ -62,7 +62,7 @@ head_follows : (came : Bool) (f : Bool) (s : Spot) → Follows came s → Follow
 head_follows came true s h e = cc
 head_follows came false s h e = h e
 
-act_continues : (a : Act) → continues (instr_of a) ≡ true
+act_continues : (a : Act) → continues (instr_of_act a) ≡ true
 act_continues (Edits edit) = refl
 act_continues (Waits frames) = refl
 act_continues (WaitsContact contact closed) = refl
@@ -76,46 +76,46 @@ jump_chain : (came : Bool) (line to r : ℕ) (w : Option Spot) → ((u : Spot) �
 jump_chain came line to r None h = tt
 jump_chain came line to r (Some u) h = (h u refl, tt)
 
-pub chain : (plan : Plan) (b : Block) (r pc : ℕ) (s : Spot) (came : Bool) → Follows came s → Chain came (places plan r pc b s) (after plan b s)
+pub chain : (plan : Plan) (b : Block) (r pc : ℕ) (s : Spot) (came : Bool) → Follows came s → Chain came (places plan r pc b s) (spot_after plan b s)
 chain plan nothing r pc s came h = record { inner = tt; exits = λ u e l. h (ap (λ (x : Spot). x.labelled) (some_same s u e) ∙ l) }
   where
     some_same : (s u : Spot) → Some s ≡ Some u → s ≡ u
     some_same s u e = cc
 chain plan (basic line act rest) r pc s came h =
-    let ih = chain plan rest r (pc + 1) (past (moved plan (instr_of act) s.flow)) (continues (instr_of act)) (λ e. act_continues act) in
+    let ih = chain plan rest r (pc + 1) (past (moved plan (instr_of_act act) s.flow)) (continues (instr_of_act act)) (λ e. act_continues act) in
     record { inner = (h, ih.inner); exits = ih.exits }
 chain plan (stop line rest) r pc s came h = record { inner = (h, tt); exits = λ u e. cc }
 chain plan (when line c first rest) r pc s came h =
     let firsts = places plan r (pc + 1) first (past s.flow) in
-    let a = after plan first (past s.flow) in
+    let a = spot_after plan first (past s.flow) in
     let end = pc + 1 + length firsts in
     let front = chain plan first r (pc + 1) (past s.flow) true (λ e. refl) in
-    let back = rest_chain (ends true firsts) (λ u. places plan r end rest u) (λ u. after plan rest u) (meet a (Some s)) (λ u k. chain plan rest r end u (ends true firsts) k) (λ u e. meet_follows (ends true firsts) a s u e) in
+    let back = rest_chain (ends true firsts) (λ u. places plan r end rest u) (λ u. spot_after plan rest u) (meet a (Some s)) (λ u k. chain plan rest r end u (ends true firsts) k) (λ u e. meet_follows (ends true firsts) a s u e) in
     let both = chain_both true firsts _ _ front.inner back in
     record { inner = (h, both.inner); exits = both.exits }
 chain plan (either line c first second rest) r pc s came h =
     let firsts = places plan r (pc + 1) first (past s.flow) in
-    let a = after plan first (past s.flow) in
+    let a = spot_after plan first (past s.flow) in
     let start = pc + 1 + length firsts + (if falls_out first then 1 else 0) in
     let seconds = places plan r start second (at_label s.flow) in
-    let b = after plan second (at_label s.flow) in
+    let b = spot_after plan second (at_label s.flow) in
     let end = start + length seconds in
     let jumps = onward a [] (alone line (Jump end) r) in
     let front = chain plan first r (pc + 1) (past s.flow) true (λ e. refl) in
     let jump = jump_chain (ends true firsts) line end r a front.exits in
     let come = ends (ends true firsts) jumps in
     let middle = chain plan second r start (at_label s.flow) come (labelled_follows come (at_label s.flow) refl) in
-    let back = rest_chain (ends come seconds) (λ u. places plan r end rest u) (λ u. after plan rest u) (join a b) (λ u k. chain plan rest r end u (ends come seconds) k) (join_follows (ends come seconds) a b middle.exits) in
+    let back = rest_chain (ends come seconds) (λ u. places plan r end rest u) (λ u. spot_after plan rest u) (join a b) (λ u k. chain plan rest r end u (ends come seconds) k) (join_follows (ends come seconds) a b middle.exits) in
     let both = chain_both true firsts _ _ front.inner (chain_both (ends true firsts) jumps _ _ jump (chain_both come seconds _ _ middle.inner back)) in
     record { inner = (h, both.inner); exits = both.exits }
 chain plan (repeat line n body rest) r pc s came h =
     let start = head body (past s.flow) in
     let bodies = places plan (r + 1) (pc + 1) body start in
-    let a = after plan body start in
+    let a = spot_after plan body start in
     let end = pc + 1 + length bodies in
     let front = chain plan body (r + 1) (pc + 1) start true (λ e. refl) in
     let come = ends true bodies in
-    let back = rest_chain come (λ u. placed line (Loop r (pc + 1)) (r + 1) u ∷ places plan r (end + 1) rest (past u.flow)) (λ u. after plan rest (past u.flow)) a
+    let back = rest_chain come (λ u. place_of_instr line (Loop r (pc + 1)) (r + 1) u ∷ places plan r (end + 1) rest (past u.flow)) (λ u. spot_after plan rest (past u.flow)) a
     (λ u k. let ih = chain plan rest r (end + 1) (past u.flow) true (λ e. refl) in record { inner = (k, ih.inner); exits = ih.exits }) front.exits in
     let both = chain_both true bodies _ _ front.inner back in
     record { inner = (h, both.inner); exits = both.exits }
@@ -123,19 +123,19 @@ chain plan (forever line body rest) r pc s came h =
     let start = head body s in
     let bodies = places plan r pc body start in
     let front = chain plan body r pc start came (head_follows came (falls_out body) s h) in
-    record { inner = connected_both came bodies _ front.inner (jump_chain (ends came bodies) line pc r (after plan body start) front.exits); exits = λ u e. cc }
+    record { inner = connected_both came bodies _ front.inner (jump_chain (ends came bodies) line pc r (spot_after plan body start) front.exits); exits = λ u e. cc }
 chain plan (apply line k named rest) r pc s came h =
     let names = places plan r pc named s in
     let end = pc + length names in
     let front = chain plan named r pc s came h in
     let come = ends came names in
-    let back = rest_chain come (λ u. places plan r end rest u) (λ u. after plan rest u) (after plan named s) (λ u k. chain plan rest r end u come k) front.exits in
+    let back = rest_chain come (λ u. places plan r end rest u) (λ u. spot_after plan rest u) (spot_after plan named s) (λ u k. chain plan rest r end u come k) front.exits in
     chain_both came names _ _ front.inner back
 
 pub all_connected : (plan : Plan) (last : ℕ) (b : Block) (s : Spot) → s.labelled ≡ true → Connected false (all_places plan last b s)
 all_connected plan last b s e =
     let whole = chain plan b 0 0 s false (labelled_follows false s e) in
-    connected_both false (places plan 0 0 b s) _ whole.inner (ending (ends false (places plan 0 0 b s)) (after plan b s) whole.exits)
+    connected_both false (places plan 0 0 b s) _ whole.inner (ending (ends false (places plan 0 0 b s)) (spot_after plan b s) whole.exits)
   where
     ending : (came : Bool) (w : Option Spot) → ((u : Spot) → w ≡ Some u → Follows came u) → Connected came (onward w [] (alone last End 0))
     ending came None h = tt

@@ -5,7 +5,7 @@ use Rattle.plan_code.specs.declared.plan.Plan.{Plan}
 use Rattle.script_front.specs.Block.{Block, nothing, basic, stop, when, either, repeat, forever, apply}
 use Rattle.script_front.specs.Tree.{Tree}
 use Rattle.script_scheme.specs.declared.flow.Spot.{Spot}
-use Rattle.script_scheme.specs.Scheme.{Place, past, at_label, moved, meet, join, onward, head, after, placed, alone, places, mark_of, marks_of, instr_of, falls_out}
+use Rattle.script_scheme.specs.Scheme.{Place, past, at_label, moved, meet, join, onward, head, spot_after, place_of_instr, alone, places, mark_of, marks_of, instr_of_act, falls_out}
 use Rattle.script_scheme.specs.Compiled.{nested, body_of, beginning, opening_of, plan_of, places_of, IsAccepted}
 use Rattle.script_compiler.specs.Room.{HasRoomFor, IsDeepAtMost, named_by}
 use Rattle.script_compiler.proofs.Rooms.{room_from}
@@ -25,20 +25,20 @@ deep_onward (Some u) lay h = h u
 
 places_deep : (plan : Plan) (b : Block) (r pc : ℕ) (s : Spot) → r + nested b ≤ 8 → AreDeep (places plan r pc b s)
 places_deep plan nothing r pc s h = tt
-places_deep plan (basic line act rest) r pc s h = (omega (arith, h), places_deep plan rest r (pc + 1) (past (moved plan (instr_of act) s.flow)) (omega (arith, h)))
+places_deep plan (basic line act rest) r pc s h = (omega (arith, h), places_deep plan rest r (pc + 1) (past (moved plan (instr_of_act act) s.flow)) (omega (arith, h)))
 places_deep plan (stop line rest) r pc s h = (omega (arith, h), tt)
 places_deep plan (when line c first rest) r pc s h =
     let firsts = places plan r (pc + 1) first (past s.flow) in (
       omega (arith, h),
       deep_both firsts _ (places_deep plan first r (pc + 1) (past s.flow) (omega (arith, h)))
-          (deep_onward (meet (after plan first (past s.flow)) (Some s)) (λ u. places plan r (pc + 1 + length firsts) rest u) (λ u. places_deep plan rest r (pc + 1 + length firsts) u (omega (arith, h)))),
+          (deep_onward (meet (spot_after plan first (past s.flow)) (Some s)) (λ u. places plan r (pc + 1 + length firsts) rest u) (λ u. places_deep plan rest r (pc + 1 + length firsts) u (omega (arith, h)))),
     )
 places_deep plan (either line c first second rest) r pc s h =
     let firsts = places plan r (pc + 1) first (past s.flow) in
-    let a = after plan first (past s.flow) in
+    let a = spot_after plan first (past s.flow) in
     let start = pc + 1 + length firsts + (if falls_out first then 1 else 0) in
     let seconds = places plan r start second (at_label s.flow) in
-    let b = after plan second (at_label s.flow) in
+    let b = spot_after plan second (at_label s.flow) in
     let end = start + length seconds in
     let jumps = onward a [] (alone line (Jump end) r) in
     let rests = onward (join a b) [] (λ u. places plan r end rest u) in
@@ -54,18 +54,18 @@ places_deep plan (repeat line n body rest) r pc s h =
     let end = pc + 1 + length bodies in (
       omega (arith, h),
       deep_both bodies _ (places_deep plan body (r + 1) (pc + 1) start (omega (arith, h)))
-          (deep_onward (after plan body start) (λ u. placed line (Loop r (pc + 1)) (r + 1) u ∷ places plan r (end + 1) rest (past u.flow))
+          (deep_onward (spot_after plan body start) (λ u. place_of_instr line (Loop r (pc + 1)) (r + 1) u ∷ places plan r (end + 1) rest (past u.flow))
           (λ u. (omega (arith, h), places_deep plan rest r (end + 1) (past u.flow) (omega (arith, h))))),
     )
 places_deep plan (forever line body rest) r pc s h =
     let start = head body s in
     let bodies = places plan r pc body start in
     let low : r ≤ 8 = omega (arith, h) in
-    deep_both bodies _ (places_deep plan body r pc start (omega (arith, h))) (deep_onward (after plan body start) (alone line (Jump pc) r) (λ u. (low, tt)))
+    deep_both bodies _ (places_deep plan body r pc start (omega (arith, h))) (deep_onward (spot_after plan body start) (alone line (Jump pc) r) (λ u. (low, tt)))
 places_deep plan (apply line k named rest) r pc s h =
     let names = places plan r pc named s in
     deep_both names _ (places_deep plan named r pc s (omega (arith, h)))
-    (deep_onward (after plan named s) (λ u. places plan r (pc + length names) rest u) (λ u. places_deep plan rest r (pc + length names) u (omega (arith, h))))
+    (deep_onward (spot_after plan named s) (λ u. places plan r (pc + length names) rest u) (λ u. places_deep plan rest r (pc + length names) u (omega (arith, h))))
 
 deep_marks : (pc : ℕ) (ps : List Place) → AreDeep ps → IsDeepAtMost 8 (marks_of pc ps)
 deep_marks pc [] h = tt
@@ -82,7 +82,7 @@ accepted_deep s a =
     let b = body_of s in
     let t = beginning (opening_of s) in
     let deep : nested b ≤ 8 = a.repeats in
-    deep_marks 0 (places_of s) (deep_both (places plan 0 0 b t) _ (places_deep plan b 0 0 t (omega (arith, deep))) (deep_onward (after plan b t) (alone s.last_line End 0) (λ u. (omega arith, tt))))
+    deep_marks 0 (places_of s) (deep_both (places plan 0 0 b t) _ (places_deep plan b 0 0 t (omega (arith, deep))) (deep_onward (spot_after plan b t) (alone s.last_line End 0) (λ u. (omega arith, tt))))
 
 -- and a table has room for what they name
 pub accepted_room : (s : Tree) → IsAccepted s → HasRoomFor [] (named_by (marks_of 0 (places_of s)))

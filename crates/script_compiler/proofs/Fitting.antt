@@ -9,13 +9,13 @@ use Rattle.script_front.specs.declared.tree.Act.{Act}
 use Rattle.script_front.specs.declared.tree.Statement.{Statement}
 use Rattle.script_front.specs.Block.{Block, nothing, basic, stop, when, either, repeat, forever, apply, before, block_of}
 use Rattle.script_scheme.specs.declared.flow.Spot.{Spot}
-use Rattle.script_scheme.specs.Scheme.{Place, past, at_label, merged, meet, join, onward, head, after, placed, alone, places, all_places, instr_of, falls_out}
+use Rattle.script_scheme.specs.Scheme.{Place, past, at_label, merged, meet, join, onward, head, spot_after, place_of_instr, alone, places, all_places, instr_of_act, falls_out}
 use Rattle.script_scheme.specs.Judged.{IsJudged, WaysAgree, BranchesAgree}
-use Rattle.script_scheme.specs.Compiled.{Tabled, lines_of, nested}
+use Rattle.script_scheme.specs.Compiled.{Tabled, lines_of_places, nested}
 use Rattle.script_compiler.specs.declared.work.Work.{Work}
 use Rattle.script_compiler.specs.declared.fault.CompileFault.{CompileFault}
 use Rattle.script_compiler.specs.declared.fault.CompileFault.TheVariants.{Limit}
-use Rattle.script_compiler.specs.Laying.{Lays, Left, Forks, Turns, line_at, jumping, kept, way}
+use Rattle.script_compiler.specs.Laying.{Lays, Left, Forks, Turns, line_of_instr, jumping, spots_of, way}
 use Rattle.script_compiler.specs.Space.{names_of, HasSpace, HasTable, IsCovered, Covers, CanLay, AreFew}
 use Rattle.script_compiler.specs.Room.{HasRoomFor, Leaves, named_by}
 use Rattle.script_compiler.proofs.Rooms.{leaves_same}
@@ -25,7 +25,7 @@ use Rattle.script_compiler.proofs.Laid.{Whole, whole_of, laid_length, length_lin
 use Rattle.script_compiler.proofs.Refusing.{some_is, head_is, when_first, either_first, either_second, repeat_body, forever_body}
 use Rattle.script_compiler.proofs.Spaces.{marks_count, marks_named, space_from, space_after, space_one, space_as, space_left, covered_here, covered_fits, covers_block, err_each}
 
--- ---- one statement after another
+-- ---- one statement spot_after another
 
 pub can_then : (plan : Plan) (r : ℕ) (b c : Block) (v w : Work) → Left plan r b v w true c → CanLay plan r b v → CanLay plan r c w
 can_then plan r b c v w left can =
@@ -58,7 +58,7 @@ abbrev pub NoSpace : Work → Type 0
 NoSpace w = (p : Place) (ps : List Place) → p.spot ≡ w.now → HasSpace w (p ∷ ps) → ⊥
 
 pub act_limited : (plan : Plan) (r line : ℕ) (a : Act) (w : Work) → NoSpace w → (rest : Block) → CanLay plan r (basic line a rest) w → ⊥
-act_limited plan r line a w h rest can = h (placed line (instr_of a) r w.now) _ refl can.space
+act_limited plan r line a w h rest can = h (place_of_instr line (instr_of_act a) r w.now) _ refl can.space
 
 pub stop_limited : (plan : Plan) (r line : ℕ) (w : Work) → NoSpace w → (rest : Block) → CanLay plan r (stop line rest) w → ⊥
 stop_limited plan r line w h rest can = h _ _ refl can.space
@@ -80,13 +80,13 @@ meet_labelled (Some v) s u e = let h : at_label (merged v.flow s.flow) ≡ u = c
 
 module _ (plan : Plan) (r pc : ℕ) (rest : Block) (more : List Place) where
   abbrev pub Onward : Option Spot → Type 0
-  Onward w = (v : Spot) → onward w None (λ u. after plan rest u) ≡ Some v → Covers v more
+  Onward w = (v : Spot) → onward w None (λ u. spot_after plan rest u) ≡ Some v → Covers v more
 
   abbrev pub rests : Option Spot → List Place
   rests w = onward w [] (λ u. places plan r pc rest u)
 
   pub onward_covers : (w : Option Spot) → Onward w → (u : Spot) → w ≡ Some u → Covers u (rests w ++ more)
-  onward_covers w on u e = subst (λ x. Covers u (rests x ++ more)) (sym e) (covers_block plan r pc rest u more (λ v h. on v (ap (λ x. onward x None (λ t. after plan rest t)) e ∙ h)))
+  onward_covers w on u e = subst (λ x. Covers u (rests x ++ more)) (sym e) (covers_block plan r pc rest u more (λ v h. on v (ap (λ x. onward x None (λ t. spot_after plan rest t)) e ∙ h)))
 
   pub when_covers : (a : Option Spot) (s : Spot) → WaysAgree a (Some s) → Onward (meet a (Some s)) → (u : Spot) → a ≡ Some u → Covers u (rests (meet a (Some s)) ++ more)
   when_covers None s agree on u e = cc
@@ -103,16 +103,16 @@ module _ (plan : Plan) (r pc : ℕ) (rest : Block) (more : List Place) where
   -- where a jump leads out
   pub jump_covers : (a : Option Spot) (line : ℕ) (i : Instr) (q : ℕ) (u : Spot) → a ≡ Some u → Covers u (onward a [] (alone line i q) ++ more)
   jump_covers None line i q u e = cc
-  jump_covers (Some x) line i q u e = covered_here u (placed line i q x) more cc
+  jump_covers (Some x) line i q u e = covered_here u (place_of_instr line i q x) more cc
 
-loop_split : (w : Option Spot) (line : ℕ) (i : Instr) (q : ℕ) (lay : Spot → List Place) (more : List Place) → onward w [] (λ u. placed line i q u ∷ lay u) ++ more ≡ onward w [] (alone line i q) ++ (onward w [] lay ++ more)
+loop_split : (w : Option Spot) (line : ℕ) (i : Instr) (q : ℕ) (lay : Spot → List Place) (more : List Place) → onward w [] (λ u. place_of_instr line i q u ∷ lay u) ++ more ≡ onward w [] (alone line i q) ++ (onward w [] lay ++ more)
 loop_split None line i q lay more = refl
 loop_split (Some s) line i q lay more = refl
 
 -- a block that has been laid down, of the places that there was room for
 space_whole : (plan : Plan) (r pc : ℕ) (b : Block) (s : Spot) (v w : Work) (f : Bool) (more : List Place) → Whole plan r pc b s v w f → HasSpace v (places plan r pc b s ++ more) → HasSpace w more
 space_whole plan r pc b s v w f more h space =
-    space_from v w pc (places plan r pc b s) more (ap length h.lines ∙ length-append v.lines.items (lines_of (places plan r pc b s)) ∙ ap (λ n. length v.lines.items + n) (length_lines (places plan r pc b s))) h.marks space
+    space_from v w pc (places plan r pc b s) more (ap length h.lines ∙ length-append v.lines.items (lines_of_places (places plan r pc b s)) ∙ ap (λ n. length v.lines.items + n) (length_lines (places plan r pc b s))) h.marks space
 
 -- ---- `if`
 
@@ -122,19 +122,19 @@ module _ (plan : Plan) (r line c : ℕ) (first rest : Block) (w0 w2 w3 : Work) (
       let pc = length w0.lines.items in
       let s = w0.now in
       let t = past s.flow in
-      let pc2 : length w2.lines.items ≡ pc + 1 = ap length fork.lines ∙ length-append w0.lines.items (line_at line (Test c 0) ∷ []) in
+      let pc2 : length w2.lines.items ≡ pc + 1 = ap length fork.lines ∙ length-append w0.lines.items (line_of_instr line (Test c 0) ∷ []) in
       let firsts = places plan r (pc + 1) first t in
       let end = pc + 1 + length firsts in
-      let a = after plan first t in
+      let a = spot_after plan first t in
       let rests = onward (meet a (Some s)) [] (λ u. places plan r end rest u) in
-      let space : HasSpace w2 ((firsts ++ rests) ++ can.more) = space_one w0 w2 pc line r (Test c 0) (placed line (Test c end) r s) _ refl pc2 fork.marks can.space in
+      let space : HasSpace w2 ((firsts ++ rests) ++ can.more) = space_one w0 w2 pc line r (Test c 0) (place_of_instr line (Test c end) r s) _ refl pc2 fork.marks can.space in
       let space2 : HasSpace w2 (firsts ++ (rests ++ can.more)) = subst (λ ps. HasSpace w2 ps) (append_assoc firsts rests can.more) space in
       let here : firsts ≡ places plan r (length w2.lines.items) first w2.now = ap (λ n. places plan r n first t) (sym pc2) ∙ ap (λ x. places plan r (length w2.lines.items) first x) (sym fork.now) in
       record {
         judged = when_first plan r line c first rest w0 w2 w2 true fork can.judged;
         deep = let d = can.deep in omega (arith, d);
         more = rests ++ can.more;
-        onward = λ u e. when_covers plan r end rest can.more a s can.judged.1 (λ v h. can.onward v h) u (ap (λ x. after plan first x) (sym fork.now) ∙ e);
+        onward = λ u e. when_covers plan r end rest can.more a s can.judged.1 (λ v h. can.onward v h) u (ap (λ x. spot_after plan first x) (sym fork.now) ∙ e);
         space = subst (λ ps. HasSpace w2 (ps ++ (rests ++ can.more))) here space2;
       }
 
@@ -145,13 +145,13 @@ module _ (plan : Plan) (r line c : ℕ) (first rest : Block) (w0 w2 w3 : Work) (
       let pc = length w0.lines.items in
       let s = w0.now in
       let t = past s.flow in
-      let pc2 : length w2.lines.items ≡ pc + 1 = ap length fork.lines ∙ length-append w0.lines.items (line_at line (Test c 0) ∷ []) in
+      let pc2 : length w2.lines.items ≡ pc + 1 = ap length fork.lines ∙ length-append w0.lines.items (line_of_instr line (Test c 0) ∷ []) in
       let firsts = places plan r (pc + 1) first t in
       let end = pc + 1 + length firsts in
-      let a = after plan first t in
+      let a = spot_after plan first t in
       let rests = onward (meet a (Some s)) [] (λ u. places plan r end rest u) in
       let h = whole_of plan r (pc + 1) first t w2 w3 f pc2 fork.now left in
-      let space : HasSpace w2 ((firsts ++ rests) ++ can.more) = space_one w0 w2 pc line r (Test c 0) (placed line (Test c end) r s) _ refl pc2 fork.marks can.space in
+      let space : HasSpace w2 ((firsts ++ rests) ++ can.more) = space_one w0 w2 pc line r (Test c 0) (place_of_instr line (Test c end) r s) _ refl pc2 fork.marks can.space in
       let space2 : HasSpace w2 (firsts ++ (rests ++ can.more)) = subst (λ ps. HasSpace w2 ps) (append_assoc firsts rests can.more) space in
       let space3 = space_whole plan r (pc + 1) first t w2 w3 f (rests ++ can.more) h space2 in
       full w0.saved.items s (left.lays.saved ∙ fork.saved) (rests ++ can.more)
@@ -173,20 +173,20 @@ module _ (plan : Plan) (r line c : ℕ) (first second rest : Block) (w0 w2 w3 w6
   Stop = Start + length Seconds
 
   abbrev Away : Option Spot
-  Away = after plan first (past w0.now.flow)
+  Away = spot_after plan first (past w0.now.flow)
 
   abbrev Jumps : List Place
   Jumps = onward Away [] (alone line (Jump Stop) r)
 
   abbrev Rests : List Place
-  Rests = onward (join Away (after plan second (at_label w0.now.flow))) [] (λ u. places plan r Stop rest u)
+  Rests = onward (join Away (spot_after plan second (at_label w0.now.flow))) [] (λ u. places plan r Stop rest u)
 
   either_pc : Forks line (Test c 0) r w0 w2 → length w2.lines.items ≡ length w0.lines.items + 1
-  either_pc fork = ap length fork.lines ∙ length-append w0.lines.items (line_at line (Test c 0) ∷ [])
+  either_pc fork = ap length fork.lines ∙ length-append w0.lines.items (line_of_instr line (Test c 0) ∷ [])
 
   either_space : Forks line (Test c 0) r w0 w2 → (can : CanLay plan r (either line c first second rest) w0) → HasSpace w2 (Firsts ++ (Jumps ++ (Seconds ++ (Rests ++ can.more))))
   either_space fork can =
-      let space : HasSpace w2 ((Firsts ++ (Jumps ++ (Seconds ++ Rests))) ++ can.more) = space_one w0 w2 (length w0.lines.items) line r (Test c 0) (placed line (Test c Start) r w0.now) _ refl (either_pc fork) fork.marks can.space in
+      let space : HasSpace w2 ((Firsts ++ (Jumps ++ (Seconds ++ Rests))) ++ can.more) = space_one w0 w2 (length w0.lines.items) line r (Test c 0) (place_of_instr line (Test c Start) r w0.now) _ refl (either_pc fork) fork.marks can.space in
       let e : (Firsts ++ (Jumps ++ (Seconds ++ Rests))) ++ can.more ≡ Firsts ++ (Jumps ++ (Seconds ++ (Rests ++ can.more))) =
       append_assoc Firsts (Jumps ++ (Seconds ++ Rests)) can.more ∙ ap (λ ps. Firsts ++ ps) (append_assoc Jumps (Seconds ++ Rests) can.more ∙ ap (λ ps. Jumps ++ ps) (append_assoc Seconds Rests can.more)) in
       subst (λ ps. HasSpace w2 ps) e space
@@ -201,7 +201,7 @@ module _ (plan : Plan) (r line c : ℕ) (first second rest : Block) (w0 w2 w3 w6
         judged = either_first plan r line c 0 first second rest w0 w2 w2 w2 w2 true true fork can.judged;
         deep = let d = can.deep in omega (arith, d);
         more = Jumps ++ more;
-        onward = λ u e. jump_covers plan r Stop rest more Away line (Jump Stop) r u (ap (λ x. after plan first x) (sym fork.now) ∙ e);
+        onward = λ u e. jump_covers plan r Stop rest more Away line (Jump Stop) r u (ap (λ x. spot_after plan first x) (sym fork.now) ∙ e);
         space = subst (λ ps. HasSpace w2 (ps ++ (Jumps ++ more))) here (either_space fork can);
       }
 
@@ -215,8 +215,8 @@ module _ (plan : Plan) (r line c : ℕ) (first second rest : Block) (w0 w2 w3 w6
       let more = Seconds ++ (Rests ++ can.more) in
       subst (λ w. HasSpace w3 (onward w [] (alone line (Jump Stop) r) ++ more)) h.leads (space_whole plan r (length w0.lines.items + 1) first (past w0.now.flow) w2 w3 f1 (Jumps ++ more) h (either_space fork can))
 
-  second_covers : (can : CanLay plan r (either line c first second rest) w0) → (u : Spot) → after plan second (at_label w0.now.flow) ≡ Some u → Covers u (Rests ++ can.more)
-  second_covers can u e = join_covers plan r Stop rest can.more Away (after plan second (at_label w0.now.flow)) can.judged.2 (λ v h. can.onward v h) u e
+  second_covers : (can : CanLay plan r (either line c first second rest) w0) → (u : Spot) → spot_after plan second (at_label w0.now.flow) ≡ Some u → Covers u (Rests ++ can.more)
+  second_covers can u e = join_covers plan r Stop rest can.more Away (spot_after plan second (at_label w0.now.flow)) can.judged.2 (λ v h. can.onward v h) u e
 
   pub can_either_turned : Forks line (Test c 0) r w0 w2 → Left plan r first w2 w3 f1 nothing →
       ((front : List Spot) (entry : Spot) → w3.saved.items ≡ front ++ entry ∷ [] → (m n : ℕ) (i : Instr) (ps : List Place) → HasSpace w3 (onward (way f1 w3) [] (alone m i n) ++ ps) → IsCovered entry.flow ps → ⊥) →
@@ -230,14 +230,14 @@ module _ (plan : Plan) (r line c : ℕ) (first second rest : Block) (w0 w2 w3 w6
     either_start : Forks line (Test c 0) r w0 w2 → Left plan r first w2 w3 f1 nothing → Turns f1 line r c at w0.saved.items w0.now w3 w6 → length w6.lines.items ≡ Start
     either_start fork left turn =
         let h = either_left fork left in
-        let jumps = lines_of (jumping f1 line r w3) in
-        let l3 : length w3.lines.items ≡ length w0.lines.items + 1 + length Firsts = ap length h.lines ∙ length-append w2.lines.items (lines_of Firsts) ∙ ap (λ n. n + length (lines_of Firsts)) (either_pc fork) ∙ ap (λ n. length w0.lines.items + 1 + n) (length_lines Firsts) in
+        let jumps = lines_of_places (jumping f1 line r w3) in
+        let l3 : length w3.lines.items ≡ length w0.lines.items + 1 + length Firsts = ap length h.lines ∙ length-append w2.lines.items (lines_of_places Firsts) ∙ ap (λ n. n + length (lines_of_places Firsts)) (either_pc fork) ∙ ap (λ n. length w0.lines.items + 1 + n) (length_lines Firsts) in
         let jlen : length jumps ≡ (if falls_out first then 1 else 0) = jump_length line 0 r (way f1 w3) (falls_out first) (ap (λ w. is_some w) (sym h.leads) ∙ after_falls plan first (past w0.now.flow)) in
         ap length turn.lines ∙ length-set (w3.lines.items ++ jumps) at _ ∙ length-append w3.lines.items jumps ∙ ap (λ n. n + length jumps) l3 ∙ ap (λ n. length w0.lines.items + 1 + length Firsts + n) jlen
 
     space_second : Forks line (Test c 0) r w0 w2 → Left plan r first w2 w3 f1 nothing → Turns f1 line r c at w0.saved.items w0.now w3 w6 → (can : CanLay plan r (either line c first second rest) w0) → HasSpace w6 (Seconds ++ (Rests ++ can.more))
     space_second fork left turn can =
-        let jumps = lines_of (jumping f1 line r w3) in
+        let jumps = lines_of_places (jumping f1 line r w3) in
         let lines = ap length turn.lines ∙ length-set (w3.lines.items ++ jumps) at _ ∙ length-append w3.lines.items jumps in
         space_left w3 w6 f1 line r line r (Jump Stop) (Seconds ++ (Rests ++ can.more)) lines turn.marks (space_out fork left can)
 
@@ -253,14 +253,14 @@ module _ (plan : Plan) (r line c : ℕ) (first second rest : Block) (w0 w2 w3 w6
           judged = either_second plan r line c at first second rest w0 w2 w3 w6 w6 f1 true fork left turning can.judged;
           deep = let d = can.deep in omega (arith, d);
           more = Rests ++ can.more;
-          onward = λ u e. second_covers can u (ap (λ x. after plan second x) (sym turn.now) ∙ e);
+          onward = λ u e. second_covers can u (ap (λ x. spot_after plan second x) (sym turn.now) ∙ e);
           space = subst (λ ps. HasSpace w6 (ps ++ (Rests ++ can.more))) here (space_second fork left turn can);
         }
 
     pub can_either_closed : Forks line (Test c 0) r w0 w2 → Left plan r first w2 w3 f1 nothing →
         ((front : List Spot) (entry : Spot) → w3.saved.items ≡ front ++ entry ∷ [] → Turns f1 line r c at front entry w3 w6) →
         Left plan r second w6 w7 f2 nothing →
-        ((front : List Spot) (a : Option Spot) → f1 ≡ is_some a → w7.saved.items ≡ front ++ kept a → (ps : List Place) → ((u : Spot) → join a (way f2 w7) ≡ Some u → Covers u ps) → HasSpace w7 ps → ⊥) →
+        ((front : List Spot) (a : Option Spot) → f1 ≡ is_some a → w7.saved.items ≡ front ++ spots_of a → (ps : List Place) → ((u : Spot) → join a (way f2 w7) ≡ Some u → Covers u ps) → HasSpace w7 ps → ⊥) →
         CanLay plan r (either line c first second rest) w0 → ⊥
     can_either_closed fork left turning left2 full can =
         let turn = turning w0.saved.items w0.now (left.lays.saved ∙ fork.saved) in
@@ -269,9 +269,9 @@ module _ (plan : Plan) (r line c : ℕ) (first second rest : Block) (w0 w2 w3 w6
         let h = either_left fork left in
         let h2 = whole_of plan r Start second s w6 w7 f2 start turn.now left2 in
         let space = space_whole plan r Start second s w6 w7 f2 (Rests ++ can.more) h2 (space_second fork left turn can) in
-        let joins : join Away (after plan second s) ≡ join (way f1 w3) (way f2 w7) = ap (λ w. join w (after plan second s)) h.leads ∙ ap (λ w. join (way f1 w3) w) h2.leads in
+        let joins : join Away (spot_after plan second s) ≡ join (way f1 w3) (way f2 w7) = ap (λ w. join w (spot_after plan second s)) h.leads ∙ ap (λ w. join (way f1 w3) w) h2.leads in
         full w0.saved.items (way f1 w3) (some_is f1 w3) (left2.lays.saved ∙ turn.saved) (Rests ++ can.more)
-        (λ u e. onward_covers plan r Stop rest can.more (join Away (after plan second s)) (λ v k. can.onward v k) u (joins ∙ e)) space
+        (λ u e. onward_covers plan r Stop rest can.more (join Away (spot_after plan second s)) (λ v k. can.onward v k) u (joins ∙ e)) space
 
 -- ---- loops
 
@@ -283,7 +283,7 @@ module _ (plan : Plan) (r line n : ℕ) (body rest : Block) (w0 w1 w2 w3 : Work)
   Again = Loop r (length w0.lines.items + 1)
 
   abbrev Gone : Option Spot
-  Gone = after plan body (head body (past w0.now.flow))
+  Gone = spot_after plan body (head body (past w0.now.flow))
 
   abbrev Later : List Place
   Later = onward Gone [] (λ u. places plan r (length w0.lines.items + 1 + length Bodies + 1) rest (past u.flow))
@@ -291,7 +291,7 @@ module _ (plan : Plan) (r line n : ℕ) (body rest : Block) (w0 w1 w2 w3 : Work)
   repeat_space : Lays w0 w1 (alone line (Set r n) r w0.now) → (can : CanLay plan r (repeat line n body rest) w0) → HasSpace w1 (Bodies ++ (onward Gone [] (alone line Again (r + 1)) ++ (Later ++ can.more)))
   repeat_space lays can =
       let pc = length w0.lines.items in
-      let back = onward Gone [] (λ u. placed line Again (r + 1) u ∷ places plan r (pc + 1 + length Bodies + 1) rest (past u.flow)) in
+      let back = onward Gone [] (λ u. place_of_instr line Again (r + 1) u ∷ places plan r (pc + 1 + length Bodies + 1) rest (past u.flow)) in
       let space : HasSpace w1 ((Bodies ++ back) ++ can.more) = space_after w0 w1 (alone line (Set r n) r w0.now) ((Bodies ++ back) ++ can.more) lays can.space in
       subst (λ ps. HasSpace w1 ps) (append_assoc Bodies back can.more ∙ ap (λ ps. Bodies ++ ps) (loop_split Gone line Again (r + 1) (λ u. places plan r (pc + 1 + length Bodies + 1) rest (past u.flow)) can.more)) space
 
@@ -317,7 +317,7 @@ module _ (plan : Plan) (r line n : ℕ) (body rest : Block) (w0 w1 w2 w3 : Work)
         judged = repeat_body plan r line n body rest w0 w1 w2 w2 true falls now falls_is now2 can.judged;
         deep = let d = can.deep in omega (arith, d);
         more = more;
-        onward = λ u e. jump_covers plan r 0 rest (Later ++ can.more) Gone line Again (r + 1) u (ap (λ s. after plan body s) (sym here2) ∙ e);
+        onward = λ u e. jump_covers plan r 0 rest (Later ++ can.more) Gone line Again (r + 1) u (ap (λ s. spot_after plan body s) (sym here2) ∙ e);
         space = subst (λ ps. HasSpace w2 (ps ++ more)) here space;
       }
 
@@ -344,7 +344,7 @@ module _ (plan : Plan) (r line : ℕ) (body rest : Block) (w0 w2 w3 : Work) (f f
   Back = Jump (length w0.lines.items)
 
   abbrev Ended : Option Spot
-  Ended = after plan body (head body w0.now)
+  Ended = spot_after plan body (head body w0.now)
 
   forever_space : (can : CanLay plan r (forever line body rest) w0) → HasSpace w0 (Rounds ++ (onward Ended [] (alone line Back r) ++ can.more))
   forever_space can = subst (λ ps. HasSpace w0 ps) (append_assoc Rounds (onward Ended [] (alone line Back r)) can.more) can.space
@@ -369,7 +369,7 @@ module _ (plan : Plan) (r line : ℕ) (body rest : Block) (w0 w2 w3 : Work) (f f
         judged = forever_body plan r line body rest w0 w2 w2 true falls falls_is now2 can.judged;
         deep = let d = can.deep in omega (arith, d);
         more = more;
-        onward = λ u e. jump_covers plan r 0 rest can.more Ended line Back r u (ap (λ s. after plan body s) (sym here2) ∙ e);
+        onward = λ u e. jump_covers plan r 0 rest can.more Ended line Back r u (ap (λ s. spot_after plan body s) (sym here2) ∙ e);
         space = subst (λ ps. HasSpace w2 (ps ++ more)) here space;
       }
 
@@ -392,12 +392,12 @@ pub can_apply : (plan : Plan) (r line k : ℕ) (named rest : Block) (w : Work) �
 can_apply plan r line k named rest w can =
     let pc = length w.lines.items in
     let names = places plan r pc named w.now in
-    let rests = onward (after plan named w.now) [] (λ u. places plan r (pc + length names) rest u) in
+    let rests = onward (spot_after plan named w.now) [] (λ u. places plan r (pc + length names) rest u) in
     record {
       judged = can.judged.0;
       deep = let d = can.deep in omega (arith, d);
       more = rests ++ can.more;
-      onward = λ u e. onward_covers plan r (pc + length names) rest can.more (after plan named w.now) (λ v h. can.onward v h) u e;
+      onward = λ u e. onward_covers plan r (pc + length names) rest can.more (spot_after plan named w.now) (λ v h. can.onward v h) u e;
       space = subst (λ ps. HasSpace w ps) (append_assoc names rests can.more) can.space;
     }
 
@@ -426,7 +426,7 @@ few_space w ps lines marks few = record {
 
 module _ (plan : Plan) (last : ℕ) (b c : Block) (t : Spot) (w0 : Work) where
   abbrev Ending : List Place
-  Ending = onward (after plan b t) [] (alone last End 0)
+  Ending = onward (spot_after plan b t) [] (alone last End 0)
 
   pub can_whole : c ≡ b → w0.lines.items ≡ [] → w0.marks.items ≡ [] → w0.now ≡ t → IsJudged plan b t → nested b ≤ 8 → AreFew (all_places plan last b t) → CanLay plan 0 c w0
   can_whole same lines marks now judged deep few =
@@ -437,7 +437,7 @@ module _ (plan : Plan) (last : ℕ) (b c : Block) (t : Spot) (w0 : Work) where
         judged = subst (λ s. IsJudged plan b s) (sym now) judged;
         deep = omega (arith, deep);
         more = Ending ++ [];
-        onward = λ u e. jump_covers plan 0 0 b [] (after plan b t) last End 0 u (ap (λ s. after plan b s) (sym now) ∙ e);
+        onward = λ u e. jump_covers plan 0 0 b [] (spot_after plan b t) last End 0 u (ap (λ s. spot_after plan b s) (sym now) ∙ e);
         space = subst (λ ps. HasSpace w0 ps) all (few_space w0 (all_places plan last b t) lines marks few);
       } in
       subst (λ x. CanLay plan 0 x w0) (sym same) can

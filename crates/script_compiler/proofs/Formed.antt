@@ -17,8 +17,8 @@ use Rattle.plan_code.specs.declared.plan.Plan.{Plan}
 use Rattle.script_front.specs.Tree.{Tree, IsHeader, IsScript}
 use Rattle.script_scheme.specs.declared.flow.Mark.{Mark}
 use Rattle.script_scheme.specs.declared.flow.Spot.{Spot}
-use Rattle.script_scheme.specs.Scheme.{Place, mark_of, marks_of, after, alone, onward, places}
-use Rattle.script_scheme.specs.Compiled.{plan_of, body_of, beginning, opening_of, places_of, lines_of, instrs_of, first_counters, Tabled, AreLabelsOf, IsAccepted}
+use Rattle.script_scheme.specs.Scheme.{Place, mark_of, marks_of, spot_after, alone, onward, places}
+use Rattle.script_scheme.specs.Compiled.{plan_of, body_of, beginning, opening_of, places_of, lines_of_places, instrs_of, first_counters, Tabled, AreLabelsOf, IsAccepted}
 use Rattle.script_compiler.specs.declared.fault.CompileFault.{CompileFault}
 use Rattle.script_compiler.specs.declared.fault.CompileFault.TheVariants.{Refused, Limit, Memory}
 use Rattle.script_compiler.specs.Longest.{longest}
@@ -117,11 +117,11 @@ module _ (s : Tree) (script : IsScript s) (accepted : IsAccepted s) where
   places_in_bounds =
       let least : 1 ≤ (plan_of s).notice = let n = script.headed.notice_from in omega (arith, n) in
       let plan = plan_of s in
-      let a = after plan (body_of s) start in
+      let a = spot_after plan (body_of s) start in
       bounded_both (places plan 0 0 (body_of s) start) (onward a [] (alone s.last_line End 0)) (places_bounded plan (body_of s) 0 0 start least accepted.judged tt)
       (bounded_alone a s.last_line End 0 (after_bounded plan (body_of s) start least accepted.judged tt))
 
-  places_in_range : Each IsLine (lines_of (places_of s)) → AllRanged (places_of s)
+  places_in_range : Each IsLine (lines_of_places (places_of s)) → AllRanged (places_of s)
   places_in_range h = all_ranged (plan_of s) s.last_line (body_of s) start script.headed.notice_to (instrs_from_lines (places_of s) h) tt
 
 -- ---- counts
@@ -145,7 +145,7 @@ module _ (s : Tree) (plan : Plan) (config : Configuration) (lines : List Line) (
   abbrev all : List Place
   all = places_of s
 
-  lines_of_all : lines ≡ lines_of all
+  lines_of_all : lines ≡ lines_of_places all
   lines_of_all = lines_are s plan config lines marks needs configs labels p
 
   labels_of_all : AreLabelsOf configs (marks_of 0 all) labels
@@ -167,7 +167,7 @@ module _ (s : Tree) (plan : Plan) (config : Configuration) (lines : List Line) (
 
   instr_there : (k : ℕ) (q : Place) → slice_get all k ≡ Some q → slice_get (instrs_of lines) k ≡ Some q.instr
   instr_there k q e =
-      ap (λ (ls : List Line). slice_get (instrs_of ls) k) lines_of_all ∙ slice_get-map (λ (l : Line). l.instr) (lines_of all) k
+      ap (λ (ls : List Line). slice_get (instrs_of ls) k) lines_of_all ∙ slice_get-map (λ (l : Line). l.instr) (lines_of_places all) k
       ∙ ap (λ x. option_map (λ (l : Line). l.instr) x) (slice_get-map (λ (x : Place). record { number = x.line; instr = x.instr }) all k ∙ ap (λ x. option_map (λ (x : Place). record { number = x.line; instr = x.instr }) x) e)
 
   label_formed : Each IsLine lines → (l : Label) → Contains labels l → IsLabel (length configs) l

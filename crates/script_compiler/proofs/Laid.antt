@@ -9,21 +9,21 @@ use Rattle.plan_code.specs.declared.plan.Plan.{Plan}
 use Rattle.script_front.specs.declared.tree.Act.{Act}
 use Rattle.script_front.specs.Block.{Block, nothing, basic, stop, when, either, repeat, forever, apply}
 use Rattle.script_scheme.specs.declared.flow.Spot.{Spot}
-use Rattle.script_scheme.specs.Scheme.{Place, known_at, moved, past, at_label, meet, join, onward, head, after, placed, alone, places, mark_of, marks_of, instr_of, falls_out}
+use Rattle.script_scheme.specs.Scheme.{Place, known_at, moved, past, at_label, meet, join, onward, head, spot_after, place_of_instr, alone, places, mark_of, marks_of, instr_of_act, falls_out}
 use Rattle.plan_verifier.specs.Typing.{IsFine}
 use Rattle.script_scheme.specs.Judged.{IsJudged, Reached, WaysAgree, BranchesAgree, ComesRound}
-use Rattle.script_scheme.specs.Compiled.{lines_of, nested}
+use Rattle.script_scheme.specs.Compiled.{lines_of_places, nested}
 use Rattle.script_compiler.specs.declared.work.Work.{Work}
-use Rattle.script_compiler.specs.Laying.{Lays, Left, Forks, ClosesIf, Turns, GoesRound, Arrives, aimed_at, line_at, way, kept}
+use Rattle.script_compiler.specs.Laying.{Lays, Left, Forks, ClosesIf, Turns, GoesRound, IsAfterBranches, aimed_at, line_of_instr, way, spots_of}
 use Rattle.script_compiler.proofs.Leading.{after_falls}
 
 -- ---- stretches
 
-pub lines_both : (ps qs : List Place) → lines_of (ps ++ qs) ≡ lines_of ps ++ lines_of qs
+pub lines_both : (ps qs : List Place) → lines_of_places (ps ++ qs) ≡ lines_of_places ps ++ lines_of_places qs
 lines_both [] qs = refl
-lines_both (p ∷ ps) qs = ap (λ xs. line_at p.line p.instr ∷ xs) (lines_both ps qs)
+lines_both (p ∷ ps) qs = ap (λ xs. line_of_instr p.line p.instr ∷ xs) (lines_both ps qs)
 
-pub length_lines : (ps : List Place) → length (lines_of ps) ≡ length ps
+pub length_lines : (ps : List Place) → length (lines_of_places ps) ≡ length ps
 length_lines [] = refl
 length_lines (p ∷ ps) = omega (arith, length_lines ps)
 
@@ -40,17 +40,17 @@ marks_both pc (p ∷ ps) qs = by p.spot.labelled (marks_both (pc + 1) ps qs ∙ 
     by false e = e
 
 pub laid_length : (a b : Work) (ps : List Place) → Lays a b ps → length b.lines.items ≡ length a.lines.items + length ps
-laid_length a b ps l = ap length l.lines ∙ length-append a.lines.items (lines_of ps) ∙ ap (λ n. length a.lines.items + n) (length_lines ps)
+laid_length a b ps l = ap length l.lines ∙ length-append a.lines.items (lines_of_places ps) ∙ ap (λ n. length a.lines.items + n) (length_lines ps)
 
 pub lays_both : (a b c : Work) (ps qs : List Place) → Lays a b ps → Lays b c qs → Lays a c (ps ++ qs)
 lays_both a b c ps qs h k = record {
-  lines = k.lines ∙ ap (λ xs. xs ++ lines_of qs) h.lines ∙ append_assoc a.lines.items (lines_of ps) (lines_of qs) ∙ ap (λ xs. a.lines.items ++ xs) (sym (lines_both ps qs));
+  lines = k.lines ∙ ap (λ xs. xs ++ lines_of_places qs) h.lines ∙ append_assoc a.lines.items (lines_of_places ps) (lines_of_places qs) ∙ ap (λ xs. a.lines.items ++ xs) (sym (lines_both ps qs));
   marks = k.marks ∙ ap (λ xs. xs ++ marks_of (length b.lines.items) qs) h.marks ∙ append_assoc a.marks.items (marks_of (length a.lines.items) ps) (marks_of (length b.lines.items) qs)
       ∙ ap (λ n. a.marks.items ++ (marks_of (length a.lines.items) ps ++ marks_of n qs)) (laid_length a b ps h) ∙ ap (λ xs. a.marks.items ++ xs) (sym (marks_both (length a.lines.items) ps qs));
   saved = k.saved ∙ h.saved;
 }
 
--- ---- one step after another
+-- ---- one step spot_after another
 
 pub left_start : (plan : Plan) (r : ℕ) (b : Block) (w : Work) → Left plan r b w w true b
 left_start plan r b w = record {
@@ -78,15 +78,15 @@ left_then plan r b c d u v w f h k = record {
 
 -- ---- statements
 
-pub left_act : (plan : Plan) (r line : ℕ) (a : Act) (rest : Block) (v w : Work) → Lays v w (alone line (instr_of a) r v.now) → w.now ≡ past (moved plan (instr_of a) v.now.flow) → IsFine plan (instr_of a) (known_at v.now.flow) → Left plan r (basic line a rest) v w true rest
+pub left_act : (plan : Plan) (r line : ℕ) (a : Act) (rest : Block) (v w : Work) → Lays v w (alone line (instr_of_act a) r v.now) → w.now ≡ past (moved plan (instr_of_act a) v.now.flow) → IsFine plan (instr_of_act a) (known_at v.now.flow) → Left plan r (basic line a rest) v w true rest
 left_act plan r line a rest v w l e fine =
     let at : length w.lines.items ≡ length v.lines.items + 1 = laid_length v w _ l in
     record {
-      laid = alone line (instr_of a) r v.now;
+      laid = alone line (instr_of_act a) r v.now;
       lays = l;
-      whole = ap (λ n. placed line (instr_of a) r v.now ∷ places plan r n rest (past (moved plan (instr_of a) v.now.flow))) (sym at)
-          ∙ ap (λ s. placed line (instr_of a) r v.now ∷ places plan r (length w.lines.items) rest s) (sym e);
-      leads = ap (λ s. after plan rest s) (sym e);
+      whole = ap (λ n. place_of_instr line (instr_of_act a) r v.now ∷ places plan r n rest (past (moved plan (instr_of_act a) v.now.flow))) (sym at)
+          ∙ ap (λ s. place_of_instr line (instr_of_act a) r v.now ∷ places plan r (length w.lines.items) rest s) (sym e);
+      leads = ap (λ s. spot_after plan rest s) (sym e);
       judged = λ j. (fine, subst (λ s. IsJudged plan rest s) e j);
       only = λ j. subst (λ s. IsJudged plan rest s) (sym e) j.1;
       repeats = λ h. h;
@@ -108,10 +108,10 @@ left_stop plan r line rest v w l = record {
 -- ---- a block that has been laid down whole
 
 pub record Whole (plan : Plan) (r pc : ℕ) (b : Block) (s : Spot) (old new : Work) (f : Bool) : Type 0 where
-  pub lines : new.lines.items ≡ old.lines.items ++ lines_of (places plan r pc b s)
+  pub lines : new.lines.items ≡ old.lines.items ++ lines_of_places (places plan r pc b s)
   pub marks : new.marks.items ≡ old.marks.items ++ marks_of pc (places plan r pc b s)
   pub saved : new.saved.items ≡ old.saved.items
-  pub leads : after plan b s ≡ way f new
+  pub leads : spot_after plan b s ≡ way f new
   pub judged : IsJudged plan b s
   pub repeats : r ≤ 8 → r + nested b ≤ 8
 
@@ -131,7 +131,7 @@ whole_here : (plan : Plan) (r : ℕ) (b : Block) (v w : Work) (f : Bool) → Lef
 whole_here plan r b v w f l =
     let e : places plan r (length v.lines.items) b v.now ≡ l.laid = l.whole ∙ ap (λ xs. l.laid ++ xs) (no_more (way f w)) ∙ append-nil l.laid in
     record {
-      lines = l.lays.lines ∙ ap (λ ps. v.lines.items ++ lines_of ps) (sym e);
+      lines = l.lays.lines ∙ ap (λ ps. v.lines.items ++ lines_of_places ps) (sym e);
       marks = l.lays.marks ∙ ap (λ ps. v.marks.items ++ marks_of (length v.lines.items) ps) (sym e);
       saved = l.lays.saved;
       leads = l.leads ∙ nothing_more (way f w);
@@ -155,28 +155,28 @@ module _ (plan : Plan) (r line : ℕ) (c : ℕ) (first rest : Block) (w0 w2 w3 w
   left_when deep fork left closing =
       let pc = length w0.lines.items in
       let close = closing w0.saved.items w0.now (left.lays.saved ∙ fork.saved) in
-      let test = line_at line (Test c 0) in
+      let test = line_of_instr line (Test c 0) in
       let pc2 : length w2.lines.items ≡ pc + 1 = ap length fork.lines ∙ length-append w0.lines.items (test ∷ []) in
       let t = past w0.now.flow in
       let h = whole_of plan r (pc + 1) first t w2 w3 f pc2 fork.now left in
       let firsts = places plan r (pc + 1) first t in
       let end = pc + 1 + length firsts in
-      let there = line_at line (Test c end) in
-      let code3 : w3.lines.items ≡ (w0.lines.items ++ test ∷ []) ++ lines_of firsts = h.lines ∙ ap (λ xs. xs ++ lines_of firsts) fork.lines in
-      let at_end : length w3.lines.items ≡ end = ap length h.lines ∙ length-append w2.lines.items (lines_of firsts) ∙ ap (λ n. n + length (lines_of firsts)) pc2 ∙ ap (λ n. pc + 1 + n) (length_lines firsts) in
-      let code : w5.lines.items ≡ w0.lines.items ++ there ∷ lines_of firsts =
-      close.lines ∙ ap (λ n. slice_set w3.lines.items pc (line_at line (Test c n))) at_end ∙ aimed w0.lines.items (lines_of firsts) test there w3.lines.items code3 in
-      let len5 : length w5.lines.items ≡ end = let n = ap length code in let m = length-append w0.lines.items (there ∷ lines_of firsts) in let k = length_lines firsts in omega (arith, n, m, k) in
-      let labels : w5.marks.items ≡ w0.marks.items ++ marks_of pc (placed line (Test c end) r w0.now ∷ firsts) =
+      let there = line_of_instr line (Test c end) in
+      let code3 : w3.lines.items ≡ (w0.lines.items ++ test ∷ []) ++ lines_of_places firsts = h.lines ∙ ap (λ xs. xs ++ lines_of_places firsts) fork.lines in
+      let at_end : length w3.lines.items ≡ end = ap length h.lines ∙ length-append w2.lines.items (lines_of_places firsts) ∙ ap (λ n. n + length (lines_of_places firsts)) pc2 ∙ ap (λ n. pc + 1 + n) (length_lines firsts) in
+      let code : w5.lines.items ≡ w0.lines.items ++ there ∷ lines_of_places firsts =
+      close.lines ∙ ap (λ n. slice_set w3.lines.items pc (line_of_instr line (Test c n))) at_end ∙ aimed w0.lines.items (lines_of_places firsts) test there w3.lines.items code3 in
+      let len5 : length w5.lines.items ≡ end = let n = ap length code in let m = length-append w0.lines.items (there ∷ lines_of_places firsts) in let k = length_lines firsts in omega (arith, n, m, k) in
+      let labels : w5.marks.items ≡ w0.marks.items ++ marks_of pc (place_of_instr line (Test c end) r w0.now ∷ firsts) =
       close.marks ∙ h.marks ∙ ap (λ xs. xs ++ marks_of (pc + 1) firsts) fork.marks ∙ append_assoc w0.marks.items (marks_of pc (alone line (Test c 0) r w0.now)) (marks_of (pc + 1) firsts)
       ∙ ap (λ xs. w0.marks.items ++ xs) (sym (marks_both pc (alone line (Test c end) r w0.now) firsts)) in
-      let met : meet (after plan first t) (Some w0.now) ≡ Some w5.now = ap (λ w. meet w (Some w0.now)) h.leads ∙ close.met in
-      let agree : WaysAgree (after plan first t) (Some w0.now) = subst (λ w. WaysAgree w (Some w0.now)) (sym h.leads) close.agree in
+      let met : meet (spot_after plan first t) (Some w0.now) ≡ Some w5.now = ap (λ w. meet w (Some w0.now)) h.leads ∙ close.met in
+      let agree : WaysAgree (spot_after plan first t) (Some w0.now) = subst (λ w. WaysAgree w (Some w0.now)) (sym h.leads) close.agree in
       record {
-        laid = placed line (Test c end) r w0.now ∷ firsts;
+        laid = place_of_instr line (Test c end) r w0.now ∷ firsts;
         lays = record { lines = code; marks = labels; saved = close.saved };
-        whole = ap (λ w. placed line (Test c end) r w0.now ∷ (firsts ++ onward w [] (λ u. places plan r end rest u))) met ∙ ap (λ n. placed line (Test c end) r w0.now ∷ (firsts ++ places plan r n rest w5.now)) (sym len5);
-        leads = ap (λ w. onward w None (λ u. after plan rest u)) met;
+        whole = ap (λ w. place_of_instr line (Test c end) r w0.now ∷ (firsts ++ onward w [] (λ u. places plan r end rest u))) met ∙ ap (λ n. place_of_instr line (Test c end) r w0.now ∷ (firsts ++ places plan r n rest w5.now)) (sym len5);
+        leads = ap (λ w. onward w None (λ u. spot_after plan rest u)) met;
         judged = λ j. (h.judged, agree, subst (λ w. Reached w rest (λ u. IsJudged plan rest u)) (sym met) j);
         only = λ j. subst (λ w. Reached w rest (λ u. IsJudged plan rest u)) met j.2;
         repeats = λ n. let k = h.repeats deep in omega (arith, n, k);
@@ -185,7 +185,7 @@ module _ (plan : Plan) (r line : ℕ) (c : ℕ) (first rest : Block) (w0 w2 w3 w
 
 -- ---- the statements with blocks, but for the first
 
-pub jump_length : (line to r : ℕ) (w : Option Spot) (f : Bool) → is_some w ≡ f → length (lines_of (onward w [] (alone line (Jump to) r))) ≡ (if f then 1 else 0)
+pub jump_length : (line to r : ℕ) (w : Option Spot) (f : Bool) → is_some w ≡ f → length (lines_of_places (onward w [] (alone line (Jump to) r))) ≡ (if f then 1 else 0)
 jump_length line to r None f e = ap (λ b. if b then 1 else 0) e
 jump_length line to r (Some u) f e = ap (λ b. if b then 1 else 0) e
 
@@ -193,14 +193,14 @@ jump_labels : (line m n r pc : ℕ) (w : Option Spot) → marks_of pc (onward w 
 jump_labels line m n r pc None = refl
 jump_labels line m n r pc (Some u) = refl
 
-jump_count : (line m n r : ℕ) (w : Option Spot) → length (onward w [] (alone line (Jump m) r)) ≡ length (lines_of (onward w [] (alone line (Jump n) r)))
+jump_count : (line m n r : ℕ) (w : Option Spot) → length (onward w [] (alone line (Jump m) r)) ≡ length (lines_of_places (onward w [] (alone line (Jump n) r)))
 jump_count line m n r None = refl
 jump_count line m n r (Some u) = refl
 
-aimed_jump : (line r jump end : ℕ) (w : Option Spot) (before ys code : List Line) → code ≡ before ++ (lines_of (onward w [] (alone line (Jump 0) r)) ++ ys) → jump ≡ length before → length code ≡ end → aimed_at w line jump code ≡ before ++ (lines_of (onward w [] (alone line (Jump end) r)) ++ ys)
+aimed_jump : (line r jump end : ℕ) (w : Option Spot) (before ys code : List Line) → code ≡ before ++ (lines_of_places (onward w [] (alone line (Jump 0) r)) ++ ys) → jump ≡ length before → length code ≡ end → aimed_at w line jump code ≡ before ++ (lines_of_places (onward w [] (alone line (Jump end) r)) ++ ys)
 aimed_jump line r jump end None before ys code e h k = e
 aimed_jump line r jump end (Some u) before ys code e h k =
-    ap (λ n. slice_set code jump (line_at line (Jump n))) k ∙ ap (λ n. slice_set code n (line_at line (Jump end))) h ∙ ap (λ z. slice_set z (length before) (line_at line (Jump end))) e ∙ set-append_seam before (line_at line (Jump 0)) ys (line_at line (Jump end))
+    ap (λ n. slice_set code jump (line_of_instr line (Jump n))) k ∙ ap (λ n. slice_set code n (line_of_instr line (Jump end))) h ∙ ap (λ z. slice_set z (length before) (line_of_instr line (Jump end))) e ∙ set-append_seam before (line_of_instr line (Jump 0)) ys (line_of_instr line (Jump end))
 
 module _ (plan : Plan) (r line : ℕ) (c : ℕ) (first second rest : Block) (w0 w2 w3 w6 w7 w8 : Work) (f1 f2 f : Bool) where
   pub left_either :
@@ -208,76 +208,76 @@ module _ (plan : Plan) (r line : ℕ) (c : ℕ) (first second rest : Block) (w0 
       Left plan r first w2 w3 f1 nothing →
       ((front : List Spot) (entry : Spot) → w3.saved.items ≡ front ++ entry ∷ [] → Turns f1 line r c (length w0.lines.items) front entry w3 w6) →
       Left plan r second w6 w7 f2 nothing →
-      ((front : List Spot) (a : Option Spot) → f1 ≡ is_some a → w7.saved.items ≡ front ++ kept a → Arrives a (way f2 w7) front line (length w3.lines.items) w7 w8 f) →
+      ((front : List Spot) (a : Option Spot) → f1 ≡ is_some a → w7.saved.items ≡ front ++ spots_of a → IsAfterBranches a (way f2 w7) front line (length w3.lines.items) w7 w8 f) →
       Left plan r (either line c first second rest) w0 w8 f rest
   left_either deep fork left turning left2 arriving =
       let pc = length w0.lines.items in
       let turn = turning w0.saved.items w0.now (left.lays.saved ∙ fork.saved) in
       let some_is : (g : Bool) → g ≡ is_some (way g w3) = λ g. elim g as (λ b. b ≡ is_some (way b w3)) [ true ↦ refl | false ↦ refl ] in
       let arr = arriving w0.saved.items (way f1 w3) (some_is f1) (left2.lays.saved ∙ turn.saved) in
-      let test = line_at line (Test c 0) in
+      let test = line_of_instr line (Test c 0) in
       let pc2 : length w2.lines.items ≡ pc + 1 = ap length fork.lines ∙ length-append w0.lines.items (test ∷ []) in
       let t = past w0.now.flow in
       let h = whole_of plan r (pc + 1) first t w2 w3 f1 pc2 fork.now left in
       let firsts = places plan r (pc + 1) first t in
-      let a = after plan first t in
+      let a = spot_after plan first t in
       let out = pc + 1 + length firsts in
       let start = out + (if falls_out first then 1 else 0) in
-      let there = line_at line (Test c start) in
+      let there = line_of_instr line (Test c start) in
       let s = at_label w0.now.flow in
       let seconds = places plan r start second s in
-      let b = after plan second s in
+      let b = spot_after plan second s in
       let end = start + length seconds in
       let jumps = onward a [] (alone line (Jump end) r) in
       let jumps0 = onward (way f1 w3) [] (alone line (Jump 0) r) in
-      let code5 = w3.lines.items ++ lines_of jumps0 in
-      let jlen : length (lines_of jumps0) ≡ (if falls_out first then 1 else 0) = jump_length line 0 r (way f1 w3) (falls_out first) (ap (λ w. is_some w) (sym h.leads) ∙ after_falls plan first t) in
-      let code3 : w3.lines.items ≡ (w0.lines.items ++ test ∷ []) ++ lines_of firsts = h.lines ∙ ap (λ xs. xs ++ lines_of firsts) fork.lines in
-      let at_out : length w3.lines.items ≡ out = ap length h.lines ∙ length-append w2.lines.items (lines_of firsts) ∙ ap (λ n. n + length (lines_of firsts)) pc2 ∙ ap (λ n. pc + 1 + n) (length_lines firsts) in
-      let at_start : length code5 ≡ start = length-append w3.lines.items (lines_of jumps0) ∙ ap (λ n. n + length (lines_of jumps0)) at_out ∙ ap (λ n. out + n) jlen in
-      let code5' : code5 ≡ (w0.lines.items ++ test ∷ []) ++ (lines_of firsts ++ lines_of jumps0) =
-      ap (λ xs. xs ++ lines_of jumps0) code3 ∙ append_assoc (w0.lines.items ++ test ∷ []) (lines_of firsts) (lines_of jumps0) in
-      let code6' : w6.lines.items ≡ w0.lines.items ++ there ∷ (lines_of firsts ++ lines_of jumps0) =
-      turn.lines ∙ ap (λ n. slice_set code5 pc (line_at line (Test c n))) at_start ∙ aimed w0.lines.items (lines_of firsts ++ lines_of jumps0) test there code5 code5' in
+      let code5 = w3.lines.items ++ lines_of_places jumps0 in
+      let jlen : length (lines_of_places jumps0) ≡ (if falls_out first then 1 else 0) = jump_length line 0 r (way f1 w3) (falls_out first) (ap (λ w. is_some w) (sym h.leads) ∙ after_falls plan first t) in
+      let code3 : w3.lines.items ≡ (w0.lines.items ++ test ∷ []) ++ lines_of_places firsts = h.lines ∙ ap (λ xs. xs ++ lines_of_places firsts) fork.lines in
+      let at_out : length w3.lines.items ≡ out = ap length h.lines ∙ length-append w2.lines.items (lines_of_places firsts) ∙ ap (λ n. n + length (lines_of_places firsts)) pc2 ∙ ap (λ n. pc + 1 + n) (length_lines firsts) in
+      let at_start : length code5 ≡ start = length-append w3.lines.items (lines_of_places jumps0) ∙ ap (λ n. n + length (lines_of_places jumps0)) at_out ∙ ap (λ n. out + n) jlen in
+      let code5' : code5 ≡ (w0.lines.items ++ test ∷ []) ++ (lines_of_places firsts ++ lines_of_places jumps0) =
+      ap (λ xs. xs ++ lines_of_places jumps0) code3 ∙ append_assoc (w0.lines.items ++ test ∷ []) (lines_of_places firsts) (lines_of_places jumps0) in
+      let code6' : w6.lines.items ≡ w0.lines.items ++ there ∷ (lines_of_places firsts ++ lines_of_places jumps0) =
+      turn.lines ∙ ap (λ n. slice_set code5 pc (line_of_instr line (Test c n))) at_start ∙ aimed w0.lines.items (lines_of_places firsts ++ lines_of_places jumps0) test there code5 code5' in
       let len6 : length w6.lines.items ≡ start =
-      let n = ap length code6' in let m = length-append w0.lines.items (there ∷ (lines_of firsts ++ lines_of jumps0)) in let k = length-append (lines_of firsts) (lines_of jumps0) in let q = length_lines firsts in omega (arith, n, m, k, q, jlen) in
+      let n = ap length code6' in let m = length-append w0.lines.items (there ∷ (lines_of_places firsts ++ lines_of_places jumps0)) in let k = length-append (lines_of_places firsts) (lines_of_places jumps0) in let q = length_lines firsts in omega (arith, n, m, k, q, jlen) in
       let h2 = whole_of plan r start second s w6 w7 f2 len6 turn.now left2 in
-      let before = w0.lines.items ++ there ∷ lines_of firsts in
-      let at_jump : length w3.lines.items ≡ length before = let n = length-append w0.lines.items (there ∷ lines_of firsts) in let q = length_lines firsts in omega (arith, n, q, at_out) in
-      let code7 : w7.lines.items ≡ before ++ (lines_of jumps0 ++ lines_of seconds) =
-      h2.lines ∙ ap (λ xs. xs ++ lines_of seconds) (code6' ∙ sym (append_assoc w0.lines.items (there ∷ lines_of firsts) (lines_of jumps0))) ∙ append_assoc before (lines_of jumps0) (lines_of seconds) in
-      let len7 : length w7.lines.items ≡ end = ap length h2.lines ∙ length-append w6.lines.items (lines_of seconds) ∙ ap (λ n. n + length (lines_of seconds)) len6 ∙ ap (λ n. start + n) (length_lines seconds) in
+      let before = w0.lines.items ++ there ∷ lines_of_places firsts in
+      let at_jump : length w3.lines.items ≡ length before = let n = length-append w0.lines.items (there ∷ lines_of_places firsts) in let q = length_lines firsts in omega (arith, n, q, at_out) in
+      let code7 : w7.lines.items ≡ before ++ (lines_of_places jumps0 ++ lines_of_places seconds) =
+      h2.lines ∙ ap (λ xs. xs ++ lines_of_places seconds) (code6' ∙ sym (append_assoc w0.lines.items (there ∷ lines_of_places firsts) (lines_of_places jumps0))) ∙ append_assoc before (lines_of_places jumps0) (lines_of_places seconds) in
+      let len7 : length w7.lines.items ≡ end = ap length h2.lines ∙ length-append w6.lines.items (lines_of_places seconds) ∙ ap (λ n. n + length (lines_of_places seconds)) len6 ∙ ap (λ n. start + n) (length_lines seconds) in
       let more = jumps ++ seconds in
-      let jumps_more : lines_of more ≡ lines_of (onward (way f1 w3) [] (alone line (Jump end) r)) ++ lines_of seconds = lines_both jumps seconds ∙ ap (λ w. lines_of (onward w [] (alone line (Jump end) r)) ++ lines_of seconds) h.leads in
-      let code : w8.lines.items ≡ w0.lines.items ++ there ∷ lines_of (firsts ++ more) =
-      arr.lines ∙ aimed_jump line r (length w3.lines.items) end (way f1 w3) before (lines_of seconds) w7.lines.items code7 at_jump len7
-      ∙ ap (λ xs. before ++ xs) (sym jumps_more) ∙ append_assoc w0.lines.items (there ∷ lines_of firsts) (lines_of more) ∙ ap (λ xs. w0.lines.items ++ there ∷ xs) (sym (lines_both firsts more)) in
+      let jumps_more : lines_of_places more ≡ lines_of_places (onward (way f1 w3) [] (alone line (Jump end) r)) ++ lines_of_places seconds = lines_both jumps seconds ∙ ap (λ w. lines_of_places (onward w [] (alone line (Jump end) r)) ++ lines_of_places seconds) h.leads in
+      let code : w8.lines.items ≡ w0.lines.items ++ there ∷ lines_of_places (firsts ++ more) =
+      arr.lines ∙ aimed_jump line r (length w3.lines.items) end (way f1 w3) before (lines_of_places seconds) w7.lines.items code7 at_jump len7
+      ∙ ap (λ xs. before ++ xs) (sym jumps_more) ∙ append_assoc w0.lines.items (there ∷ lines_of_places firsts) (lines_of_places more) ∙ ap (λ xs. w0.lines.items ++ there ∷ xs) (sym (lines_both firsts more)) in
       let joff : marks_of out jumps ≡ marks_of (length w3.lines.items) jumps0 =
       ap (λ w. marks_of out (onward w [] (alone line (Jump end) r))) h.leads ∙ jump_labels line end 0 r out (way f1 w3) ∙ ap (λ n. marks_of n jumps0) (sym at_out) in
       let jcount : length jumps ≡ (if falls_out first then 1 else 0) = ap (λ w. length (onward w [] (alone line (Jump end) r))) h.leads ∙ jump_count line end 0 r (way f1 w3) ∙ jlen in
       let lab_more : marks_of out more ≡ marks_of (length w3.lines.items) jumps0 ++ marks_of start seconds =
       marks_both out jumps seconds ∙ ap (λ xs. xs ++ marks_of (out + length jumps) seconds) joff ∙ ap (λ n. marks_of (length w3.lines.items) jumps0 ++ marks_of (out + n) seconds) jcount in
-      let lab_all : marks_of pc (placed line (Test c start) r w0.now ∷ (firsts ++ more)) ≡ marks_of pc (alone line (Test c 0) r w0.now) ++ (marks_of (pc + 1) firsts ++ (marks_of (length w3.lines.items) jumps0 ++ marks_of start seconds)) =
+      let lab_all : marks_of pc (place_of_instr line (Test c start) r w0.now ∷ (firsts ++ more)) ≡ marks_of pc (alone line (Test c 0) r w0.now) ++ (marks_of (pc + 1) firsts ++ (marks_of (length w3.lines.items) jumps0 ++ marks_of start seconds)) =
       marks_both pc (alone line (Test c start) r w0.now) (firsts ++ more) ∙ ap (λ xs. marks_of pc (alone line (Test c 0) r w0.now) ++ xs) (marks_both (pc + 1) firsts more ∙ ap (λ xs. marks_of (pc + 1) firsts ++ xs) lab_more) in
       let l0 = marks_of pc (alone line (Test c 0) r w0.now) in
       let l1 = marks_of (pc + 1) firsts in
       let l2 = marks_of (length w3.lines.items) jumps0 in
       let l3 = marks_of start seconds in
       let labels3 : w3.marks.items ≡ (w0.marks.items ++ l0) ++ l1 = h.marks ∙ ap (λ xs. xs ++ l1) fork.marks in
-      let labels : w8.marks.items ≡ w0.marks.items ++ marks_of pc (placed line (Test c start) r w0.now ∷ (firsts ++ more)) =
+      let labels : w8.marks.items ≡ w0.marks.items ++ marks_of pc (place_of_instr line (Test c start) r w0.now ∷ (firsts ++ more)) =
       arr.marks ∙ h2.marks ∙ ap (λ xs. xs ++ l3) (turn.marks ∙ ap (λ xs. xs ++ l2) labels3)
       ∙ append_assoc ((w0.marks.items ++ l0) ++ l1) l2 l3 ∙ append_assoc (w0.marks.items ++ l0) l1 (l2 ++ l3) ∙ append_assoc w0.marks.items l0 (l1 ++ (l2 ++ l3)) ∙ ap (λ xs. w0.marks.items ++ xs) (sym lab_all) in
       let joins : join a b ≡ way f w8 = ap (λ w. join w b) h.leads ∙ ap (λ w. join (way f1 w3) w) h2.leads ∙ sym arr.leads in
       let agree : BranchesAgree a b = subst (λ w. BranchesAgree w b) (sym h.leads) (subst (λ w. BranchesAgree (way f1 w3) w) (sym h2.leads) arr.agree) in
       let len8 : length w8.lines.items ≡ end =
-      let n = ap length code in let m = length-append w0.lines.items (there ∷ lines_of (firsts ++ more)) in let k = length_lines (firsts ++ more) in let q = length-append firsts more in let z = length-append jumps seconds in omega (arith, n, m, k, q, z, jcount) in
+      let n = ap length code in let m = length-append w0.lines.items (there ∷ lines_of_places (firsts ++ more)) in let k = length_lines (firsts ++ more) in let q = length-append firsts more in let z = length-append jumps seconds in omega (arith, n, m, k, q, z, jcount) in
       let rests = onward (way f w8) [] (λ u. places plan r (length w8.lines.items) rest u) in
       let at_rests : onward (join a b) [] (λ u. places plan r end rest u) ≡ rests = ap (λ w. onward w [] (λ u. places plan r end rest u)) joins ∙ ap (λ n. onward (way f w8) [] (λ u. places plan r n rest u)) (sym len8) in
       record {
-        laid = placed line (Test c start) r w0.now ∷ (firsts ++ more);
+        laid = place_of_instr line (Test c start) r w0.now ∷ (firsts ++ more);
         lays = record { lines = code; marks = labels; saved = arr.saved };
-        whole = ap (λ xs. placed line (Test c start) r w0.now ∷ (firsts ++ (jumps ++ (seconds ++ xs)))) at_rests ∙ ap (λ xs. placed line (Test c start) r w0.now ∷ (firsts ++ xs)) (sym (append_assoc jumps seconds rests)) ∙ ap (λ xs. placed line (Test c start) r w0.now ∷ xs) (sym (append_assoc firsts more rests));
-        leads = ap (λ w. onward w None (λ u. after plan rest u)) joins;
+        whole = ap (λ xs. place_of_instr line (Test c start) r w0.now ∷ (firsts ++ (jumps ++ (seconds ++ xs)))) at_rests ∙ ap (λ xs. place_of_instr line (Test c start) r w0.now ∷ (firsts ++ xs)) (sym (append_assoc jumps seconds rests)) ∙ ap (λ xs. place_of_instr line (Test c start) r w0.now ∷ xs) (sym (append_assoc firsts more rests));
+        leads = ap (λ w. onward w None (λ u. spot_after plan rest u)) joins;
         judged = λ j. (h.judged, h2.judged, agree, subst (λ w. Reached w rest (λ u. IsJudged plan rest u)) (sym joins) j);
         only = λ j. subst (λ w. Reached w rest (λ u. IsJudged plan rest u)) joins j.3;
         repeats = λ n. let k = h.repeats deep in let k2 = h2.repeats deep in omega (arith, n, k, k2);
@@ -287,12 +287,12 @@ module _ (plan : Plan) (r line : ℕ) (c : ℕ) (first second rest : Block) (w0 
 -- ---- loops
 
 loop_whole : (plan : Plan) (line : ℕ) (i : Instr) (q r end : ℕ) (rest : Block) (f : Bool) (v w : Work) → w.now ≡ (if f then past v.now.flow else v.now) → length w.lines.items ≡ end + length (onward (way f v) [] (alone line i q)) →
-    onward (way f v) [] (λ u. placed line i q u ∷ places plan r (end + 1) rest (past u.flow)) ≡ onward (way f v) [] (alone line i q) ++ onward (way f w) [] (λ u. places plan r (length w.lines.items) rest u)
-loop_whole plan line i q r end rest true v w e h = ap (λ n. placed line i q v.now ∷ places plan r n rest (past v.now.flow)) (sym h) ∙ ap (λ s. placed line i q v.now ∷ places plan r (length w.lines.items) rest s) (sym e)
+    onward (way f v) [] (λ u. place_of_instr line i q u ∷ places plan r (end + 1) rest (past u.flow)) ≡ onward (way f v) [] (alone line i q) ++ onward (way f w) [] (λ u. places plan r (length w.lines.items) rest u)
+loop_whole plan line i q r end rest true v w e h = ap (λ n. place_of_instr line i q v.now ∷ places plan r n rest (past v.now.flow)) (sym h) ∙ ap (λ s. place_of_instr line i q v.now ∷ places plan r (length w.lines.items) rest s) (sym e)
 loop_whole plan line i q r end rest false v w e h = refl
 
-loop_leads : (plan : Plan) (rest : Block) (f : Bool) (v w : Work) → w.now ≡ (if f then past v.now.flow else v.now) → onward (way f v) None (λ u. after plan rest (past u.flow)) ≡ onward (way f w) None (λ u. after plan rest u)
-loop_leads plan rest true v w e = ap (λ s. after plan rest s) (sym e)
+loop_leads : (plan : Plan) (rest : Block) (f : Bool) (v w : Work) → w.now ≡ (if f then past v.now.flow else v.now) → onward (way f v) None (λ u. spot_after plan rest (past u.flow)) ≡ onward (way f w) None (λ u. spot_after plan rest u)
+loop_leads plan rest true v w e = ap (λ s. spot_after plan rest s) (sym e)
 loop_leads plan rest false v w e = refl
 
 loop_reached : (plan : Plan) (rest : Block) (f : Bool) (v w : Work) → w.now ≡ (if f then past v.now.flow else v.now) → Reached (way f w) rest (λ u. IsJudged plan rest u) → Reached (way f v) rest (λ u. IsJudged plan rest (past u.flow))
@@ -319,12 +319,12 @@ module _ (plan : Plan) (r line n : ℕ) (body rest : Block) (w0 w1 w2 w3 w4 : Wo
       let bodies = places plan (r + 1) (pc + 1) body start in
       let end = pc + 1 + length bodies in
       let i = Loop r (pc + 1) in
-      let a = after plan body start in
+      let a = spot_after plan body start in
       let back = onward a [] (alone line i (r + 1)) in
-      let at_end : length w3.lines.items ≡ end = ap length h.lines ∙ length-append w2.lines.items (lines_of bodies) ∙ ap (λ m. m + length (lines_of bodies)) (ap length code2 ∙ pc1) ∙ ap (λ m. pc + 1 + m) (length_lines bodies) in
+      let at_end : length w3.lines.items ≡ end = ap length h.lines ∙ length-append w2.lines.items (lines_of_places bodies) ∙ ap (λ m. m + length (lines_of_places bodies)) (ap length code2 ∙ pc1) ∙ ap (λ m. pc + 1 + m) (length_lines bodies) in
       let back_is : onward (way f w3) [] (alone line (Loop r (length w1.lines.items)) (r + 1)) ≡ back = ap (λ m. onward (way f w3) [] (alone line (Loop r m) (r + 1))) pc1 ∙ ap (λ w. onward w [] (alone line i (r + 1))) (sym h.leads) in
       let piece : Lays w1 w4 (bodies ++ back) = record {
-        lines = g.lines ∙ ap (λ ps. w3.lines.items ++ lines_of ps) back_is ∙ ap (λ xs. xs ++ lines_of back) (h.lines ∙ ap (λ xs. xs ++ lines_of bodies) code2) ∙ append_assoc w1.lines.items (lines_of bodies) (lines_of back) ∙ ap (λ xs. w1.lines.items ++ xs) (sym (lines_both bodies back));
+        lines = g.lines ∙ ap (λ ps. w3.lines.items ++ lines_of_places ps) back_is ∙ ap (λ xs. xs ++ lines_of_places back) (h.lines ∙ ap (λ xs. xs ++ lines_of_places bodies) code2) ∙ append_assoc w1.lines.items (lines_of_places bodies) (lines_of_places back) ∙ ap (λ xs. w1.lines.items ++ xs) (sym (lines_both bodies back));
         marks = g.marks ∙ ap (λ ps. w3.marks.items ++ marks_of (length w3.lines.items) ps) back_is ∙ ap (λ m. w3.marks.items ++ marks_of m back) at_end ∙ ap (λ xs. xs ++ marks_of end back) (h.marks ∙ ap (λ xs. xs ++ marks_of (pc + 1) bodies) labels2)
             ∙ append_assoc w1.marks.items (marks_of (pc + 1) bodies) (marks_of end back) ∙ ap (λ xs. w1.marks.items ++ xs) (sym (marks_both (pc + 1) bodies back)) ∙ ap (λ m. w1.marks.items ++ marks_of m (bodies ++ back)) (sym pc1);
         saved = g.saved;
@@ -333,14 +333,14 @@ module _ (plan : Plan) (r line n : ℕ) (body rest : Block) (w0 w1 w2 w3 w4 : Wo
       let len4 : length w4.lines.items ≡ end + length (onward (way f w3) [] (alone line i (r + 1))) =
       laid_length w1 w4 (bodies ++ back) piece ∙ ap (λ m. m + length (bodies ++ back)) pc1 ∙ ap (λ m. pc + 1 + m) (length-append bodies back) ∙ sym (add_assoc (pc + 1) (length bodies) (length back)) ∙ ap (λ w. end + length (onward w [] (alone line i (r + 1)))) h.leads in
       let rests = onward (way f w4) [] (λ u. places plan r (length w4.lines.items) rest u) in
-      let whole : onward a [] (λ u. placed line i (r + 1) u ∷ places plan r (end + 1) rest (past u.flow)) ≡ back ++ rests =
-      ap (λ w. onward w [] (λ u. placed line i (r + 1) u ∷ places plan r (end + 1) rest (past u.flow))) h.leads ∙ loop_whole plan line i (r + 1) r end rest f w3 w4 g.now len4 ∙ ap (λ w. onward w [] (alone line i (r + 1)) ++ rests) (sym h.leads) in
+      let whole : onward a [] (λ u. place_of_instr line i (r + 1) u ∷ places plan r (end + 1) rest (past u.flow)) ≡ back ++ rests =
+      ap (λ w. onward w [] (λ u. place_of_instr line i (r + 1) u ∷ places plan r (end + 1) rest (past u.flow))) h.leads ∙ loop_whole plan line i (r + 1) r end rest f w3 w4 g.now len4 ∙ ap (λ w. onward w [] (alone line i (r + 1)) ++ rests) (sym h.leads) in
       let round : ComesRound a start = subst (λ w. ComesRound w start) (sym h.leads) (subst (λ s. ComesRound (way f w3) s) now2' g.round) in
       record {
-        laid = placed line (Set r n) r w0.now ∷ (bodies ++ back);
+        laid = place_of_instr line (Set r n) r w0.now ∷ (bodies ++ back);
         lays = lays;
-        whole = ap (λ xs. placed line (Set r n) r w0.now ∷ (bodies ++ xs)) whole ∙ ap (λ xs. placed line (Set r n) r w0.now ∷ xs) (sym (append_assoc bodies back rests));
-        leads = ap (λ w. onward w None (λ u. after plan rest (past u.flow))) h.leads ∙ loop_leads plan rest f w3 w4 g.now;
+        whole = ap (λ xs. place_of_instr line (Set r n) r w0.now ∷ (bodies ++ xs)) whole ∙ ap (λ xs. place_of_instr line (Set r n) r w0.now ∷ xs) (sym (append_assoc bodies back rests));
+        leads = ap (λ w. onward w None (λ u. spot_after plan rest (past u.flow))) h.leads ∙ loop_leads plan rest f w3 w4 g.now;
         judged = λ j. (h.judged, round, subst (λ w. Reached w rest (λ u. IsJudged plan rest (past u.flow))) (sym h.leads) (loop_reached plan rest f w3 w4 g.now j));
         only = λ j. loop_reached_back plan rest f w3 w4 g.now (subst (λ w. Reached w rest (λ u. IsJudged plan rest (past u.flow))) h.leads j.2);
         repeats = λ m. let k = h.repeats deep in omega (arith, m, k);
@@ -360,15 +360,15 @@ module _ (plan : Plan) (r line : ℕ) (body rest : Block) (w0 w2 w3 w4 : Work) (
       let bodies = places plan r pc body start in
       let end = pc + length bodies in
       let i = Jump pc in
-      let a = after plan body start in
+      let a = spot_after plan body start in
       let back = onward a [] (alone line i r) in
-      let at_end : length w3.lines.items ≡ end = ap length h.lines ∙ length-append w2.lines.items (lines_of bodies) ∙ ap (λ m. m + length (lines_of bodies)) (ap length code2) ∙ ap (λ m. pc + m) (length_lines bodies) in
+      let at_end : length w3.lines.items ≡ end = ap length h.lines ∙ length-append w2.lines.items (lines_of_places bodies) ∙ ap (λ m. m + length (lines_of_places bodies)) (ap length code2) ∙ ap (λ m. pc + m) (length_lines bodies) in
       let back_is : onward (way f w3) [] (alone line i r) ≡ back = ap (λ w. onward w [] (alone line i r)) (sym h.leads) in
       let round : ComesRound a start = subst (λ w. ComesRound w start) (sym h.leads) (subst (λ s. ComesRound (way f w3) s) now2 g.round) in
       record {
         laid = bodies ++ back;
         lays = record {
-          lines = g.lines ∙ ap (λ ps. w3.lines.items ++ lines_of ps) back_is ∙ ap (λ xs. xs ++ lines_of back) (h.lines ∙ ap (λ xs. xs ++ lines_of bodies) code2) ∙ append_assoc w0.lines.items (lines_of bodies) (lines_of back) ∙ ap (λ xs. w0.lines.items ++ xs) (sym (lines_both bodies back));
+          lines = g.lines ∙ ap (λ ps. w3.lines.items ++ lines_of_places ps) back_is ∙ ap (λ xs. xs ++ lines_of_places back) (h.lines ∙ ap (λ xs. xs ++ lines_of_places bodies) code2) ∙ append_assoc w0.lines.items (lines_of_places bodies) (lines_of_places back) ∙ ap (λ xs. w0.lines.items ++ xs) (sym (lines_both bodies back));
           marks = g.marks ∙ ap (λ ps. w3.marks.items ++ marks_of (length w3.lines.items) ps) back_is ∙ ap (λ m. w3.marks.items ++ marks_of m back) at_end ∙ ap (λ xs. xs ++ marks_of end back) (h.marks ∙ ap (λ xs. xs ++ marks_of pc bodies) labels2)
               ∙ append_assoc w0.marks.items (marks_of pc bodies) (marks_of end back) ∙ ap (λ xs. w0.marks.items ++ xs) (sym (marks_both pc bodies back));
           saved = g.saved;
@@ -392,7 +392,7 @@ left_apply plan r line number named rest v w f deep left =
       laid = names;
       lays = lays;
       whole = ap (λ x. names ++ onward x [] (λ u. places plan r (pc + length names) rest u)) h.leads ∙ ap (λ m. names ++ onward (way f w) [] (λ u. places plan r m rest u)) (sym len);
-      leads = ap (λ x. onward x None (λ u. after plan rest u)) h.leads;
+      leads = ap (λ x. onward x None (λ u. spot_after plan rest u)) h.leads;
       judged = λ j. (h.judged, subst (λ x. Reached x rest (λ u. IsJudged plan rest u)) (sym h.leads) j);
       only = λ j. subst (λ x. Reached x rest (λ u. IsJudged plan rest u)) h.leads j.1;
       repeats = λ m. let k = h.repeats deep in omega (arith, m, k);

@@ -12,8 +12,8 @@ use Rattle.script_front.specs.Tree.{Tree}
 use Rattle.script_scheme.specs.declared.flow.Mark.{Mark}
 use Rattle.script_scheme.specs.Scheme.{all_places, marks_of}
 use Rattle.script_scheme.specs.Judged.{IsJudged}
-use Rattle.script_scheme.specs.Need.{IsWithin}
-use Rattle.script_scheme.specs.Compiled.{plan_of, body_of, beginning, opening_of, places_of, lines_of, instrs_of, nested, AreFine, Tabled, AreLabelsOf, IsCodeOf, CostsItsNeeds, IsAccepted}
+use Rattle.script_scheme.specs.Need.{IsWithinBudget}
+use Rattle.script_scheme.specs.Compiled.{plan_of, body_of, beginning, opening_of, places_of, lines_of_places, instrs_of, nested, AreFine, Tabled, AreLabelsOf, IsCodeOf, CostsItsNeeds, IsAccepted}
 use Rattle.script_compiler.specs.Space.{AreFew}
 use Rattle.script_compiler.specs.Longest.{longest, Priced}
 use Rattle.script_compiler.proofs.Deep.{accepted_room}
@@ -25,7 +25,7 @@ use Rattle.script_compiler.proofs.Tabling.{costs_needs}
 pub record Parts (s : Tree) (plan : Plan) (config : Configuration) (lines : List Line) (marks : List Mark) (needs : List ℕ) (configs : List Configuration) (labels : List Label) : Type 0 where
   pub plan_is : plan ≡ plan_of s
   pub config_is : config ≡ opening_of s
-  pub laid : lines ≡ lines_of (all_places plan s.last_line (body_of s) (beginning config))
+  pub laid : lines ≡ lines_of_places (all_places plan s.last_line (body_of s) (beginning config))
   pub marked : marks ≡ marks_of 0 (all_places plan s.last_line (body_of s) (beginning config))
   pub each : (pc : ℕ) → slice_index needs pc ≡ longest (instrs_of lines) (plan.budget + 1) pc
   pub within : (pc : ℕ) → slice_index needs pc ≤ plan.budget
@@ -40,8 +40,8 @@ module _ (s : Tree) (plan : Plan) (config : Configuration) (lines : List Line) (
   pub places_are : all_places plan s.last_line (body_of s) (beginning config) ≡ places_of s
   places_are = ap (λ (q : Plan). all_places q s.last_line (body_of s) (beginning config)) p.plan_is ∙ ap (λ x. all_places (plan_of s) s.last_line (body_of s) (beginning x)) p.config_is
 
-  pub lines_are : lines ≡ lines_of (places_of s)
-  lines_are = p.laid ∙ ap lines_of places_are
+  pub lines_are : lines ≡ lines_of_places (places_of s)
+  lines_are = p.laid ∙ ap lines_of_places places_are
 
   pub parts_code : IsCodeOf s (code_from plan configs labels lines)
   parts_code = is_code_of s plan configs labels lines marks p.plan_is lines_are (p.marked ∙ ap (λ ps. marks_of 0 ps) places_are) p.tabled p.labelled
@@ -49,10 +49,10 @@ module _ (s : Tree) (plan : Plan) (config : Configuration) (lines : List Line) (
   pub parts_cost : CostsItsNeeds (code_from plan configs labels lines)
   parts_cost = costs_needs (code_from plan configs labels lines) lines labels needs plan.budget refl refl p.each p.within p.priced
 
-  pub parts_within : IsWithin s.header.budget (instrs_of (lines_of (places_of s)))
+  pub parts_within : IsWithinBudget s.header.budget (instrs_of (lines_of_places (places_of s)))
   parts_within =
-      let all : IsWithin plan.budget (instrs_of lines) = within_from (instrs_of lines) plan.budget (λ pc. let h = p.within pc in let e = p.each pc in omega (arith, h, e)) in
-      subst (λ b. IsWithin b (instrs_of (lines_of (places_of s)))) (ap (λ (q : Plan). q.budget) p.plan_is) (subst (λ (ls : List Line). IsWithin plan.budget (instrs_of ls)) lines_are all)
+      let all : IsWithinBudget plan.budget (instrs_of lines) = within_from (instrs_of lines) plan.budget (λ pc. let h = p.within pc in let e = p.each pc in omega (arith, h, e)) in
+      subst (λ b. IsWithinBudget b (instrs_of (lines_of_places (places_of s)))) (ap (λ (q : Plan). q.budget) p.plan_is) (subst (λ (ls : List Line). IsWithinBudget plan.budget (instrs_of ls)) lines_are all)
 
   -- where they are a code, the script is accepted
   pub parts_accepted :

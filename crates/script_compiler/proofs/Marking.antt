@@ -10,7 +10,7 @@ use Rattle.script_scheme.specs.Compiled.{Added, Tabled, AreLabelsOf}
 use Rattle.script_compiler.specs.declared.fault.CompileFault.{CompileFault}
 use Rattle.script_compiler.specs.declared.short.ShortMark.{ShortMark}
 use Rattle.script_compiler.specs.Longest.{Priced}
-use Rattle.script_compiler.specs.Marked.{configuration_at, mark_in, label_at, AreWithin, AreShallow}
+use Rattle.script_compiler.specs.Marked.{configuration_at, mark_in, label_of_mark, AreInTable, AreShallow}
 use Rattle.script_compiler.specs.Room.{IsDeepAtMost}
 
 -- ---- configurations by their places
@@ -39,38 +39,38 @@ mark_as m a b c d e f =
     ap (λ (z : Configuration). let x : Mark = record { pc = m.pc; flow = record { current = z; next = b; pending = m.pending }; repeats = m.repeats } in x) e
     ∙ ap (λ (z : Configuration). let x : Mark = record { pc = m.pc; flow = record { current = c; next = z; pending = m.pending }; repeats = m.repeats } in x) f
 
-pub marks_more : (table more : List Configuration) (ms : List ShortMark) → AreWithin (length table) ms → map (mark_in (table ++ more)) ms ≡ map (mark_in table) ms
+pub marks_more : (table more : List Configuration) (ms : List ShortMark) → AreInTable (length table) ms → map (mark_in (table ++ more)) ms ≡ map (mark_in table) ms
 marks_more table more [] h = refl
 marks_more table more (m ∷ ms) h =
     let one : mark_in (table ++ more) m ≡ mark_in table m = mark_as m _ _ _ _ (at_more table more m.cur h.0) (at_more table more m.next h.1) in
     let rest = marks_more table more ms h.2 in
     ap (λ (x : Mark). x ∷ map (mark_in (table ++ more)) ms) one ∙ ap (λ (xs : List Mark). mark_in table m ∷ xs) rest
 
-pub within_more : (n k : ℕ) (ms : List ShortMark) → n ≤ k → AreWithin n ms → AreWithin k ms
+pub within_more : (n k : ℕ) (ms : List ShortMark) → n ≤ k → AreInTable n ms → AreInTable k ms
 within_more n k [] le h = tt
 within_more n k (m ∷ ms) le h = (let a = h.0 in omega (arith, a, le), let b = h.1 in omega (arith, b, le), within_more n k ms le h.2)
 
-pub within_push : (n : ℕ) (ms : List ShortMark) (m : ShortMark) → m.cur < n → m.next < n → AreWithin n ms → AreWithin n (ms ++ m ∷ [])
+pub within_push : (n : ℕ) (ms : List ShortMark) (m : ShortMark) → m.cur < n → m.next < n → AreInTable n ms → AreInTable n (ms ++ m ∷ [])
 within_push n [] m cur next h = (cur, next, tt)
 within_push n (x ∷ ms) m cur next h = (h.0, h.1, within_push n ms m cur next h.2)
 
-pub added_marks : (c : Configuration) (table new : List Configuration) (ms : List ShortMark) → Added c table new → AreWithin (length table) ms → map (mark_in new) ms ≡ map (mark_in table) ms
+pub added_marks : (c : Configuration) (table new : List Configuration) (ms : List ShortMark) → Added c table new → AreInTable (length table) ms → map (mark_in new) ms ≡ map (mark_in table) ms
 added_marks c table new ms (inl old) h = ap (λ (t : List Configuration). map (mark_in t) ms) old.1
 added_marks c table new ms (inr fresh) h = ap (λ (t : List Configuration). map (mark_in t) ms) fresh.1 ∙ marks_more table (c ∷ []) ms h
 
-pub added_within : (c : Configuration) (table new : List Configuration) (ms : List ShortMark) → Added c table new → AreWithin (length table) ms → AreWithin (length new) ms
-added_within c table new ms (inl old) h = subst (λ (t : List Configuration). AreWithin (length t) ms) (sym old.1) h
+pub added_within : (c : Configuration) (table new : List Configuration) (ms : List ShortMark) → Added c table new → AreInTable (length table) ms → AreInTable (length new) ms
+added_within c table new ms (inl old) h = subst (λ (t : List Configuration). AreInTable (length t) ms) (sym old.1) h
 added_within c table new ms (inr fresh) h =
     let e = ap length fresh.1 ∙ length-append table (c ∷ []) in within_more (length table) (length new) ms (omega (arith, e)) h
 
 -- whether it is added or refused
-pub kept_marks : (x : Result ℕ CompileFault) (c : Configuration) (table new : List Configuration) (ms : List ShortMark) → OnOk x (Added c table new) → IfErr x (λ _. new ≡ table) → AreWithin (length table) ms → map (mark_in new) ms ≡ map (mark_in table) ms
+pub kept_marks : (x : Result ℕ CompileFault) (c : Configuration) (table new : List Configuration) (ms : List ShortMark) → OnOk x (Added c table new) → IfErr x (λ _. new ≡ table) → AreInTable (length table) ms → map (mark_in new) ms ≡ map (mark_in table) ms
 kept_marks (Ok i) c table new ms added kept h = added_marks c table new ms added h
 kept_marks (Err e) c table new ms added kept h = ap (λ (t : List Configuration). map (mark_in t) ms) kept
 
-pub kept_within : (x : Result ℕ CompileFault) (c : Configuration) (table new : List Configuration) (ms : List ShortMark) → OnOk x (Added c table new) → IfErr x (λ _. new ≡ table) → AreWithin (length table) ms → AreWithin (length new) ms
+pub kept_within : (x : Result ℕ CompileFault) (c : Configuration) (table new : List Configuration) (ms : List ShortMark) → OnOk x (Added c table new) → IfErr x (λ _. new ≡ table) → AreInTable (length table) ms → AreInTable (length new) ms
 kept_within (Ok i) c table new ms added kept h = added_within c table new ms added h
-kept_within (Err e) c table new ms added kept h = subst (λ (t : List Configuration). AreWithin (length t) ms) (sym kept) h
+kept_within (Err e) c table new ms added kept h = subst (λ (t : List Configuration). AreInTable (length t) ms) (sym kept) h
 
 -- ---- a mark of two configurations that stand in the table
 
@@ -98,18 +98,18 @@ tabled_more table one both (x ∷ ms) m start t a b = (t.0, t.1, t.2, t.3, table
 
 -- ---- the labels that stand at marks
 
-pub labels_at : (table : List Configuration) (needs : List ℕ) (ms : List ShortMark) → AreWithin (length table) ms → AreLabelsOf table (map (mark_in table) ms) (map (label_at needs) ms)
+pub labels_at : (table : List Configuration) (needs : List ℕ) (ms : List ShortMark) → AreInTable (length table) ms → AreLabelsOf table (map (mark_in table) ms) (map (label_of_mark needs) ms)
 labels_at table needs [] h = refl
 labels_at table needs (m ∷ ms) h = (
   record { place = refl; current = at_within table m.cur h.0; following = at_within table m.next h.1; pending = refl; counters = refl },
   labels_at table needs ms h.2,
 )
 
-pub priced_at : (needs : List ℕ) (ms : List ShortMark) → Priced needs (map (label_at needs) ms)
+pub priced_at : (needs : List ℕ) (ms : List ShortMark) → Priced needs (map (label_of_mark needs) ms)
 priced_at needs [] = λ l has. absurd (omega (arith, has.1))
 priced_at needs (m ∷ ms) = λ l has. by (priced_at needs ms) l has.0 has.1 has.2
   where
-    by : Priced needs (map (label_at needs) ms) → (l : Label) (i : ℕ) → i < length (map (label_at needs) (m ∷ ms)) → get_or (map (label_at needs) (m ∷ ms)) i l ≡ l → l.cost ≡ slice_index needs l.pc
+    by : Priced needs (map (label_of_mark needs) ms) → (l : Label) (i : ℕ) → i < length (map (label_of_mark needs) (m ∷ ms)) → get_or (map (label_of_mark needs) (m ∷ ms)) i l ≡ l → l.cost ≡ slice_index needs l.pc
     by ih l zero lt e = subst (λ (y : Label). y.cost ≡ slice_index needs y.pc) e refl
     by ih l (suc i) lt e = ih l (i, omega (arith, lt), e)
 

@@ -6,7 +6,7 @@ use Rattle.std.proofs.lemmas.Option.{slice_get_past}
 use Rattle.std.proofs.lemmas.List.{get_or_past, get_or_push, get_or_append_left}
 use Rattle.plan_code.specs.declared.instr.Instr.{Instr}
 use Rattle.plan_verifier.specs.Typing.{continues, target_of}
-use Rattle.script_scheme.specs.Need.{suspends, GoesTo, HasPath, IsWithin, IsNeed}
+use Rattle.script_scheme.specs.Need.{suspends, GoesTo, HasPath, IsWithinBudget, IsNeed}
 use Rattle.plan_code.specs.declared.instr.Line.{Line}
 use Rattle.script_scheme.specs.Compiled.{instrs_of}
 use Rattle.script_compiler.specs.Longest.{need_to, need_at, longest}
@@ -83,17 +83,17 @@ module _ (code : List Instr) where
   pub one_least : (budget pc : ℕ) (i : Instr) → slice_get code pc ≡ Some i → 1 ≤ longest code (budget + 1) pc
   one_least budget pc i e = longest_most (budget + 1) 1 pc (one i pc e) (omega arith)
 
-  pub need_most : (budget pc : ℕ) → IsWithin budget code → longest code (budget + 1) pc ≤ budget
+  pub need_most : (budget pc : ℕ) → IsWithinBudget budget code → longest code (budget + 1) pc ≤ budget
   need_most budget pc w = w pc _ (has_longest (budget + 1) pc)
 
-  pub need_onward : (budget pc to : ℕ) (i : Instr) → IsWithin budget code → slice_get code pc ≡ Some i → GoesTo i pc to → longest code (budget + 1) to + 1 ≤ longest code (budget + 1) pc
+  pub need_onward : (budget pc to : ℕ) (i : Instr) → IsWithinBudget budget code → slice_get code pc ≡ Some i → GoesTo i pc to → longest code (budget + 1) to + 1 ≤ longest code (budget + 1) pc
   need_onward budget pc to i w e g =
       let path = extend i to (longest code (budget + 1) to) pc e g (has_longest (budget + 1) to) in
       let most = w pc _ path in
       longest_most (budget + 1) (longest code (budget + 1) to + 1) pc path (omega (arith, most))
 
   -- what is computed is the need
-  pub is_need : (budget pc : ℕ) → IsWithin budget code → IsNeed code pc (longest code (budget + 1) pc)
+  pub is_need : (budget pc : ℕ) → IsWithinBudget budget code → IsNeed code pc (longest code (budget + 1) pc)
   is_need budget pc w = record {
     path = has_longest (budget + 1) pc;
     longest = λ n h. let most = w pc n h in longest_most (budget + 1) n pc h (omega (arith, most));
@@ -108,7 +108,7 @@ module _ (code : List Instr) where
   shorter (suc (suc m)) (suc (suc n)) pc le h = (h.0, h.1, h.2, h.3, shorter (suc m) (suc n) h.1 (omega arith) h.4)
 
   -- and where what is computed is within the budget, so is every path
-  pub within_from : (budget : ℕ) → ((pc : ℕ) → longest code (budget + 1) pc ≤ budget) → IsWithin budget code
+  pub within_from : (budget : ℕ) → ((pc : ℕ) → longest code (budget + 1) pc ≤ budget) → IsWithinBudget budget code
   within_from budget h pc n p = elim (cases_lt budget n) [
     | inl lt ↦ let most = longest_most (budget + 1) (budget + 1) pc (shorter (budget + 1) n pc (omega arith) p) (omega arith) in absurd (omega (arith, most, h pc))
     | inr le ↦ le

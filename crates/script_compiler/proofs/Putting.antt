@@ -6,15 +6,15 @@ use Rattle.plan_code.specs.declared.instr.Instr.{Instr}
 use Rattle.script_scheme.specs.declared.flow.Spot.{Spot}
 use Rattle.script_scheme.specs.Scheme.{alone, marks_of}
 use Rattle.script_compiler.specs.declared.work.Work.{Work}
-use Rattle.script_compiler.specs.Laying.{Lays, line_at}
+use Rattle.script_compiler.specs.Laying.{Lays, line_of_instr}
 
 pub on_ok_map : {A E : Type 0} (x : Result A E) {P Q : Type 0} → (P → Q) → OnOk x P → OnOk x Q
 on_ok_map (Ok a) m h = m h
 on_ok_map (Err e) m h = h
 
-pub put_lays : (line r : ℕ) (i : Instr) (w v u : Work) → v.lines ≡ w.lines → v.saved ≡ w.saved → v.marks.items ≡ w.marks.items ++ marks_of (length w.lines.items) (alone line i r w.now) → u.saved ≡ v.saved → u.marks ≡ v.marks → u.lines.items ≡ v.lines.items ++ line_at line i ∷ [] → Lays w u (alone line i r w.now)
+pub put_lays : (line r : ℕ) (i : Instr) (w v u : Work) → v.lines ≡ w.lines → v.saved ≡ w.saved → v.marks.items ≡ w.marks.items ++ marks_of (length w.lines.items) (alone line i r w.now) → u.saved ≡ v.saved → u.marks ≡ v.marks → u.lines.items ≡ v.lines.items ++ line_of_instr line i ∷ [] → Lays w u (alone line i r w.now)
 put_lays line r i w v u lines saved marks saved' marks' lines' = record {
-  lines = lines' ∙ ap (λ x. x.items ++ line_at line i ∷ []) lines;
+  lines = lines' ∙ ap (λ x. x.items ++ line_of_instr line i ∷ []) lines;
   marks = ap (λ x. x.items) marks' ∙ marks;
   saved = ap (λ x. x.items) (saved' ∙ saved);
 }

@@ -11,12 +11,12 @@ use Rattle.plan_code.specs.declared.instr.Instr.TheVariants.{Wait, Until, WaitCo
 use Rattle.plan_code.specs.declared.label.Swap.{Swap}
 use Rattle.plan_code.specs.declared.label.Swap.TheVariants.{Idle, Within, Perhaps}
 use Rattle.plan_code.specs.declared.plan.Plan.{Plan}
-use Rattle.plan_verifier.specs.Typing.{Known, swapped, waited, paused, perhaps_swapped, settled}
+use Rattle.plan_verifier.specs.Typing.{Known, known_after_swap, waited, paused, perhaps_swapped, settled}
 use Rattle.script_front.specs.Block.{Block, nothing, basic, stop, when, either, repeat, forever, apply}
 use Rattle.script_scheme.specs.declared.flow.Flow.{Flow}
 use Rattle.script_scheme.specs.declared.flow.Spot.{Spot}
-use Rattle.script_scheme.specs.Scheme.{Place, known_at, moved, past, at_label, widest, meet, join, onward, head, after, placed, alone, places, all_places, instr_of, falls_out}
-use Rattle.script_scheme.specs.Compiled.{lines_of}
+use Rattle.script_scheme.specs.Scheme.{Place, known_at, moved, past, at_label, widest, meet, join, onward, head, spot_after, place_of_instr, alone, places, all_places, instr_of_act, falls_out}
+use Rattle.script_scheme.specs.Compiled.{lines_of_places}
 
 -- the greatest is below 65536
 abbrev pub IsRanged : Swap → Type 0
@@ -33,18 +33,18 @@ step_few IV = omega arith
 waited_ranged : (n : ℕ) (p : Swap) (t : Known) → IsRanged p → IsRanged t.pending → IsRanged (waited n p t).pending
 waited_ranged n Idle t h k = k
 waited_ranged n (Within lo hi) t h k = elim (cases_lt n lo) [
-  | inl lt ↦ subst (λ b. IsRanged (if b then record t { pending = Within (lo - n) (hi - n) } else swapped t).pending) (sym (lt-ltb n lo lt)) (omega (arith, h))
-  | inr ge ↦ subst (λ b. IsRanged (if b then record t { pending = Within (lo - n) (hi - n) } else swapped t).pending) (sym (le-ltb n lo ge)) tt
+  | inl lt ↦ subst (λ b. IsRanged (if b then record t { pending = Within (lo - n) (hi - n) } else known_after_swap t).pending) (sym (lt-ltb n lo lt)) (omega (arith, h))
+  | inr ge ↦ subst (λ b. IsRanged (if b then record t { pending = Within (lo - n) (hi - n) } else known_after_swap t).pending) (sym (le-ltb n lo ge)) tt
 ]
 waited_ranged n (Perhaps hi) t h k = elim (cases_lt n hi) [
-  | inl lt ↦ subst (λ b. IsRanged (if b then record t { pending = Perhaps (hi - n) } else swapped t).pending) (sym (lt-ltb n hi lt)) (omega (arith, h))
-  | inr ge ↦ subst (λ b. IsRanged (if b then record t { pending = Perhaps (hi - n) } else swapped t).pending) (sym (le-ltb n hi ge)) tt
+  | inl lt ↦ subst (λ b. IsRanged (if b then record t { pending = Perhaps (hi - n) } else known_after_swap t).pending) (sym (lt-ltb n hi lt)) (omega (arith, h))
+  | inr ge ↦ subst (λ b. IsRanged (if b then record t { pending = Perhaps (hi - n) } else known_after_swap t).pending) (sym (le-ltb n hi ge)) tt
 ]
 
 perhaps_ranged : (hi : ℕ) (t : Known) → hi < 65536 → IsRanged (perhaps_swapped hi t).pending
 perhaps_ranged hi t h = elim (cases_lt 1 hi) [
-  | inl lt ↦ subst (λ b. IsRanged (if b then record t { pending = Perhaps (hi - 1) } else swapped t).pending) (sym (lt-ltb 1 hi lt)) (omega (arith, h))
-  | inr ge ↦ subst (λ b. IsRanged (if b then record t { pending = Perhaps (hi - 1) } else swapped t).pending) (sym (le-ltb 1 hi ge)) tt
+  | inl lt ↦ subst (λ b. IsRanged (if b then record t { pending = Perhaps (hi - 1) } else known_after_swap t).pending) (sym (lt-ltb 1 hi lt)) (omega (arith, h))
+  | inr ge ↦ subst (λ b. IsRanged (if b then record t { pending = Perhaps (hi - 1) } else known_after_swap t).pending) (sym (le-ltb 1 hi ge)) tt
 ]
 
 paused_ranged : (p : Swap) (t : Known) → IsRanged p → IsRanged t.pending → IsRanged (paused p t).pending
@@ -109,7 +109,7 @@ abbrev pub AllInstrs : List Place → Type 0
 AllInstrs [] = Unit {0}
 AllInstrs (p ∷ ps) = IsInstr p.instr × AllInstrs ps
 
-pub instrs_from_lines : (ps : List Place) → Each IsLine (lines_of ps) → AllInstrs ps
+pub instrs_from_lines : (ps : List Place) → Each IsLine (lines_of_places ps) → AllInstrs ps
 instrs_from_lines [] h = tt
 instrs_from_lines (p ∷ ps) h = (h.0.formed, instrs_from_lines ps h.1)
 
@@ -138,26 +138,26 @@ ranged_onward : (w : Option Spot) (lay : Spot → List Place) (next : Spot → O
 ranged_onward None lay next h i k = (tt, tt)
 ranged_onward (Some u) lay next h i k = k u h i
 
-block_ranged : (plan : Plan) (b : Block) (r pc : ℕ) (s : Spot) → plan.notice ≤ 248 → AllInstrs (places plan r pc b s) → IsRanged s.flow.pending → AreRanged (places plan r pc b s) (after plan b s)
+block_ranged : (plan : Plan) (b : Block) (r pc : ℕ) (s : Spot) → plan.notice ≤ 248 → AllInstrs (places plan r pc b s) → IsRanged s.flow.pending → AreRanged (places plan r pc b s) (spot_after plan b s)
 block_ranged plan nothing r pc s most i h = (tt, h)
 block_ranged plan (basic line act rest) r pc s most i h =
-    let rests = block_ranged plan rest r (pc + 1) (past (moved plan (instr_of act) s.flow)) most i.1 (moved_ranged plan (instr_of act) s.flow most i.0 h) in
+    let rests = block_ranged plan rest r (pc + 1) (past (moved plan (instr_of_act act) s.flow)) most i.1 (moved_ranged plan (instr_of_act act) s.flow most i.0 h) in
     ((h, rests.0), rests.1)
 block_ranged plan (stop line rest) r pc s most i h = ((h, tt), tt)
 block_ranged plan (when line c first rest) r pc s most i h =
-    let a = after plan first (past s.flow) in
+    let a = spot_after plan first (past s.flow) in
     let firsts = places plan r (pc + 1) first (past s.flow) in
     let end = pc + 1 + length firsts in
     let rests = onward (meet a (Some s)) [] (λ u. places plan r end rest u) in
     let one = block_ranged plan first r (pc + 1) (past s.flow) most (instrs_front firsts rests i.1) h in
     let more =
-    ranged_onward (meet a (Some s)) (λ u. places plan r end rest u) (λ u. after plan rest u) (meet_ranged a (Some s) one.1 h) (instrs_back firsts rests i.1)
+    ranged_onward (meet a (Some s)) (λ u. places plan r end rest u) (λ u. spot_after plan rest u) (meet_ranged a (Some s) one.1 h) (instrs_back firsts rests i.1)
     (λ u k j. block_ranged plan rest r end u most j k)
     in
     ((h, ranged_both firsts rests one.0 more.0), more.1)
 block_ranged plan (either line c first second rest) r pc s most i h =
-    let a = after plan first (past s.flow) in
-    let b = after plan second (at_label s.flow) in
+    let a = spot_after plan first (past s.flow) in
+    let b = spot_after plan second (at_label s.flow) in
     let firsts = places plan r (pc + 1) first (past s.flow) in
     let start = pc + 1 + length firsts + (if falls_out first then 1 else 0) in
     let seconds = places plan r start second (at_label s.flow) in
@@ -168,7 +168,7 @@ block_ranged plan (either line c first second rest) r pc s most i h =
     let one = block_ranged plan first r (pc + 1) (past s.flow) most (instrs_front firsts (jumps ++ (seconds ++ rests)) i.1) h in
     let two = block_ranged plan second r start (at_label s.flow) most (instrs_front seconds rests back) h in
     let more =
-    ranged_onward (join a b) (λ u. places plan r end rest u) (λ u. after plan rest u) (join_ranged a b one.1 two.1) (instrs_back seconds rests back)
+    ranged_onward (join a b) (λ u. places plan r end rest u) (λ u. spot_after plan rest u) (join_ranged a b one.1 two.1) (instrs_back seconds rests back)
     (λ u k j. block_ranged plan rest r end u most j k)
     in
     let all = ranged_both jumps (seconds ++ rests) (ranged_alone a line (Jump end) r one.1) (ranged_both seconds rests two.0 more.0) in
@@ -177,33 +177,33 @@ block_ranged plan (repeat line n body rest) r pc s most i h =
     let start = head body (past s.flow) in
     let bodies = places plan (r + 1) (pc + 1) body start in
     let end = pc + 1 + length bodies in
-    let back : Spot → List Place = λ u. placed line (Loop r (pc + 1)) (r + 1) u ∷ places plan r (end + 1) rest (past u.flow) in
-    let rests = onward (after plan body start) [] back in
+    let back : Spot → List Place = λ u. place_of_instr line (Loop r (pc + 1)) (r + 1) u ∷ places plan r (end + 1) rest (past u.flow) in
+    let rests = onward (spot_after plan body start) [] back in
     let one = block_ranged plan body (r + 1) (pc + 1) start most (instrs_front bodies rests i.1) h in
     let more =
-    ranged_onward (after plan body start) back (λ u. after plan rest (past u.flow)) one.1 (instrs_back bodies rests i.1)
+    ranged_onward (spot_after plan body start) back (λ u. spot_after plan rest (past u.flow)) one.1 (instrs_back bodies rests i.1)
     (λ u k j. let q = block_ranged plan rest r (end + 1) (past u.flow) most j.1 k in ((k, q.0), q.1))
     in
     ((h, ranged_both bodies rests one.0 more.0), more.1)
 block_ranged plan (forever line body rest) r pc s most i h =
     let start = head body s in
     let bodies = places plan r pc body start in
-    let jumps = onward (after plan body start) [] (alone line (Jump pc) r) in
+    let jumps = onward (spot_after plan body start) [] (alone line (Jump pc) r) in
     let one = block_ranged plan body r pc start most (instrs_front bodies jumps i) h in
-    (ranged_both bodies jumps one.0 (ranged_alone (after plan body start) line (Jump pc) r one.1), tt)
+    (ranged_both bodies jumps one.0 (ranged_alone (spot_after plan body start) line (Jump pc) r one.1), tt)
 block_ranged plan (apply line k named rest) r pc s most i h =
     let names = places plan r pc named s in
     let end = pc + length names in
-    let rests = onward (after plan named s) [] (λ u. places plan r end rest u) in
+    let rests = onward (spot_after plan named s) [] (λ u. places plan r end rest u) in
     let one = block_ranged plan named r pc s most (instrs_front names rests i) h in
     let more =
-    ranged_onward (after plan named s) (λ u. places plan r end rest u) (λ u. after plan rest u) one.1 (instrs_back names rests i)
+    ranged_onward (spot_after plan named s) (λ u. places plan r end rest u) (λ u. spot_after plan rest u) one.1 (instrs_back names rests i)
     (λ u q j. block_ranged plan rest r end u most j q)
     in
     (ranged_both names rests one.0 more.0, more.1)
 
 pub all_ranged : (plan : Plan) (last : ℕ) (b : Block) (s : Spot) → plan.notice ≤ 248 → AllInstrs (all_places plan last b s) → IsRanged s.flow.pending → AllRanged (all_places plan last b s)
 all_ranged plan last b s most i h =
-    let ending = onward (after plan b s) [] (alone last End 0) in
+    let ending = onward (spot_after plan b s) [] (alone last End 0) in
     let one = block_ranged plan b 0 0 s most (instrs_front (places plan 0 0 b s) ending i) h in
-    ranged_both (places plan 0 0 b s) ending one.0 (ranged_alone (after plan b s) last End 0 one.1)
+    ranged_both (places plan 0 0 b s) ending one.0 (ranged_alone (spot_after plan b s) last End 0 one.1)

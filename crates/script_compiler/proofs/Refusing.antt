@@ -9,16 +9,16 @@ use Rattle.script_front.specs.declared.tree.Statement.{Statement}
 use Rattle.script_front.specs.declared.tree.Statement.TheOpen.{Statement-F}
 use Rattle.script_front.specs.Block.{Block, nothing, basic, when, either, repeat, forever, apply, Before, statement_step, before, block_of}
 use Rattle.script_scheme.specs.declared.flow.Spot.{Spot}
-use Rattle.script_scheme.specs.Scheme.{known_at, past, at_label, head, instr_of, after, falls_out}
+use Rattle.script_scheme.specs.Scheme.{known_at, past, at_label, head, instr_of_act, spot_after, falls_out}
 use Rattle.script_scheme.specs.Judged.{IsJudged, IsDone, Reached, WaysAgree, BranchesAgree, ComesRound}
 use Rattle.script_compiler.specs.declared.work.Work.{Work}
 use Rattle.plan_code.specs.declared.instr.Line.{Line}
 use Rattle.script_scheme.specs.Compiled.{instrs_of}
-use Rattle.script_scheme.specs.Need.{IsWithin}
+use Rattle.script_scheme.specs.Need.{IsWithinBudget}
 use Rattle.script_compiler.specs.Longest.{longest}
 use Rattle.script_compiler.specs.declared.fault.CompileFault.{CompileFault}
 use Rattle.script_compiler.proofs.Paths.{need_most}
-use Rattle.script_compiler.specs.Laying.{Left, Forks, Turns, kept, way}
+use Rattle.script_compiler.specs.Laying.{Left, Forks, Turns, spots_of, way}
 use Rattle.script_compiler.specs.Refusals.{IsRefusal}
 use Rattle.script_compiler.proofs.Trees.{by_step, statements_cut}
 use Rattle.script_compiler.proofs.Laid.{whole_of}
@@ -32,7 +32,7 @@ pub refused_as : (plan : Plan) (s : Spot) (x : Result Bool CompileFault) (shape 
 refused_as plan s (Ok f) shape shape' e h = h
 refused_as plan s (Err y) shape shape' e h = λ is rest j. h is rest (subst (λ b. IsJudged plan b s) (e rest) j)
 
-pub act_refused : (plan : Plan) (s : Spot) (x : Result Bool CompileFault) (line : ℕ) (a : Act) → IfErr x (λ e. IsRefusal e → IsFine plan (instr_of a) (known_at s.flow) → ⊥) → IfErr x (λ e. IsRefusal e → (rest : Block) → IsJudged plan (basic line a rest) s → ⊥)
+pub act_refused : (plan : Plan) (s : Spot) (x : Result Bool CompileFault) (line : ℕ) (a : Act) → IfErr x (λ e. IsRefusal e → IsFine plan (instr_of_act a) (known_at s.flow) → ⊥) → IfErr x (λ e. IsRefusal e → (rest : Block) → IsJudged plan (basic line a rest) s → ⊥)
 act_refused plan s (Ok f) line a h = h
 act_refused plan s (Err y) line a h = λ is rest j. h is j.0
 
@@ -61,14 +61,14 @@ module _ (plan : Plan) (r line c at : ℕ) (first second rest : Block) (w0 w2 w3
   pub either_second : Forks line (Test c 0) r w0 w2 → Left plan r first w2 w3 f1 nothing → ((front : List Spot) (entry : Spot) → w3.saved.items ≡ front ++ entry ∷ [] → Turns f1 line r c at front entry w3 w6) → IsJudged plan (either line c first second rest) w0.now → IsJudged plan second w6.now
   either_second fork left turning j = subst (λ s. IsJudged plan second s) (sym (turned fork left turning).now) j.1
 
-  pub either_saved : Forks line (Test c 0) r w0 w2 → Left plan r first w2 w3 f1 nothing → ((front : List Spot) (entry : Spot) → w3.saved.items ≡ front ++ entry ∷ [] → Turns f1 line r c at front entry w3 w6) → Left plan r second w6 w7 f2 nothing → w7.saved.items ≡ w0.saved.items ++ kept (way f1 w3)
+  pub either_saved : Forks line (Test c 0) r w0 w2 → Left plan r first w2 w3 f1 nothing → ((front : List Spot) (entry : Spot) → w3.saved.items ≡ front ++ entry ∷ [] → Turns f1 line r c at front entry w3 w6) → Left plan r second w6 w7 f2 nothing → w7.saved.items ≡ w0.saved.items ++ spots_of (way f1 w3)
   either_saved fork left turning left2 = left2.lays.saved ∙ (turned fork left turning).saved
 
   pub either_agrees : Forks line (Test c 0) r w0 w2 → Left plan r first w2 w3 f1 nothing → ((front : List Spot) (entry : Spot) → w3.saved.items ≡ front ++ entry ∷ [] → Turns f1 line r c at front entry w3 w6) → Left plan r second w6 w7 f2 nothing → IsJudged plan (either line c first second rest) w0.now → BranchesAgree (way f1 w3) (way f2 w7)
   either_agrees fork left turning left2 j =
       let h = whole_of plan r (length w2.lines.items) first (past w0.now.flow) w2 w3 f1 refl fork.now left in
       let h2 = whole_of plan r (length w6.lines.items) second (at_label w0.now.flow) w6 w7 f2 refl (turned fork left turning).now left2 in
-      subst (λ w. BranchesAgree w (way f2 w7)) h.leads (subst (λ w. BranchesAgree (after plan first (past w0.now.flow)) w) h2.leads j.2)
+      subst (λ w. BranchesAgree w (way f2 w7)) h.leads (subst (λ w. BranchesAgree (spot_after plan first (past w0.now.flow)) w) h2.leads j.2)
 
 pub some_is : (g : Bool) (w : Work) → g ≡ is_some (way g w)
 some_is true w = refl
@@ -131,5 +131,5 @@ module _ (plan : Plan) (r : ℕ) (table : List Block) (ss : List Statement) (k :
 -- ---- a script as a whole
 
 -- needs that are those of a code that is accepted are within the budget
-pub over_budget : (lines : List Line) (needs : List ℕ) (budget : ℕ) → IsWithin budget (instrs_of lines) → ((pc : ℕ) → get_or needs pc 0 ≡ longest (instrs_of lines) (budget + 1) pc) → (pc : ℕ) → budget < get_or needs pc 0 → ⊥
+pub over_budget : (lines : List Line) (needs : List ℕ) (budget : ℕ) → IsWithinBudget budget (instrs_of lines) → ((pc : ℕ) → get_or needs pc 0 ≡ longest (instrs_of lines) (budget + 1) pc) → (pc : ℕ) → budget < get_or needs pc 0 → ⊥
 over_budget lines needs budget within each pc over = let e = each pc in let most = need_most (instrs_of lines) budget pc within in absurd (omega (arith, e, most, over))

@@ -18,7 +18,7 @@ use Rattle.script_front.specs.declared.tree.Act.TheVariants.{Edit as Edits, Wait
 use Rattle.script_front.specs.Block.{Block, nothing, basic, stop, when, either, repeat, forever, apply}
 use Rattle.script_scheme.specs.declared.flow.Flow.{Flow}
 use Rattle.script_scheme.specs.declared.flow.Spot.{Spot}
-use Rattle.script_scheme.specs.Scheme.{Place, known_at, moved, past, at_label, merged, meet, join, onward, head, after, placed, alone, places, all_places, instr_of, falls_out}
+use Rattle.script_scheme.specs.Scheme.{Place, known_at, moved, past, at_label, merged, meet, join, onward, head, spot_after, place_of_instr, alone, places, all_places, instr_of_act, falls_out}
 use Rattle.script_scheme.specs.Judged.{IsJudged, FitsFlow, WaysAgree, BranchesAgree, ComesRound, Reached}
 use Rattle.script_scheme.specs.Compiled.{first_counters, nested}
 use Rattle.script_compiler.proofs.Leading.{after_falls}
@@ -50,7 +50,7 @@ stand_all (p ∷ ps) before =
     let rest' = subst (λ l. Stand l (length (before ++ p ∷ [])) ps) (append_assoc before (p ∷ []) ps) rest in
     (here, subst (λ m. Stand (before ++ p ∷ ps) m ps) n rest')
 
-pub falls_from : (plan : Plan) (b : Block) (s u : Spot) → after plan b s ≡ Some u → falls_out b ≡ true
+pub falls_from : (plan : Plan) (b : Block) (s u : Spot) → spot_after plan b s ≡ Some u → falls_out b ≡ true
 falls_from plan b s u e = sym (after_falls plan b s) ∙ ap (λ w. is_some w) e
 
 -- ---- a state that fits another
@@ -112,13 +112,13 @@ meets_right v w t h e = subst (λ x. WaysAgree v x → Meeting (meet v x) t.flow
 abbrev pub known_with : Flow → Counters → ℕ → Known
 known_with t c a = record { current = t.current; next = t.next; pending = t.pending; counters = c; allowance = a }
 
--- the counters after an instruction
+-- the counters spot_after an instruction
 abbrev pub set_after : Instr → Counters → Counters
 set_after (Set counter times) c = with_counter counter c
 set_after (Loop counter target) c = without_counter counter c
 set_after _ c = c
 
--- how many counters are set after an instruction
+-- how many counters are set spot_after an instruction
 abbrev pub counted : Instr → ℕ → ℕ
 counted (Set counter times) r = counter + 1
 counted (Loop counter target) r = counter
@@ -185,8 +185,8 @@ module _ (plan : Plan) (code : List Place) where
   lands_head true pc r s l = meets_lands pc r s (lands_meets pc r (at_label s.flow) s.flow l refl (fits_same s.flow))
   lands_head false pc r s l = l
 
-  lands_at : (line pc r : ℕ) (i : Instr) (s : Spot) → slice_get code pc ≡ Some (placed line i r s) → Lands code pc r s
-  lands_at line pc r i s h = record { place = placed line i r s; there = h; repeats = refl; fits = inl refl }
+  lands_at : (line pc r : ℕ) (i : Instr) (s : Spot) → slice_get code pc ≡ Some (place_of_instr line i r s) → Lands code pc r s
+  lands_at line pc r i s h = record { place = place_of_instr line i r s; there = h; repeats = refl; fits = inl refl }
 
   moved_pc : (a b : ℕ) → a ≡ b → (r : ℕ) (s : Spot) → Lands code a r s → Lands code b r s
   moved_pc a b e r s l = subst (λ n. Lands code n r s) e l
@@ -208,8 +208,8 @@ module _ (plan : Plan) (code : List Place) where
       let g = ih s refl j st ex in
       (g.0, λ u e. let same : s ≡ u = some_same s u e in subst (λ x. Lands code pc q x) same g.1)
 
-  -- where an instruction stands after a block, if that falls out
-  back_exit : (line : ℕ) (i : Instr) (q pc : ℕ) (more : Spot → List Place) (w : Option Spot) → Stand code pc (onward w [] (λ u. placed line i q u ∷ more u)) → Exit code pc q w
+  -- where an instruction stands spot_after a block, if that falls out
+  back_exit : (line : ℕ) (i : Instr) (q pc : ℕ) (more : Spot → List Place) (w : Option Spot) → Stand code pc (onward w [] (λ u. place_of_instr line i q u ∷ more u)) → Exit code pc q w
   back_exit line i q pc more None st u e = cc
   back_exit line i q pc more (Some s) st u e =
       let same : s ≡ u = some_same s u e in subst (λ x. Lands code pc q x) same (lands_at line pc q i s st.0)
@@ -218,11 +218,11 @@ module _ (plan : Plan) (code : List Place) where
   comes_round : (w : Option Spot) (start u : Spot) → ComesRound w start → w ≡ Some u → FitsFlow u.flow start.flow
   comes_round w start u h e = subst (λ x. ComesRound x start) e h
 
-  head_labelled : (body : Block) (s u : Spot) → after plan body (head body s) ≡ Some u → (head body s).labelled ≡ true
+  head_labelled : (body : Block) (s u : Spot) → spot_after plan body (head body s) ≡ Some u → (head body s).labelled ≡ true
   head_labelled body s u e = ap (λ f. if f then true else s.labelled) (falls_from plan body (head body s) u e)
 
-  -- after a first branch, the jump over the second
-  jump_holds_where : (line end r pc : ℕ) (w : Option Spot) → ((u : Spot) → w ≡ Some u → Holds plan code pc (placed line (Jump end) r u)) → AllHold plan code pc (onward w [] (alone line (Jump end) r))
+  -- spot_after a first branch, the jump over the second
+  jump_holds_where : (line end r pc : ℕ) (w : Option Spot) → ((u : Spot) → w ≡ Some u → Holds plan code pc (place_of_instr line (Jump end) r u)) → AllHold plan code pc (onward w [] (alone line (Jump end) r))
   jump_holds_where line end r pc None h = tt
   jump_holds_where line end r pc (Some u) h = (h u refl, tt)
 
@@ -243,7 +243,7 @@ module _ (plan : Plan) (code : List Place) where
       let m = meets_left b (Some s) u h e in
       meets_lands pc r u (lands_meets pc r (at_label m.flow) u.flow (ex (at_label m.flow) m.there) refl m.fits)
 
-  act_target : (a : Act) → target_of (instr_of a) ≡ None
+  act_target : (a : Act) → target_of (instr_of_act a) ≡ None
   act_target (Edits edit) = refl
   act_target (Waits frames) = refl
   act_target (WaitsContact contact closed) = refl
@@ -253,7 +253,7 @@ module _ (plan : Plan) (code : List Place) where
   act_target Joins = refl
   act_target Settles = refl
 
-  act_counted : (a : Act) (r : ℕ) → counted (instr_of a) r ≡ r
+  act_counted : (a : Act) (r : ℕ) → counted (instr_of_act a) r ≡ r
   act_counted (Edits edit) r = refl
   act_counted (Waits frames) r = refl
   act_counted (WaitsContact contact closed) r = refl
@@ -263,7 +263,7 @@ module _ (plan : Plan) (code : List Place) where
   act_counted Joins r = refl
   act_counted Settles r = refl
 
-  act_sets : (a : Act) (c : Counters) → set_after (instr_of a) c ≡ c
+  act_sets : (a : Act) (c : Counters) → set_after (instr_of_act a) c ≡ c
   act_sets (Edits edit) c = refl
   act_sets (Waits frames) c = refl
   act_sets (WaitsContact contact closed) c = refl
@@ -281,7 +281,7 @@ module _ (plan : Plan) (code : List Place) where
     room = record { within_period = h.room.within_period; three_times = h.room.three_times; alone = h.room.alone };
   }
 
-  act_fine : (a : Act) (t : Flow) (c : Counters) (n : ℕ) → IsFine plan (instr_of a) (known_at t) → IsFine plan (instr_of a) (known_with t c n)
+  act_fine : (a : Act) (t : Flow) (c : Counters) (n : ℕ) → IsFine plan (instr_of_act a) (known_at t) → IsFine plan (instr_of_act a) (known_with t c n)
   act_fine (Edits edit) t c n h = h
   act_fine (Waits frames) t c n h = h
   act_fine (WaitsContact contact closed) t c n h = h
@@ -291,24 +291,24 @@ module _ (plan : Plan) (code : List Place) where
   act_fine Joins t c n h = h
   act_fine Settles t c n h = h
 
-  basic_holds : (line : ℕ) (a : Act) (r pc : ℕ) (s : Spot) → IsFine plan (instr_of a) (known_at s.flow) → Lands code (pc + 1) r (past (moved plan (instr_of a) s.flow)) → Holds plan code pc (placed line (instr_of a) r s)
+  basic_holds : (line : ℕ) (a : Act) (r pc : ℕ) (s : Spot) → IsFine plan (instr_of_act a) (known_at s.flow) → Lands code (pc + 1) r (past (moved plan (instr_of_act a) s.flow)) → Holds plan code pc (place_of_instr line (instr_of_act a) r s)
   basic_holds line a r pc s h l = record {
     fine = λ n. act_fine a s.flow (first_counters r) n h;
-    onward = λ _. subst (λ q. Lands code (pc + 1) q (past (moved plan (instr_of a) s.flow))) (sym (act_counted a r)) l;
-    targets = λ to e. no_target to (target_of (instr_of a)) (act_target a) e;
+    onward = λ _. subst (λ q. Lands code (pc + 1) q (past (moved plan (instr_of_act a) s.flow))) (sym (act_counted a r)) l;
+    targets = λ to e. no_target to (target_of (instr_of_act a)) (act_target a) e;
     counters = act_sets a (first_counters r) ∙ ap first_counters (sym (act_counted a r));
   }
 
-  end_holds : (line : ℕ) (r pc : ℕ) (s : Spot) → Holds plan code pc (placed line End r s)
+  end_holds : (line : ℕ) (r pc : ℕ) (s : Spot) → Holds plan code pc (place_of_instr line End r s)
   end_holds line r pc s = record { fine = λ n. tt; onward = λ e. cc; targets = λ to e. cc; counters = refl }
 
-  test_holds : (line : ℕ) (c to r pc : ℕ) (s : Spot) → Lands code (pc + 1) r (past s.flow) → Meets code to r s.flow → Holds plan code pc (placed line (Test c to) r s)
+  test_holds : (line : ℕ) (c to r pc : ℕ) (s : Spot) → Lands code (pc + 1) r (past s.flow) → Meets code to r s.flow → Holds plan code pc (place_of_instr line (Test c to) r s)
   test_holds line c to r pc s l m = record { fine = λ n. tt; onward = λ _. l; targets = λ n e. subst (λ x. Meets code x r s.flow) (some_number to n e) m; counters = refl }
 
-  jump_holds : (line : ℕ) (to r pc : ℕ) (s : Spot) → Meets code to r s.flow → Holds plan code pc (placed line (Jump to) r s)
+  jump_holds : (line : ℕ) (to r pc : ℕ) (s : Spot) → Meets code to r s.flow → Holds plan code pc (place_of_instr line (Jump to) r s)
   jump_holds line to r pc s m = record { fine = λ n. tt; onward = λ e. cc; targets = λ n e. subst (λ x. Meets code x r s.flow) (some_number to n e) m; counters = refl }
 
-  set_holds : (line : ℕ) (n r pc : ℕ) (s : Spot) → Lands code (pc + 1) (r + 1) (past s.flow) → Holds plan code pc (placed line (Set r n) r s)
+  set_holds : (line : ℕ) (n r pc : ℕ) (s : Spot) → Lands code (pc + 1) (r + 1) (past s.flow) → Holds plan code pc (place_of_instr line (Set r n) r s)
   set_holds line n r pc s l = record { fine = λ n. tt; onward = λ _. l; targets = λ to e. cc; counters = let one : suc r ≡ r + 1 = omega arith in ap first_counters one }
 
   -- the last of the first counters is set
@@ -326,26 +326,26 @@ module _ (plan : Plan) (code : List Place) where
   unset_after (suc (suc (suc (suc (suc (suc (suc zero))))))) low = refl
   unset_after (suc (suc (suc (suc (suc (suc (suc (suc r)))))))) low = absurd (omega (arith, low))
 
-  loop_holds : (line : ℕ) (to r pc : ℕ) (s : Spot) → r < 8 → Lands code (pc + 1) r (past s.flow) → Meets code to (r + 1) s.flow → Holds plan code pc (placed line (Loop r to) (r + 1) s)
+  loop_holds : (line : ℕ) (to r pc : ℕ) (s : Spot) → r < 8 → Lands code (pc + 1) r (past s.flow) → Meets code to (r + 1) s.flow → Holds plan code pc (place_of_instr line (Loop r to) (r + 1) s)
   loop_holds line to r pc s low l m = record { fine = λ n. set_there r low; onward = λ _. l; targets = λ n e. subst (λ x. Meets code x (r + 1) s.flow) (some_number to n e) m; counters = unset_after r low }
 
-  pub sound : (b : Block) (r pc : ℕ) (s : Spot) → r + nested b ≤ 8 → IsJudged plan b s → Stand code pc (places plan r pc b s) → Exit code (pc + length (places plan r pc b s)) r (after plan b s) → AllHold plan code pc (places plan r pc b s) × Lands code pc r s
+  pub sound : (b : Block) (r pc : ℕ) (s : Spot) → r + nested b ≤ 8 → IsJudged plan b s → Stand code pc (places plan r pc b s) → Exit code (pc + length (places plan r pc b s)) r (spot_after plan b s) → AllHold plan code pc (places plan r pc b s) × Lands code pc r s
   sound nothing r pc s deep j st ex = (tt, moved_pc (pc + 0) pc (omega arith) r s (ex s refl))
   sound (basic line act rest) r pc s deep j st ex =
-      let t = past (moved plan (instr_of act) s.flow) in
+      let t = past (moved plan (instr_of_act act) s.flow) in
       let e : pc + length (places plan r pc (basic line act rest) s) ≡ pc + 1 + length (places plan r (pc + 1) rest t) = omega arith in
-      let ih = sound rest r (pc + 1) t (omega (arith, deep)) j.1 st.1 (exit_moved _ _ e r (after plan rest t) ex) in
-      ((basic_holds line act r pc s j.0 ih.1, ih.0), lands_at line pc r (instr_of act) s st.0)
+      let ih = sound rest r (pc + 1) t (omega (arith, deep)) j.1 st.1 (exit_moved _ _ e r (spot_after plan rest t) ex) in
+      ((basic_holds line act r pc s j.0 ih.1, ih.0), lands_at line pc r (instr_of_act act) s st.0)
   sound (stop line rest) r pc s deep j st ex = ((end_holds line r pc s, tt), lands_at line pc r End s st.0)
   sound (when line c first rest) r pc s deep j st ex =
       let t = past s.flow in
       let firsts = places plan r (pc + 1) first t in
-      let a = after plan first t in
+      let a = spot_after plan first t in
       let w = meet a (Some s) in
       let end = pc + 1 + length firsts in
       let rests = onward w [] (λ u. places plan r end rest u) in
       let e : pc + length (places plan r pc (when line c first rest) s) ≡ end + length rests = omega (arith, length-append firsts rests) in
-      let back = rest_holds r r end (λ u. places plan r end rest u) (λ u. after plan rest u) rest (λ u. IsJudged plan rest u) w (λ u _. sound rest r end u (omega (arith, deep))) j.2 (stand_back code (pc + 1) firsts rests st.1) (exit_moved _ _ e r (after plan (when line c first rest) s) ex) in
+      let back = rest_holds r r end (λ u. places plan r end rest u) (λ u. spot_after plan rest u) rest (λ u. IsJudged plan rest u) w (λ u _. sound rest r end u (omega (arith, deep))) j.2 (stand_back code (pc + 1) firsts rests st.1) (exit_moved _ _ e r (spot_after plan (when line c first rest) s) ex) in
       let front = sound first r (pc + 1) t (omega (arith, deep)) j.0 (stand_front code (pc + 1) firsts rests st.1) (λ u h.
       let m = meets_left a (Some s) u j.1 h in
       meets_lands end r u (lands_meets end r (at_label m.flow) u.flow (back.1 (at_label m.flow) m.there) refl m.fits)) in
@@ -355,11 +355,11 @@ module _ (plan : Plan) (code : List Place) where
   sound (either line c first second rest) r pc s deep j st ex =
       let t = past s.flow in
       let firsts = places plan r (pc + 1) first t in
-      let a = after plan first t in
+      let a = spot_after plan first t in
       let out = pc + 1 + length firsts in
       let start = out + (if falls_out first then 1 else 0) in
       let seconds = places plan r start second (at_label s.flow) in
-      let b = after plan second (at_label s.flow) in
+      let b = spot_after plan second (at_label s.flow) in
       let end = start + length seconds in
       let w = join a b in
       let rests = onward w [] (λ u. places plan r end rest u) in
@@ -370,7 +370,7 @@ module _ (plan : Plan) (code : List Place) where
       omega (arith, len, length-append firsts (jumps ++ (seconds ++ rests)), length-append jumps (seconds ++ rests), length-append seconds rests) in
       let st_jumps = stand_back code (pc + 1) firsts (jumps ++ (seconds ++ rests)) st.1 in
       let st_seconds = subst (λ n. Stand code n (seconds ++ rests)) at_start (stand_back code out jumps (seconds ++ rests) st_jumps) in
-      let back = rest_holds r r end (λ u. places plan r end rest u) (λ u. after plan rest u) rest (λ u. IsJudged plan rest u) w (λ u _. sound rest r end u (omega (arith, deep))) j.3 (stand_back code start seconds rests st_seconds) (exit_moved _ _ e r (after plan (either line c first second rest) s) ex) in
+      let back = rest_holds r r end (λ u. places plan r end rest u) (λ u. spot_after plan rest u) rest (λ u. IsJudged plan rest u) w (λ u _. sound rest r end u (omega (arith, deep))) j.3 (stand_back code start seconds rests st_seconds) (exit_moved _ _ e r (spot_after plan (either line c first second rest) s) ex) in
       let middle = sound second r start (at_label s.flow) (omega (arith, deep)) j.1 (stand_front code start seconds rests st_seconds) (second_lands end r a b j.2 back.1) in
       let front = sound first r (pc + 1) t (omega (arith, deep)) j.0 (stand_front code (pc + 1) firsts (jumps ++ (seconds ++ rests)) st.1) (back_exit line (Jump end) r out (λ u. []) a (stand_front code out jumps (seconds ++ rests) st_jumps)) in
       let jump = jump_holds_where line end r out a (λ u h. jump_holds line end r out u (first_meets end r a b j.2 back.1 u h)) in
@@ -382,25 +382,25 @@ module _ (plan : Plan) (code : List Place) where
       let t = past s.flow in
       let start = head body t in
       let bodies = places plan (r + 1) (pc + 1) body start in
-      let a = after plan body start in
+      let a = spot_after plan body start in
       let end = pc + 1 + length bodies in
       let more = λ (u : Spot). places plan r (end + 1) rest (past u.flow) in
-      let rests = onward a [] (λ u. placed line (Loop r (pc + 1)) (r + 1) u ∷ more u) in
+      let rests = onward a [] (λ u. place_of_instr line (Loop r (pc + 1)) (r + 1) u ∷ more u) in
       let e : pc + length (places plan r pc (repeat line n body rest) s) ≡ end + length rests = omega (arith, length-append bodies rests) in
       let st_rests = stand_back code (pc + 1) bodies rests st.1 in
       let front = sound body (r + 1) (pc + 1) start (omega (arith, deep)) j.0 (stand_front code (pc + 1) bodies rests st.1) (back_exit line (Loop r (pc + 1)) (r + 1) end more a st_rests) in
-      let back = rest_holds (r + 1) r end (λ u. placed line (Loop r (pc + 1)) (r + 1) u ∷ more u) (λ u. after plan rest (past u.flow)) rest (λ u. IsJudged plan rest (past u.flow)) a
+      let back = rest_holds (r + 1) r end (λ u. place_of_instr line (Loop r (pc + 1)) (r + 1) u ∷ more u) (λ u. spot_after plan rest (past u.flow)) rest (λ u. IsJudged plan rest (past u.flow)) a
       (λ u h k su eu.
-      let f : end + length (placed line (Loop r (pc + 1)) (r + 1) u ∷ more u) ≡ end + 1 + length (more u) = omega arith in
-      let ih = sound rest r (end + 1) (past u.flow) (omega (arith, deep)) k su.1 (exit_moved _ _ f r (after plan rest (past u.flow)) eu) in
+      let f : end + length (place_of_instr line (Loop r (pc + 1)) (r + 1) u ∷ more u) ≡ end + 1 + length (more u) = omega arith in
+      let ih = sound rest r (end + 1) (past u.flow) (omega (arith, deep)) k su.1 (exit_moved _ _ f r (spot_after plan rest (past u.flow)) eu) in
       let m = lands_meets (pc + 1) (r + 1) start u.flow front.1 (head_labelled body t u h) (comes_round a start u j.1 h) in
       ((loop_holds line (pc + 1) r end u (omega (arith, deep)) ih.1 m, ih.0), lands_at line end (r + 1) (Loop r (pc + 1)) u su.0))
-      j.2 st_rests (exit_moved _ _ e r (after plan (repeat line n body rest) s) ex) in
+      j.2 st_rests (exit_moved _ _ e r (spot_after plan (repeat line n body rest) s) ex) in
       ((set_holds line n r pc s (lands_head (falls_out body) (pc + 1) (r + 1) t front.1), hold_both (pc + 1) bodies rests front.0 back.0), lands_at line pc r (Set r n) s st.0)
   sound (forever line body rest) r pc s deep j st ex =
       let start = head body s in
       let bodies = places plan r pc body start in
-      let a = after plan body start in
+      let a = spot_after plan body start in
       let end = pc + length bodies in
       let jumps = onward a [] (alone line (Jump pc) r) in
       let st_jumps = stand_back code pc bodies jumps st in
@@ -410,11 +410,11 @@ module _ (plan : Plan) (code : List Place) where
       (hold_both pc bodies jumps front.0 jump, lands_head (falls_out body) pc r s front.1)
   sound (apply line k named rest) r pc s deep j st ex =
       let names = places plan r pc named s in
-      let w = after plan named s in
+      let w = spot_after plan named s in
       let end = pc + length names in
       let rests = onward w [] (λ u. places plan r end rest u) in
       let e : pc + length (places plan r pc (apply line k named rest) s) ≡ end + length rests = omega (arith, length-append names rests) in
-      let back = rest_holds r r end (λ u. places plan r end rest u) (λ u. after plan rest u) rest (λ u. IsJudged plan rest u) w (λ u _. sound rest r end u (omega (arith, deep))) j.1 (stand_back code pc names rests st) (exit_moved _ _ e r (after plan (apply line k named rest) s) ex) in
+      let back = rest_holds r r end (λ u. places plan r end rest u) (λ u. spot_after plan rest u) rest (λ u. IsJudged plan rest u) w (λ u _. sound rest r end u (omega (arith, deep))) j.1 (stand_back code pc names rests st) (exit_moved _ _ e r (spot_after plan (apply line k named rest) s) ex) in
       let front = sound named r pc s (omega (arith, deep)) j.0 (stand_front code pc names rests st) back.1 in
       (hold_both pc names rests front.0 back.0, front.1)
 
@@ -424,11 +424,11 @@ module _ (plan : Plan) (last : ℕ) (b : Block) (s : Spot) where
   whole_holds deep j =
       let code = all_places plan last b s in
       let body = places plan 0 0 b s in
-      let ending = onward (after plan b s) [] (alone last End 0) in
+      let ending = onward (spot_after plan b s) [] (alone last End 0) in
       let st : Stand code 0 code = stand_all code [] in
       let st_end = stand_back code 0 body ending st in
-      let front = sound plan code b 0 0 s (omega (arith, deep)) j (stand_front code 0 body ending st) (back_exit plan code last End 0 (0 + length body) (λ u. []) (after plan b s) st_end) in
-      (hold_both plan code 0 body ending front.0 (ending_holds (after plan b s) code (0 + length body)), front.1)
+      let front = sound plan code b 0 0 s (omega (arith, deep)) j (stand_front code 0 body ending st) (back_exit plan code last End 0 (0 + length body) (λ u. []) (spot_after plan b s) st_end) in
+      (hold_both plan code 0 body ending front.0 (ending_holds (spot_after plan b s) code (0 + length body)), front.1)
     where
       ending_holds : (w : Option Spot) (code : List Place) (pc : ℕ) → AllHold plan code pc (onward w [] (alone last End 0))
       ending_holds None code pc = tt

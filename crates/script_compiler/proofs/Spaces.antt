@@ -12,14 +12,14 @@ use Rattle.script_scheme.specs.declared.flow.Flow.{Flow}
 use Rattle.script_scheme.specs.declared.flow.Mark.{Mark}
 use Rattle.script_scheme.specs.declared.flow.Spot.{Spot}
 use Rattle.plan_verifier.specs.Typing.{FitsSwap}
-use Rattle.script_scheme.specs.Scheme.{Place, known_at, placed, alone, onward, after, places, mark_of, marks_of}
+use Rattle.script_scheme.specs.Scheme.{Place, known_at, place_of_instr, alone, onward, spot_after, places, mark_of, marks_of}
 use Rattle.script_scheme.specs.Judged.{FitsFlow}
-use Rattle.script_scheme.specs.Compiled.{StandsIn, Added, Tabled, lines_of}
+use Rattle.script_scheme.specs.Compiled.{StandsIn, Added, Tabled, lines_of_places}
 use Rattle.script_compiler.specs.declared.work.Work.{Work}
 use Rattle.script_compiler.specs.declared.fault.CompileFault.{CompileFault}
 use Rattle.script_compiler.specs.Laying.{Lays, jumping, way}
 use Rattle.script_compiler.specs.Room.{HasRoomFor, Leaves, named_by}
-use Rattle.script_compiler.specs.Space.{labels_in, names_of, HasSpace, HasTable, IsCovered, Covers}
+use Rattle.script_compiler.specs.Space.{count_of_labels, names_of, HasSpace, HasTable, IsCovered, Covers}
 use Rattle.script_compiler.proofs.First.{first_of}
 use Rattle.script_compiler.proofs.Laid.{laid_length, length_lines}
 use Rattle.script_compiler.proofs.Marking.{tabled_more}
@@ -31,9 +31,9 @@ labels_by : (b : Bool) (k n : ℕ) → (if b then 1 + (k + n) else (k + n)) ≡ 
 labels_by true k n = omega arith
 labels_by false k n = refl
 
-labels_both : (ps qs : List Place) → labels_in (ps ++ qs) ≡ labels_in ps + labels_in qs
+labels_both : (ps qs : List Place) → count_of_labels (ps ++ qs) ≡ count_of_labels ps + count_of_labels qs
 labels_both [] qs = omega arith
-labels_both (p ∷ ps) qs = ap (λ n. if p.spot.labelled then 1 + n else n) (labels_both ps qs) ∙ labels_by p.spot.labelled (labels_in ps) (labels_in qs)
+labels_both (p ∷ ps) qs = ap (λ n. if p.spot.labelled then 1 + n else n) (labels_both ps qs) ∙ labels_by p.spot.labelled (count_of_labels ps) (count_of_labels qs)
 
 names_by : (b : Bool) (x y : Configuration) (xs ys : List Configuration) → (if b then x ∷ y ∷ (xs ++ ys) else (xs ++ ys)) ≡ (if b then x ∷ y ∷ xs else xs) ++ ys
 names_by true x y xs ys = refl
@@ -49,9 +49,9 @@ count_by : (b : Bool) (m : Mark) (ms : List Mark) (n : ℕ) → length ms ≡ n 
 count_by true m ms n e = omega (arith, e)
 count_by false m ms n e = e
 
-pub marks_count : (pc : ℕ) (ps : List Place) → length (marks_of pc ps) ≡ labels_in ps
+pub marks_count : (pc : ℕ) (ps : List Place) → length (marks_of pc ps) ≡ count_of_labels ps
 marks_count pc [] = refl
-marks_count pc (p ∷ ps) = count_by p.spot.labelled (mark_of pc p) (marks_of (pc + 1) ps) (labels_in ps) (marks_count (pc + 1) ps)
+marks_count pc (p ∷ ps) = count_by p.spot.labelled (mark_of pc p) (marks_of (pc + 1) ps) (count_of_labels ps) (marks_count (pc + 1) ps)
 
 named_if : (b : Bool) (m : Mark) (ms : List Mark) (xs : List Configuration) → named_by ms ≡ xs → named_by (if b then m ∷ ms else ms) ≡ (if b then m.flow.current ∷ m.flow.next ∷ xs else xs)
 named_if true m ms xs e = ap (λ zs. m.flow.current ∷ m.flow.next ∷ zs) e
@@ -81,7 +81,7 @@ space_after v w ps qs l h = space_from v w (length v.lines.items) ps qs (laid_le
 pub space_spot : (w : Work) (p q : Place) (ps : List Place) → p.spot ≡ q.spot → HasSpace w (p ∷ ps) → HasSpace w (q ∷ ps)
 space_spot w p q ps e h =
     let names : names_of (p ∷ ps) ≡ names_of (q ∷ ps) = ap (λ (s : Spot). if s.labelled then s.flow.current ∷ s.flow.next ∷ names_of ps else names_of ps) e in
-    let count : labels_in (p ∷ ps) ≡ labels_in (q ∷ ps) = ap (λ (s : Spot). if s.labelled then 1 + labels_in ps else labels_in ps) e in
+    let count : count_of_labels (p ∷ ps) ≡ count_of_labels (q ∷ ps) = ap (λ (s : Spot). if s.labelled then 1 + count_of_labels ps else count_of_labels ps) e in
     record {
       lines = h.lines;
       labels = let k = h.labels in omega (arith, k, count);
@@ -89,7 +89,7 @@ space_spot w p q ps e h =
     }
 
 pub space_one : (v w : Work) (n : ℕ) (line r : ℕ) (i : Instr) (p : Place) (ps : List Place) → p.spot ≡ v.now → length w.lines.items ≡ length v.lines.items + 1 → w.marks.items ≡ v.marks.items ++ marks_of n (alone line i r v.now) → HasSpace v (p ∷ ps) → HasSpace w ps
-space_one v w n line r i p ps e lines marks h = space_from v w n (alone line i r v.now) ps lines marks (space_spot v p (placed line i r v.now) ps e h)
+space_one v w n line r i p ps e lines marks h = space_from v w n (alone line i r v.now) ps lines marks (space_spot v p (place_of_instr line i r v.now) ps e h)
 
 -- the same instructions and labels
 pub space_as : (v w : Work) (ps : List Place) → length w.lines.items ≡ length v.lines.items → w.marks.items ≡ v.marks.items → HasSpace v ps → HasSpace w ps
@@ -101,7 +101,7 @@ space_as v w ps lines marks h = record {
 
 pub space_onward : (w : Work) (line line' r r' : ℕ) (i j : Instr) (a : Option Spot) (ps : List Place) → HasSpace w (onward a [] (alone line i r) ++ ps) → HasSpace w (onward a [] (alone line' j r') ++ ps)
 space_onward w line line' r r' i j None ps h = h
-space_onward w line line' r r' i j (Some s) ps h = space_spot w (placed line i r s) (placed line' j r' s) ps refl h
+space_onward w line line' r r' i j (Some s) ps h = space_spot w (place_of_instr line i r s) (place_of_instr line' j r' s) ps refl h
 
 -- ---- labels that are wanted
 
@@ -153,7 +153,7 @@ stands_more : (a b c : Configuration) (more : List Configuration) → StandsIn c
 stands_more a b c more h = (h.0, stays (a ∷ b ∷ []) more h.0 c h.1)
 
 -- a label before a block is that of its first instruction, or of what follows it
-pub covers_block : (plan : Plan) (r pc : ℕ) (b : Block) (s : Spot) (more : List Place) → ((u : Spot) → after plan b s ≡ Some u → Covers u more) → Covers s (places plan r pc b s ++ more)
+pub covers_block : (plan : Plan) (r pc : ℕ) (b : Block) (s : Spot) (more : List Place) → ((u : Spot) → spot_after plan b s ≡ Some u → Covers u more) → Covers s (places plan r pc b s ++ more)
 covers_block plan r pc b s more onward_to = λ l. elim (first_of plan r pc b s) [
   | inl none ↦ subst (λ ps. IsCovered s.flow (ps ++ more)) (sym none.0) (onward_to s none.1 l)
   | inr some ↦ record {
@@ -171,8 +171,8 @@ covers_block plan r pc b s more onward_to = λ l. elim (first_of plan r pc b s) 
 pub room_label : (w : Work) (t : Flow) (ps : List Place) → IsCovered t ps → HasSpace w ps → length w.marks.items + 1 ≤ 1024
 room_label w t ps cover h =
     let k = h.labels in
-    let e : labels_in ps ≡ labels_in (cover.place ∷ cover.rest) = ap labels_in cover.is in
-    let f : labels_in (cover.place ∷ cover.rest) ≡ 1 + labels_in cover.rest = ap (λ (b : Bool). if b then 1 + labels_in cover.rest else labels_in cover.rest) cover.labelled in
+    let e : count_of_labels ps ≡ count_of_labels (cover.place ∷ cover.rest) = ap count_of_labels cover.is in
+    let f : count_of_labels (cover.place ∷ cover.rest) ≡ 1 + count_of_labels cover.rest = ap (λ (b : Bool). if b then 1 + count_of_labels cover.rest else count_of_labels cover.rest) cover.labelled in
     omega (arith, k, e, f)
 
 -- and so have the configurations that it names
@@ -184,7 +184,7 @@ room_names w t ps table cover h =
     let room : HasRoomFor w.marks.table (p.spot.flow.current ∷ p.spot.flow.next ∷ more) = table.room (p.spot.flow.current ∷ p.spot.flow.next ∷ more) (subst (λ cs. HasRoomFor [] (named_by w.marks.items ++ cs)) e h.configurations) in
     room_fewer w.marks.table (t.current ∷ t.next ∷ []) (p.spot.flow.current ∷ p.spot.flow.next ∷ more) (λ c k. stands_more p.spot.flow.current p.spot.flow.next c more (cover.names c k)) room
 
--- the table after a label
+-- the table spot_after a label
 pub table_mark : (v w : Work) (one : List Configuration) (m : Mark) → Added m.flow.current v.marks.table one → Added m.flow.next one w.marks.table → w.marks.items ≡ v.marks.items ++ m ∷ [] → length w.marks.table ≤ 256 → HasTable v → HasTable w
 table_mark v w one m a b e few table = record {
   few = few;
@@ -209,14 +209,14 @@ pub err_each : {A : Type 0} (x : Result A CompileFault) {P Q : CompileFault → 
 err_each (Ok f) m h = h
 err_each (Err y) m h = m y h
 
-pub space_back : (w : Work) (falls : Bool) (m n : ℕ) (i : Instr) (ps : List Place) → falls ≡ true → HasSpace w (onward (way falls w) [] (alone m i n) ++ ps) → HasSpace w (placed m i n w.now ∷ ps)
+pub space_back : (w : Work) (falls : Bool) (m n : ℕ) (i : Instr) (ps : List Place) → falls ≡ true → HasSpace w (onward (way falls w) [] (alone m i n) ++ ps) → HasSpace w (place_of_instr m i n w.now ∷ ps)
 space_back w falls m n i ps e h = subst (λ f. HasSpace w (onward (way f w) [] (alone m i n) ++ ps)) e h
 
-pub space_end : (w : Work) (falls : Bool) (m n : ℕ) (i : Instr) → falls ≡ true → HasSpace w (onward (way falls w) [] (alone m i n)) → HasSpace w (placed m i n w.now ∷ [])
+pub space_end : (w : Work) (falls : Bool) (m n : ℕ) (i : Instr) → falls ≡ true → HasSpace w (onward (way falls w) [] (alone m i n)) → HasSpace w (place_of_instr m i n w.now ∷ [])
 space_end w falls m n i e h = subst (λ f. HasSpace w (onward (way f w) [] (alone m i n))) e h
 
--- after the way out of a first branch
-pub space_left : (v w : Work) (falls : Bool) (line r m n : ℕ) (i : Instr) (ps : List Place) → length w.lines.items ≡ length v.lines.items + length (lines_of (jumping falls line r v)) → w.marks.items ≡ v.marks.items ++ marks_of (length v.lines.items) (jumping falls line r v) → HasSpace v (onward (way falls v) [] (alone m i n) ++ ps) → HasSpace w ps
+-- spot_after the way out of a first branch
+pub space_left : (v w : Work) (falls : Bool) (line r m n : ℕ) (i : Instr) (ps : List Place) → length w.lines.items ≡ length v.lines.items + length (lines_of_places (jumping falls line r v)) → w.marks.items ≡ v.marks.items ++ marks_of (length v.lines.items) (jumping falls line r v) → HasSpace v (onward (way falls v) [] (alone m i n) ++ ps) → HasSpace w ps
 space_left v w falls line r m n i ps lines marks h =
     space_from v w (length v.lines.items) (jumping falls line r v) ps (let k = length_lines (jumping falls line r v) in omega (arith, lines, k)) marks (space_onward v m line n r i (Jump 0) (way falls v) ps h)
 

@@ -7,13 +7,13 @@ use Rattle.script_front.specs.declared.tree.Act.{Act}
 use Rattle.script_front.specs.declared.tree.Statement.{Statement}
 use Rattle.script_front.specs.Block.{Block, nothing, basic, stop, when, either, repeat, forever, apply, named_at, before, block_of}
 use Rattle.script_scheme.specs.declared.flow.Spot.{Spot}
-use Rattle.script_scheme.specs.Scheme.{known_at, moved, past, onward, alone, after, places, instr_of, falls_out}
+use Rattle.script_scheme.specs.Scheme.{known_at, moved, past, onward, alone, spot_after, places, instr_of_act, falls_out}
 use Rattle.plan_verifier.specs.Typing.{IsFine}
 use Rattle.script_scheme.specs.Judged.{IsJudged, Reached}
 use Rattle.script_scheme.specs.Compiled.{nested}
 use Rattle.script_compiler.specs.declared.work.Work.{Work}
 use Rattle.script_compiler.specs.declared.fault.CompileFault.{CompileFault}
-use Rattle.script_compiler.specs.Laying.{Lays, Left, Forks, ClosesIf, Turns, GoesRound, Arrives, kept, way, tables, lays_nothing}
+use Rattle.script_compiler.specs.Laying.{Lays, Left, Forks, ClosesIf, Turns, GoesRound, IsAfterBranches, spots_of, way, tables, lays_nothing}
 use Rattle.script_compiler.proofs.Trees.{statements_cut}
 use Rattle.script_compiler.proofs.Laid.{left_act, left_when, left_either, left_repeat, left_forever, left_then, left_apply, left_start}
 use Rattle.script_compiler.proofs.Weight.{tables_take, tables_length}
@@ -36,8 +36,8 @@ pub left_as : (plan : Plan) (r : ℕ) (old new : Work) (x : Result Bool CompileF
 left_as plan r old new (Ok f) shape shape' e h = λ rest. subst (λ b. Left plan r b old new f rest) (sym (e rest)) (h rest)
 left_as plan r old new (Err y) shape shape' e h = h
 
-pub act_step : (plan : Plan) (r line : ℕ) (a : Act) (v w : Work) (x : Result Bool CompileFault) → IfOk x (λ f. f ≡ true) → OnOk x (Lays v w (alone line (instr_of a) r v.now)) → OnOk x (w.now ≡ past (moved plan (instr_of a) v.now.flow)) → OnOk x (IsFine plan (instr_of a) (known_at v.now.flow)) → IfOk x (λ f. (rest : Block) → Left plan r (basic line a rest) v w f rest)
-act_step plan r line a v w x goes lays now fine = ok_true x _ _ goes (ok_both x _ _ lays (ok_both x _ _ now fine)) (λ (all : Lays v w (alone line (instr_of a) r v.now) × ((w.now ≡ past (moved plan (instr_of a) v.now.flow)) × IsFine plan (instr_of a) (known_at v.now.flow))) rest. left_act plan r line a rest v w all.0 all.1.0 all.1.1)
+pub act_step : (plan : Plan) (r line : ℕ) (a : Act) (v w : Work) (x : Result Bool CompileFault) → IfOk x (λ f. f ≡ true) → OnOk x (Lays v w (alone line (instr_of_act a) r v.now)) → OnOk x (w.now ≡ past (moved plan (instr_of_act a) v.now.flow)) → OnOk x (IsFine plan (instr_of_act a) (known_at v.now.flow)) → IfOk x (λ f. (rest : Block) → Left plan r (basic line a rest) v w f rest)
+act_step plan r line a v w x goes lays now fine = ok_true x _ _ goes (ok_both x _ _ lays (ok_both x _ _ now fine)) (λ (all : Lays v w (alone line (instr_of_act a) r v.now) × ((w.now ≡ past (moved plan (instr_of_act a) v.now.flow)) × IsFine plan (instr_of_act a) (known_at v.now.flow))) rest. left_act plan r line a rest v w all.0 all.1.0 all.1.1)
 
 module _ (plan : Plan) (r line c at : ℕ) (first : Block) (w0 w2 w3 w5 : Work) (f : Bool) (x : Result Bool CompileFault) where
   pub when_step :
@@ -51,12 +51,12 @@ module _ (plan : Plan) (r line c at jump : ℕ) (first second : Block) (w0 w2 w3
       r ≤ 8 → at ≡ length w0.lines.items → jump ≡ length w3.lines.items → Forks line (Test c 0) r w0 w2 → Left plan r first w2 w3 f1 nothing →
       ((front : List Spot) (entry : Spot) → w3.saved.items ≡ front ++ entry ∷ [] → Turns f1 line r c at front entry w3 w6) →
       Left plan r second w6 w7 f2 nothing →
-      ((front : List Spot) (a : Option Spot) → f1 ≡ is_some a → w7.saved.items ≡ front ++ kept a → Arrives a (way f2 w7) front line jump w7 w8 f) →
+      ((front : List Spot) (a : Option Spot) → f1 ≡ is_some a → w7.saved.items ≡ front ++ spots_of a → IsAfterBranches a (way f2 w7) front line jump w7 w8 f) →
       (rest : Block) → Left plan r (either line c first second rest) w0 w8 f rest
   either_step deep ea ej fork left turns left2 arrives rest =
       left_either plan r line c first second rest w0 w2 w3 w6 w7 w8 f1 f2 f deep fork left
       (λ front entry e. subst (λ n. Turns f1 line r c n front entry w3 w6) ea (turns front entry e)) left2
-      (λ front a g e. subst (λ n. Arrives a (way f2 w7) front line n w7 w8 f) ej (arrives front a g e))
+      (λ front a g e. subst (λ n. IsAfterBranches a (way f2 w7) front line n w7 w8 f) ej (arrives front a g e))
 
 module _ (plan : Plan) (r line n : ℕ) (body : Block) (w0 w1 w2 w3 w4 : Work) (f falls : Bool) (at k : ℕ) where
   pub repeat_step :
@@ -124,7 +124,7 @@ silent_named table silent k d e lt = by table k (omega (arith, lt, ap length e))
 
 record Silent (plan : Plan) (b : Block) (s : Spot) : Type 0 where
   empty : (r pc : ℕ) → places plan r pc b s ≡ []
-  leads : after plan b s ≡ Some s
+  leads : spot_after plan b s ≡ Some s
   judged : IsJudged plan b s
   flat : nested b ≡ 0
 
@@ -144,8 +144,8 @@ silent_block plan (apply line k name rest) s h =
     record {
       empty = λ r pc.
           let at : pc + length (places plan r pc name s) ≡ pc = let n = ap length (a.empty r pc) in omega (arith, n) in
-          ap (λ xs. xs ++ onward (after plan name s) [] (λ u. places plan r (pc + length (places plan r pc name s)) rest u)) (a.empty r pc) ∙ ap (λ w. onward w [] (λ u. places plan r (pc + length (places plan r pc name s)) rest u)) a.leads ∙ ap (λ n. places plan r n rest s) at ∙ b.empty r pc;
-      leads = ap (λ w. onward w None (λ u. after plan rest u)) a.leads ∙ b.leads;
+          ap (λ xs. xs ++ onward (spot_after plan name s) [] (λ u. places plan r (pc + length (places plan r pc name s)) rest u)) (a.empty r pc) ∙ ap (λ w. onward w [] (λ u. places plan r (pc + length (places plan r pc name s)) rest u)) a.leads ∙ ap (λ n. places plan r n rest s) at ∙ b.empty r pc;
+      leads = ap (λ w. onward w None (λ u. spot_after plan rest u)) a.leads ∙ b.leads;
       judged = (a.judged, subst (λ w. Reached w rest (λ u. IsJudged plan rest u)) (sym a.leads) b.judged);
       flat = let n = a.flat in let m = b.flat in omega (arith, n, m);
     }

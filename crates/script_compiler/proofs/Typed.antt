@@ -15,15 +15,15 @@ use Rattle.plan_code.specs.declared.label.Swap.TheVariants.{Idle, Within, Perhap
 use Rattle.plan_code.specs.declared.plan.Plan.{Plan}
 use Rattle.plan_code.specs.Flags.{is_set}
 use Rattle.plan_code.specs.Program.{Program, instr_at, label_at}
-use Rattle.plan_verifier.specs.Typing.{Known, FitsSwap, IsFine, swapped, waited, perhaps_swapped, paused, settled, spent, rested, leaves, target_of, continues, pages_alone, Declares, ComesTo, Arrives, HasOpening, IsPlaced, Reaches, IsAfter, IsSafe, IsTyped}
+use Rattle.plan_verifier.specs.Typing.{Known, FitsSwap, IsFine, known_after_swap, waited, perhaps_swapped, paused, settled, spent, rested, leaves, target_of, continues, pages_alone, Declares, ComesTo, Arrives, HasOpening, LabelStands, Reaches, IsAfter, IsSafe, IsTyped}
 use Rattle.script_front.specs.Block.{Block}
 use Rattle.script_front.specs.Tree.{Tree}
 use Rattle.script_scheme.specs.declared.flow.Flow.{Flow}
 use Rattle.script_scheme.specs.declared.flow.Spot.{Spot}
 use Rattle.script_scheme.specs.Scheme.{Place, known_at, flow_of, moved, past, all_places, mark_of, marks_of}
 use Rattle.script_scheme.specs.Judged.{IsJudged, FitsFlow}
-use Rattle.script_scheme.specs.Need.{suspends, GoesTo, IsNeed, IsWithin}
-use Rattle.script_scheme.specs.Compiled.{beginning, plan_of, opening_of, body_of, places_of, lines_of, instrs_of, first_counters, nested, IsLabelOf, AreLabelsOf, IsCodeOf, CostsItsNeeds, IsAccepted}
+use Rattle.script_scheme.specs.Need.{suspends, GoesTo, IsNeed, IsWithinBudget}
+use Rattle.script_scheme.specs.Compiled.{beginning, plan_of, opening_of, body_of, places_of, lines_of_places, instrs_of, first_counters, nested, IsLabelOf, AreLabelsOf, IsCodeOf, CostsItsNeeds, IsAccepted}
 use Rattle.script_compiler.specs.Longest.{longest}
 use Rattle.script_compiler.proofs.Paths.{one_least, need_most, need_onward, is_need}
 use Rattle.script_compiler.proofs.Laid.{length_lines}
@@ -52,22 +52,22 @@ waited_known : (plan : Plan) (frames : ℕ) (p : Swap) (f : Flow) (c : Counters)
 waited_known plan frames Idle f c a = refl
 waited_known plan frames (Within lo hi) f c a = by (nat_lt frames lo)
   where
-    by : (b : Bool) → rested plan (if b then record (known_with f c a) { pending = Within (lo - frames) (hi - frames) } else swapped (known_with f c a))
-        ≡ known_with (flow_of (if b then record (known_at f) { pending = Within (lo - frames) (hi - frames) } else swapped (known_at f))) c plan.budget
+    by : (b : Bool) → rested plan (if b then record (known_with f c a) { pending = Within (lo - frames) (hi - frames) } else known_after_swap (known_with f c a))
+        ≡ known_with (flow_of (if b then record (known_at f) { pending = Within (lo - frames) (hi - frames) } else known_after_swap (known_at f))) c plan.budget
     by true = refl
     by false = refl
 waited_known plan frames (Perhaps hi) f c a = by (nat_lt frames hi)
   where
-    by : (b : Bool) → rested plan (if b then record (known_with f c a) { pending = Perhaps (hi - frames) } else swapped (known_with f c a))
-        ≡ known_with (flow_of (if b then record (known_at f) { pending = Perhaps (hi - frames) } else swapped (known_at f))) c plan.budget
+    by : (b : Bool) → rested plan (if b then record (known_with f c a) { pending = Perhaps (hi - frames) } else known_after_swap (known_with f c a))
+        ≡ known_with (flow_of (if b then record (known_at f) { pending = Perhaps (hi - frames) } else known_after_swap (known_at f))) c plan.budget
     by true = refl
     by false = refl
 
 perhaps_known : (plan : Plan) (hi : ℕ) (f : Flow) (c : Counters) (a : ℕ) → rested plan (perhaps_swapped hi (known_with f c a)) ≡ known_with (flow_of (perhaps_swapped hi (known_at f))) c plan.budget
 perhaps_known plan hi f c a = by (nat_lt 1 hi)
   where
-    by : (b : Bool) → rested plan (if b then record (known_with f c a) { pending = Perhaps (hi - 1) } else swapped (known_with f c a))
-        ≡ known_with (flow_of (if b then record (known_at f) { pending = Perhaps (hi - 1) } else swapped (known_at f))) c plan.budget
+    by : (b : Bool) → rested plan (if b then record (known_with f c a) { pending = Perhaps (hi - 1) } else known_after_swap (known_with f c a))
+        ≡ known_with (flow_of (if b then record (known_at f) { pending = Perhaps (hi - 1) } else known_after_swap (known_at f))) c plan.budget
     by true = refl
     by false = refl
 
@@ -146,17 +146,17 @@ one_need instrs pc a b h k = let x = k.longest a h.path in let y = h.longest b k
 
 -- ---- places of a code
 
-instr_of_place : (ps : List Place) (pc : ℕ) (p : Place) → slice_get ps pc ≡ Some p → slice_get (instrs_of (lines_of ps)) pc ≡ Some p.instr
+instr_of_place : (ps : List Place) (pc : ℕ) (p : Place) → slice_get ps pc ≡ Some p → slice_get (instrs_of (lines_of_places ps)) pc ≡ Some p.instr
 instr_of_place [] pc p e = cc
 instr_of_place (q ∷ ps) zero p e = ap (λ (x : Place). Some x.instr) (some_same q p e)
 instr_of_place (q ∷ ps) (suc pc) p e = instr_of_place ps pc p e
 
-place_of : (ps : List Place) (pc : ℕ) (i : Instr) → option_map (λ l. l.instr) (slice_get (lines_of ps) pc) ≡ Some i → (p : Place) × (slice_get ps pc ≡ Some p) × (p.instr ≡ i)
+place_of : (ps : List Place) (pc : ℕ) (i : Instr) → option_map (λ l. l.instr) (slice_get (lines_of_places ps) pc) ≡ Some i → (p : Place) × (slice_get ps pc ≡ Some p) × (p.instr ≡ i)
 place_of [] pc i e = cc
 place_of (p ∷ ps) zero i e = (p, refl, some_same p.instr i e)
 place_of (p ∷ ps) (suc pc) i e = place_of ps pc i e
 
-instr_line : (ps : List Place) (pc : ℕ) (p : Place) → slice_get ps pc ≡ Some p → option_map (λ l. l.instr) (slice_get (lines_of ps) pc) ≡ Some p.instr
+instr_line : (ps : List Place) (pc : ℕ) (p : Place) → slice_get ps pc ≡ Some p → option_map (λ l. l.instr) (slice_get (lines_of_places ps) pc) ≡ Some p.instr
 instr_line [] pc p e = cc
 instr_line (q ∷ ps) zero p e = ap (λ (x : Place). Some x.instr) (some_same q p e)
 instr_line (q ∷ ps) (suc pc) p e = instr_line ps pc p e
@@ -171,7 +171,7 @@ module _ (code : Program) (whole : List Place) where
   plan = code.plan
 
   abbrev instrs : List Instr
-  instrs = instrs_of (lines_of whole)
+  instrs = instrs_of (lines_of_places whole)
 
   abbrev need : ℕ → ℕ
   need pc = longest instrs (plan.budget + 1) pc
@@ -196,7 +196,7 @@ module _ (code : Program) (whole : List Place) where
     onward : (q : Place) → following ≡ Some q → next ≡ Some (known_there (pc + 1) q (left_over plan p.instr t.allowance))
     connected : (q : Place) → following ≡ Some q → q.spot.labelled ≡ false → continues p.instr ≡ true
 
-  module _ (within : IsWithin plan.budget instrs) where
+  module _ (within : IsWithinBudget plan.budget instrs) where
     -- an instruction leaves what may run at any place that it continues to
     enough : (pc to : ℕ) (p : Place) (a : ℕ) → slice_get whole pc ≡ Some p → need pc ≤ a → (rests p.instr ≡ false → GoesTo p.instr pc to) → need to ≤ left_over plan p.instr a
     enough pc to p a e h g = by (rests p.instr) refl
@@ -273,7 +273,7 @@ module _ (code : Program) (whole : List Place) where
 
       -- ---- labels
 
-      module _ (lines_are : code.lines ≡ lines_of whole) (labels_are : AreLabelsOf code.configurations (marks_of 0 whole) code.labels) (costs : CostsItsNeeds code) where
+      module _ (lines_are : code.lines ≡ lines_of_places whole) (labels_are : AreLabelsOf code.configurations (marks_of 0 whole) code.labels) (costs : CostsItsNeeds code) where
         label_there : (pc : ℕ) (p : Place) → slice_get whole pc ≡ Some p → p.spot.labelled ≡ true → Found code.configurations pc p code.labels
         label_there pc p e l = let here : 0 + pc ≡ pc = omega arith in
             subst (λ n. Found code.configurations n p code.labels) here (label_found code.configurations whole code.labels 0 pc p labels_are e l)
@@ -362,10 +362,10 @@ module _ (code : Program) (whole : List Place) where
 
         safe : (pc : ℕ) (i : Instr) (t : Known) → instr_at code pc ≡ Some i → slice_get typing pc ≡ Some t → IsSafe code typing pc i t
         safe pc i t e f =
-            let there : option_map (λ l. l.instr) (slice_get (lines_of whole) pc) ≡ Some i = subst (λ ls. option_map (λ l. l.instr) (slice_get ls pc) ≡ Some i) lines_are e in
+            let there : option_map (λ l. l.instr) (slice_get (lines_of_places whole) pc) ≡ Some i = subst (λ ls. option_map (λ l. l.instr) (slice_get ls pc) ≡ Some i) lines_are e in
             let p = place_of whole pc i there in subst (λ x. IsSafe code typing pc x t) p.2 (safe_place pc p.0 t p.1 f)
 
-        placed_label : (l : Label) → Contains code.labels l → IsPlaced code typing l
+        placed_label : (l : Label) → Contains code.labels l → LabelStands code typing l
         placed_label l has =
             let m = label_contained code.configurations whole code.labels 0 l labels_are has in
             let here : 0 + m.index ≡ m.index = omega arith in
@@ -435,8 +435,8 @@ module _ (code : Program) (whole : List Place) where
 
 -- ---- the theorem
 
-pub typed_from : (code : Program) (last : ℕ) (b : Block) (c : Configuration) → code.lines ≡ lines_of (all_places code.plan last b (beginning c)) → AreLabelsOf code.configurations (marks_of 0 (all_places code.plan last b (beginning c))) code.labels → CostsItsNeeds code
-    → IsSound c → pages_alone code.plan c ≤ code.plan.period → nested b ≤ 8 → IsJudged code.plan b (beginning c) → IsWithin code.plan.budget (instrs_of (lines_of (all_places code.plan last b (beginning c)))) → IsTyped code
+pub typed_from : (code : Program) (last : ℕ) (b : Block) (c : Configuration) → code.lines ≡ lines_of_places (all_places code.plan last b (beginning c)) → AreLabelsOf code.configurations (marks_of 0 (all_places code.plan last b (beginning c))) code.labels → CostsItsNeeds code
+    → IsSound c → pages_alone code.plan c ≤ code.plan.period → nested b ≤ 8 → IsJudged code.plan b (beginning c) → IsWithinBudget code.plan.budget (instrs_of (lines_of_places (all_places code.plan last b (beginning c)))) → IsTyped code
 typed_from code last b c lines_are labels_are costs sound period deep judged within =
     let s = beginning c in
     let whole = all_places code.plan last b s in
@@ -458,6 +458,6 @@ accepted_typed s code a is costs =
     let e : plan_of s ≡ code.plan = sym is.plan in
     let places_are : places_of s ≡ all_places code.plan s.last_line b (beginning c) = ap (λ (p : Plan). all_places p s.last_line b (beginning c)) e in
     let deep : nested b ≤ 8 = a.repeats in
-    typed_from code s.last_line b c (is.lines ∙ ap lines_of places_are) (subst (λ ps. AreLabelsOf code.configurations (marks_of 0 ps) code.labels) places_are is.labels) costs a.sound
+    typed_from code s.last_line b c (is.lines ∙ ap lines_of_places places_are) (subst (λ ps. AreLabelsOf code.configurations (marks_of 0 ps) code.labels) places_are is.labels) costs a.sound
     (subst (λ (p : Plan). pages_alone p c ≤ p.period) e a.within_period) deep (subst (λ (p : Plan). IsJudged p b (beginning c)) e a.judged)
-    (subst (λ ps. IsWithin code.plan.budget (instrs_of (lines_of ps))) places_are (subst (λ (p : Plan). IsWithin p.budget (instrs_of (lines_of (places_of s)))) e a.within))
+    (subst (λ ps. IsWithinBudget code.plan.budget (instrs_of (lines_of_places ps))) places_are (subst (λ (p : Plan). IsWithinBudget p.budget (instrs_of (lines_of_places (places_of s)))) e a.within))

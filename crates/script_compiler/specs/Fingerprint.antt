@@ -29,13 +29,13 @@ set_word B = 8
 abbrev pub sub_word : Sub → ℕ
 sub_word s = mixed (mixed (s.id + 64 * (s.protection.level + set_word s.protection.set)) s.start) s.kbits
 
-abbrev pub component_word : Component → ℕ
-component_word (Sound ty sub) = sub + 64 * ty
-component_word (Stream ty sub) = sub + 64 * ty + 4096
-component_word (InPackets scid) = scid + 8192
+abbrev pub component_number : Component → ℕ
+component_number (Sound ty sub) = sub + 64 * ty
+component_number (Stream ty sub) = sub + 64 * ty + 4096
+component_number (InPackets scid) = scid + 8192
 
 abbrev pub service_word : Service → ℕ
-service_word s = mixed_all component_word (service_key s) s.components
+service_word s = mixed_all component_number (service_key s) s.components
 
 abbrev pub packet_word : Packet → ℕ
 packet_word p = mixed (mixed p.scid (p.sub + 4096 * (p.ty + (if p.dg then 64 else 0)))) p.address

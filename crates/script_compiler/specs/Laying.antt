@@ -8,9 +8,9 @@ use Rattle.plan_code.specs.declared.instr.Line.{Line}
 use Rattle.script_front.specs.declared.tree.Statement.{Statement}
 use Rattle.script_front.specs.Block.{Block, nothing, apply, table_of}
 use Rattle.script_scheme.specs.declared.flow.Spot.{Spot}
-use Rattle.script_scheme.specs.Scheme.{Place, onward, after, places, marks_of, alone, past, at_label, meet, join}
+use Rattle.script_scheme.specs.Scheme.{Place, onward, spot_after, places, marks_of, alone, past, at_label, meet, join}
 use Rattle.script_scheme.specs.Judged.{IsJudged, Reached, WaysAgree, BranchesAgree, ComesRound}
-use Rattle.script_scheme.specs.Compiled.{lines_of, nested}
+use Rattle.script_scheme.specs.Compiled.{lines_of_places, nested}
 use Rattle.script_compiler.specs.declared.work.Work.{Work}
 
 -- the meanings of defined blocks
@@ -25,7 +25,7 @@ lays_nothing _ = false
 
 -- these places have been added, and nothing more is saved
 pub record Lays (old new : Work) (ps : List Place) : Type 0 where
-  pub lines : new.lines.items ≡ old.lines.items ++ lines_of ps
+  pub lines : new.lines.items ≡ old.lines.items ++ lines_of_places ps
   pub marks : new.marks.items ≡ old.marks.items ++ marks_of (length old.lines.items) ps
   pub saved : new.saved.items ≡ old.saved.items
 
@@ -38,38 +38,38 @@ pub record Left (plan : Plan) (r : ℕ) (b : Block) (old new : Work) (goes_on : 
   pub laid : List Place
   pub lays : Lays old new laid
   pub whole : places plan r (length old.lines.items) b old.now ≡ laid ++ onward (way goes_on new) [] (λ u. places plan r (length new.lines.items) rest u)
-  pub leads : after plan b old.now ≡ onward (way goes_on new) None (λ u. after plan rest u)
+  pub leads : spot_after plan b old.now ≡ onward (way goes_on new) None (λ u. spot_after plan rest u)
   pub judged : Reached (way goes_on new) rest (λ u. IsJudged plan rest u) → IsJudged plan b old.now
   pub only : IsJudged plan b old.now → Reached (way goes_on new) rest (λ u. IsJudged plan rest u)
   pub repeats : r + nested rest ≤ 8 → r + nested b ≤ 8
   pub fewer : nested rest ≤ nested b
 
-abbrev pub line_at : ℕ → Instr → Line
-line_at line instr = record { number = line; instr = instr }
+abbrev pub line_of_instr : ℕ → Instr → Line
+line_of_instr line instr = record { number = line; instr = instr }
 
 -- an instruction has been added that is to jump forward, and what was known before it is saved
 pub record Forks (line : ℕ) (i : Instr) (r : ℕ) (old new : Work) : Type 0 where
-  pub lines : new.lines.items ≡ old.lines.items ++ line_at line i ∷ []
+  pub lines : new.lines.items ≡ old.lines.items ++ line_of_instr line i ∷ []
   pub marks : new.marks.items ≡ old.marks.items ++ marks_of (length old.lines.items) (alone line i r old.now)
   pub now : new.now ≡ past old.now.flow
   pub saved : new.saved.items ≡ old.saved.items ++ old.now ∷ []
 
--- a loop goes back to its head, if its body falls out; what was kept there is kept no more
+-- a loop goes back to its head, if its body falls out; what was spots_of there is spots_of no more
 pub record GoesRound (falls : Bool) (line r : ℕ) (back : Instr) (front : List Spot) (entry : Spot) (old new : Work) : Type 0 where
-  pub lines : new.lines.items ≡ old.lines.items ++ lines_of (onward (way falls old) [] (alone line back r))
+  pub lines : new.lines.items ≡ old.lines.items ++ lines_of_places (onward (way falls old) [] (alone line back r))
   pub marks : new.marks.items ≡ old.marks.items ++ marks_of (length old.lines.items) (onward (way falls old) [] (alone line back r))
   pub saved : new.saved.items ≡ front
   pub now : new.now ≡ (if falls then past old.now.flow else old.now)
   pub round : ComesRound (way falls old) entry
 
--- what is kept of a way
-abbrev pub kept : Option Spot → List Spot
-kept None = []
-kept (Some s) = s ∷ []
+-- what is spots_of of a way
+abbrev pub spots_of : Option Spot → List Spot
+spots_of None = []
+spots_of (Some s) = s ∷ []
 
 -- an `if` without `else` ends: its block's way, if there is one, and the one past it meet
 pub record ClosesIf (falls : Bool) (line contact at : ℕ) (front : List Spot) (entry : Spot) (old new : Work) : Type 0 where
-  pub lines : new.lines.items ≡ slice_set old.lines.items at (line_at line (Test contact (length old.lines.items)))
+  pub lines : new.lines.items ≡ slice_set old.lines.items at (line_of_instr line (Test contact (length old.lines.items)))
   pub marks : new.marks.items ≡ old.marks.items
   pub saved : new.saved.items ≡ front
   pub met : meet (way falls old) (Some entry) ≡ Some new.now
@@ -82,19 +82,19 @@ jumping falls line r w = onward (way falls w) [] (alone line (Jump 0) r)
 -- a first branch ends, and the second one begins with what was known before both
 pub record Turns (falls : Bool) (line r contact at : ℕ) (front : List Spot) (entry : Spot) (old new : Work) : Type 0 where
   pub lines :
-      new.lines.items ≡ slice_set (old.lines.items ++ lines_of (jumping falls line r old)) at
-      (line_at line (Test contact (length (old.lines.items ++ lines_of (jumping falls line r old)))))
+      new.lines.items ≡ slice_set (old.lines.items ++ lines_of_places (jumping falls line r old)) at
+      (line_of_instr line (Test contact (length (old.lines.items ++ lines_of_places (jumping falls line r old)))))
   pub marks : new.marks.items ≡ old.marks.items ++ marks_of (length old.lines.items) (jumping falls line r old)
   pub now : new.now ≡ at_label entry.flow
-  pub saved : new.saved.items ≡ front ++ kept (way falls old)
+  pub saved : new.saved.items ≡ front ++ spots_of (way falls old)
 
 -- a jump that a branch made is aimed at what follows
 abbrev pub aimed_at : Option Spot → ℕ → ℕ → List Line → List Line
 aimed_at None line jump code = code
-aimed_at (Some s) line jump code = slice_set code jump (line_at line (Jump (length code)))
+aimed_at (Some s) line jump code = slice_set code jump (line_of_instr line (Jump (length code)))
 
 -- both branches have been laid down, and what follows comes next
-pub record Arrives (a b : Option Spot) (front : List Spot) (line jump : ℕ) (old new : Work) (f : Bool) : Type 0 where
+pub record IsAfterBranches (a b : Option Spot) (front : List Spot) (line jump : ℕ) (old new : Work) (f : Bool) : Type 0 where
   pub lines : new.lines.items ≡ aimed_at a line jump old.lines.items
   pub marks : new.marks.items ≡ old.marks.items
   pub saved : new.saved.items ≡ front

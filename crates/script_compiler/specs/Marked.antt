@@ -7,7 +7,7 @@ use Rattle.script_scheme.specs.Compiled.{first_counters}
 use Rattle.script_compiler.specs.declared.short.ShortMark.{ShortMark}
 
 -- marks, and the table of the configurations that they name
-pub record Marked : Type 0 where
+pub record MarkedTable : Type 0 where
   pub items : List Mark
   pub table : List Configuration
 
@@ -26,13 +26,13 @@ mark_in table m =
     }
 
 -- a table of this length has the configurations of these marks
-abbrev pub AreWithin : ℕ → List ShortMark → Type 0
-AreWithin n [] = Unit {0}
-AreWithin n (m ∷ ms) = (m.cur < n) × (m.next < n) × AreWithin n ms
+abbrev pub AreInTable : ℕ → List ShortMark → Type 0
+AreInTable n [] = Unit {0}
+AreInTable n (m ∷ ms) = (m.cur < n) × (m.next < n) × AreInTable n ms
 
 -- the label that stands at a mark, with the number of its place as its cost
-abbrev pub label_at : List ℕ → ShortMark → Label
-label_at needs m =
+abbrev pub label_of_mark : List ℕ → ShortMark → Label
+label_of_mark needs m =
     record {
       pc = m.pc;
       cur = m.cur;

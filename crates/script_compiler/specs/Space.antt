@@ -5,26 +5,26 @@ use Rattle.plan_code.specs.declared.plan.Plan.{Plan}
 use Rattle.script_front.specs.Block.{Block}
 use Rattle.script_scheme.specs.declared.flow.Flow.{Flow}
 use Rattle.script_scheme.specs.declared.flow.Spot.{Spot}
-use Rattle.script_scheme.specs.Scheme.{Place, after, places, marks_of}
+use Rattle.script_scheme.specs.Scheme.{Place, spot_after, places, marks_of}
 use Rattle.script_scheme.specs.Judged.{IsJudged}
 use Rattle.script_scheme.specs.Compiled.{StandsIn, Tabled, nested}
 use Rattle.script_compiler.specs.declared.work.Work.{Work}
 use Rattle.script_compiler.specs.Room.{HasRoomFor, Leaves, named_by}
 
 -- the labels of places
-abbrev pub labels_in : List Place → ℕ
-labels_in [] = 0
-labels_in (p ∷ ps) = if p.spot.labelled then 1 + labels_in ps else labels_in ps
+abbrev pub count_of_labels : List Place → ℕ
+count_of_labels [] = 0
+count_of_labels (p ∷ ps) = if p.spot.labelled then 1 + count_of_labels ps else count_of_labels ps
 
 -- the configurations that they name
 abbrev pub names_of : List Place → List Configuration
 names_of [] = []
 names_of (p ∷ ps) = if p.spot.labelled then p.spot.flow.current ∷ p.spot.flow.next ∷ names_of ps else names_of ps
 
--- after what has been laid down there is room for these places
+-- spot_after what has been laid down there is room for these places
 pub record HasSpace (w : Work) (ps : List Place) : Type 0 where
   pub lines : length w.lines.items + length ps ≤ 4096
-  pub labels : length w.marks.items + labels_in ps ≤ 1024
+  pub labels : length w.marks.items + count_of_labels ps ≤ 1024
   pub configurations : HasRoomFor [] (named_by w.marks.items ++ names_of ps)
 
 -- the table of configurations is what its labels make it
@@ -49,7 +49,7 @@ pub record CanLay (plan : Plan) (r : ℕ) (b : Block) (w : Work) : Type 0 where
   pub judged : IsJudged plan b w.now
   pub deep : r + nested b ≤ 8
   pub more : List Place
-  pub onward : (u : Spot) → after plan b w.now ≡ Some u → Covers u more
+  pub onward : (u : Spot) → spot_after plan b w.now ≡ Some u → Covers u more
   pub space : HasSpace w (places plan r (length w.lines.items) b w.now ++ more)
 
 -- places within the limits of codes

@@ -2,9 +2,9 @@
 
 ghost use Rattle.std.specs.Prelude.{◌≡◌, ◌≢◌, ℕ, ◌<◌, ◌≤◌, [], length, map, slice_index, IsOk, IfOk, IfErr};
 ghost use Rattle.script_scheme.specs.Scheme.{falls_out, all_places, marks_of};
-ghost use Rattle.script_scheme.specs.Compiled.{plan_of, lines_of, body_of, beginning, opening_of, places_of, instrs_of, nested, AreFine, Tabled, IsCodeOf, CostsItsNeeds, IsAccepted};
+ghost use Rattle.script_scheme.specs.Compiled.{plan_of, lines_of_places, body_of, beginning, opening_of, places_of, instrs_of, nested, AreFine, Tabled, IsCodeOf, CostsItsNeeds, IsAccepted};
 ghost use Rattle.script_scheme.specs.Judged.{IsJudged};
-ghost use Rattle.script_scheme.specs.Need.{IsWithin};
+ghost use Rattle.script_scheme.specs.Need.{IsWithinBudget};
 ghost use Rattle.mux_config.specs.Configuration.{nothing};
 ghost use Rattle.mux_config.specs.Sound.{IsSound};
 ghost use Rattle.script_compiler.specs.Laying.{tables, lays_nothing};
@@ -70,7 +70,7 @@ fn plan_of(script: &Script) -> Plan
 
 /// All that is laid down of a script that begins with this configuration.
 fn lay(alloc: Global, plan: &Plan, script: &Script, config: &Config) -> Result<Work, CompileFault>
-    ensures lines { IfOk result (λ w. w.lines.items ≡ lines_of (all_places plan.now
+    ensures lines { IfOk result (λ w. w.lines.items ≡ lines_of_places (all_places plan.now
         script.now.last_line (body_of script.now) (beginning config.now))) }
     ensures marks { IfOk result (λ w. w.marks.items ≡ marks_of 0 (all_places plan.now
         script.now.last_line (body_of script.now) (beginning config.now))) }
@@ -179,8 +179,8 @@ pub fn compile(alloc: Global, script: &Script) -> Result<Code, CompileFault>
     ensures sound { IsOk result → IsSound (opening_of script.now) }
     ensures within_period { IsOk result → pages_alone (plan_of script.now)
         (opening_of script.now) ≤ script.now.header.period }
-    ensures within_budget { IsOk result → IsWithin script.now.header.budget
-        (instrs_of (lines_of (places_of script.now))) }
+    ensures within_budget { IsOk result → IsWithinBudget script.now.header.budget
+        (instrs_of (lines_of_places (places_of script.now))) }
     ensures typed { IfOk result (λ c. IsTyped c) }
     ensures plays { IfOk result (λ c. PlaysAsItReads script.now c) }
     ensures refused { IfErr result (λ e. e ≢ Memory → IsAccepted script.now → ⊥) }

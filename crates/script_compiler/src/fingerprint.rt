@@ -1,7 +1,7 @@
 //! Fingerprints, which tell most configurations apart without a look at their parts.
 
 ghost use Rattle.std.specs.Prelude.{◌≡◌};
-ghost use Rattle.script_compiler.specs.Fingerprint.{mixed, mixed_all, sub_word, service_word, component_word, packet_word, print_of};
+ghost use Rattle.script_compiler.specs.Fingerprint.{mixed, mixed_all, sub_word, service_word, component_number, packet_word, print_of};
 
 use mux_config::{Component, Config, Keyed, Packet, Service, Sub};
 use mux_eep::EepSet;
@@ -33,7 +33,7 @@ fn sub_word(sub: &Sub) -> u64
 
 /// The parts of a component in one word.
 fn component_word(component: &Component) -> u64
-    ensures { result ≡ component_word component.now }
+    ensures { result ≡ component_number component.now }
 {
     match *component {
         Component::Sound { ty, sub } => u64::from(sub.get()) + 64 * u64::from(ty.get()),

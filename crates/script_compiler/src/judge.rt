@@ -6,9 +6,9 @@ ghost use Rattle.mux_config.specs.Sound.{IsSound};
 ghost use Rattle.plan_code.specs.Machine.{IsSwapCount};
 ghost use Rattle.plan_code.specs.declared.instr.Instr.TheVariants.{CommitIn, CommitAt};
 ghost use Rattle.plan_code.specs.declared.label.Swap.TheVariants.{Idle};
-ghost use Rattle.plan_verifier.specs.Typing.{pages_alone, swapped, waited, paused, perhaps_swapped, settled, HasRoom, IsCertain, IsSurelyPending, IsFine};
+ghost use Rattle.plan_verifier.specs.Typing.{pages_alone, known_after_swap, waited, paused, perhaps_swapped, settled, HasRoom, IsCertain, IsSurelyPending, IsFine};
 ghost use Rattle.script_compiler.specs.declared.fault.CompileFault.TheVariants.{Limit};
-ghost use Rattle.script_scheme.specs.Scheme.{known_at, flow_of, moved, instr_of};
+ghost use Rattle.script_scheme.specs.Scheme.{known_at, flow_of, moved, instr_of_act};
 
 use crate::fault::CompileFault;
 use fib_carousel::pages;
@@ -22,7 +22,7 @@ use script_scheme::Flow;
 
 /// The instruction of a statement that is one.
 pub(crate) fn instr_of(act: Act) -> Instr
-    ensures { result ≡ instr_of act }
+    ensures { result ≡ instr_of_act act }
 {
     match act {
         Act::Edit(edit) => Instr::Edit(edit),
@@ -136,7 +136,7 @@ fn commit_at(plan: &Plan, count: u16, flow: &mut Flow) -> Result<(), Cause>
 
 /// The swap has been made.
 fn swap(flow: &mut Flow)
-    ensures { flow.new ≡ flow_of (swapped (known_at flow.old)) }
+    ensures { flow.new ≡ flow_of (known_after_swap (known_at flow.old)) }
 {
     flow.current.copy_from(&flow.next);
     flow.pending = Swap::Idle;
@@ -195,7 +195,7 @@ fn pause(flow: &mut Flow)
 
 /// Waits for the swap: refused is `JoinIdle`, where it may be that none is pending.
 fn join(flow: &mut Flow) -> Result<(), Cause>
-    ensures left { OnOk result (flow.new ≡ flow_of (swapped (known_at flow.old))) }
+    ensures left { OnOk result (flow.new ≡ flow_of (known_after_swap (known_at flow.old))) }
     ensures fine { IsOk result ↔ IsSurelyPending flow.old.pending }
 {
     match flow.pending {
@@ -220,8 +220,8 @@ fn settle(flow: &mut Flow)
 
 /// What is known after a statement that is one instruction, or why it is refused.
 fn step(plan: &Plan, act: Act, flow: &mut Flow) -> Result<(), Cause>
-    ensures left { OnOk result (flow.new ≡ moved plan.now (instr_of act) flow.old) }
-    ensures fine { IsOk result ↔ IsFine plan.now (instr_of act) (known_at flow.old) }
+    ensures left { OnOk result (flow.new ≡ moved plan.now (instr_of_act act) flow.old) }
+    ensures fine { IsOk result ↔ IsFine plan.now (instr_of_act act) (known_at flow.old) }
 {
     match act {
         Act::Edit(edit) => return change(edit, flow),
@@ -239,8 +239,8 @@ fn step(plan: &Plan, act: Act, flow: &mut Flow) -> Result<(), Cause>
 /// The same, where the statement stands in this line. It may stand there exactly where its instruction needs no more
 /// than what is known.
 pub(crate) fn judge(plan: &Plan, line: u16, act: Act, flow: &mut Flow) -> Result<(), CompileFault>
-    ensures left { OnOk result (flow.new ≡ moved plan.now (instr_of act) flow.old) }
-    ensures fine { IsOk result ↔ IsFine plan.now (instr_of act) (known_at flow.old) }
+    ensures left { OnOk result (flow.new ≡ moved plan.now (instr_of_act act) flow.old) }
+    ensures fine { IsOk result ↔ IsFine plan.now (instr_of_act act) (known_at flow.old) }
     ensures unlimited { IfErr result (λ e. e ≢ Limit) }
 {
     match step(plan, act, flow) {

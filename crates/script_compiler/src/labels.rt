@@ -2,7 +2,7 @@
 
 ghost use Rattle.std.specs.Prelude.{◌≡◌, ℕ, ◌<◌, ◌≤◌, None, [], ◌∷◌, ◌++◌, map, slice_index, OnOk, IfOk, IfErr, IfSome};
 ghost use Rattle.script_scheme.specs.Compiled.{first_counters};
-ghost use Rattle.script_compiler.specs.Marked.{label_at, AreShallow};
+ghost use Rattle.script_compiler.specs.Marked.{label_of_mark, AreShallow};
 ghost use Rattle.script_compiler.specs.Refusals.{IsRefusal};
 ghost use Rattle.script_compiler.specs.declared.fault.CompileFault.TheVariants.{Limit, Memory};
 
@@ -30,7 +30,7 @@ fn first_counters(count: u8) -> Option<Counters>
 /// The label that stands at a mark.
 fn label_of(mark: &ShortMark, needs: &[u16]) -> Result<Label, CompileFault>
     requires bytes { (pc : ℕ) → slice_index needs.now pc ≤ 255 }
-    ensures made { IfOk result (λ l. l ≡ label_at needs.now mark.now) }
+    ensures made { IfOk result (λ l. l ≡ label_of_mark needs.now mark.now) }
     ensures limited { IfErr result (λ e. (e ≡ Limit) × (8 < mark.now.repeats)) }
 {
     let Some(counters) = first_counters(mark.repeats) else {
@@ -68,7 +68,7 @@ pub(crate) fn labels_of(
     needs: &[u16],
 ) -> Result<Vec<Label>, CompileFault>
     requires { (pc : ℕ) → slice_index needs.now pc ≤ 255 }
-    ensures labels { IfOk result (λ l. l.items ≡ map (label_at needs.now) marks.now) }
+    ensures labels { IfOk result (λ l. l.items ≡ map (label_of_mark needs.now) marks.now) }
     ensures refused { IfErr result (λ e. IsRefusal e → ⊥) }
     ensures limited { IfErr result (λ e. e ≡ Limit → AreShallow 8 marks.now → ⊥) }
 {

@@ -26,16 +26,16 @@ pub(crate) struct Marks {
 
 impl Model for Marks {
     ghost use Rattle.std.specs.Prelude.{length, map};
-    ghost use Rattle.script_compiler.specs.Marked.{Marked, mark_in, AreWithin};
+    ghost use Rattle.script_compiler.specs.Marked.{MarkedTable, mark_in, AreInTable};
 
-    ghost Value = { Marked };
+    ghost Value = { MarkedTable };
 
     ghost view = { λ m. record {
       items = map (mark_in m.table.items) m.short.items;
       table = m.table.items;
     } };
 
-    ghost invariant = { λ m. AreWithin (length m.table.items) m.short.items };
+    ghost invariant = { λ m. AreInTable (length m.table.items) m.short.items };
 }
 
 impl Marks {

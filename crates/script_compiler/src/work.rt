@@ -4,14 +4,14 @@ ghost use Rattle.std.specs.Prelude.{◌≡◌, ◌≢◌, ℕ, ◌+◌, ◌<◌,
 ghost use Rattle.plan_code.specs.declared.instr.Instr.{Instr};
 ghost use Rattle.plan_code.specs.declared.instr.Instr.TheVariants.{End};
 ghost use Rattle.script_scheme.specs.declared.flow.Spot.{Spot};
-ghost use Rattle.script_scheme.specs.Scheme.{Place, past, at_label, known_at, moved, alone, onward, meet, join, marks_of, instr_of};
+ghost use Rattle.script_scheme.specs.Scheme.{Place, past, at_label, known_at, moved, alone, onward, meet, join, marks_of, instr_of_act};
 ghost use Rattle.script_scheme.specs.Judged.{WaysAgree, BranchesAgree, ComesRound};
 ghost use Rattle.plan_verifier.specs.Typing.{IsFine};
-ghost use Rattle.script_scheme.specs.Compiled.{lines_of};
+ghost use Rattle.script_scheme.specs.Compiled.{lines_of_places};
 ghost use Rattle.script_compiler.specs.Refusals.{IsRefusal};
 ghost use Rattle.script_compiler.specs.Space.{HasSpace, HasTable, IsCovered, Covers};
 ghost use Rattle.script_compiler.specs.declared.fault.CompileFault.TheVariants.{Limit};
-ghost use Rattle.script_compiler.specs.Laying.{Lays, Forks, ClosesIf, Turns, GoesRound, Arrives, jumping, line_at, way, kept};
+ghost use Rattle.script_compiler.specs.Laying.{Lays, Forks, ClosesIf, Turns, GoesRound, IsAfterBranches, jumping, line_of_instr, way, spots_of};
 
 use crate::fault::CompileFault;
 use crate::judge::{instr_of, judge};
@@ -93,7 +93,7 @@ impl Work {
         ensures marks { self.new.marks ≡ self.old.marks }
         ensures now { self.new.now ≡ self.old.now }
         ensures lines { OnOk result (self.new.lines.items ≡ self.old.lines.items
-            ++ line_at line instr ∷ []) }
+            ++ line_of_instr line instr ∷ []) }
         ensures room { OnOk result (length self.new.lines.items ≤ 4096) }
         ensures refused { IfErr result (λ e. IsRefusal e → ⊥) }
         ensures table { HasTable self.new }
@@ -142,13 +142,13 @@ impl Work {
         requires table { HasTable self.old }
         ensures goes_on { IfOk result (λ f. f ≡ true) }
         ensures lays { OnOk result (Lays self.old self.new
-            (alone line (instr_of act.now) counters self.old.now)) }
+            (alone line (instr_of_act act.now) counters self.old.now)) }
         ensures now { OnOk result (self.new.now ≡ past
-            (moved plan.now (instr_of act.now) self.old.now.flow)) }
-        ensures fine { OnOk result (IsFine plan.now (instr_of act.now)
+            (moved plan.now (instr_of_act act.now) self.old.now.flow)) }
+        ensures fine { OnOk result (IsFine plan.now (instr_of_act act.now)
             (known_at self.old.now.flow)) }
         ensures room { OnOk result (length self.new.lines.items ≤ 4096) }
-        ensures refused { IfErr result (λ e. IsRefusal e → IsFine plan.now (instr_of act.now)
+        ensures refused { IfErr result (λ e. IsRefusal e → IsFine plan.now (instr_of_act act.now)
             (known_at self.old.now.flow) → ⊥) }
         ensures table { OnOk result (HasTable self.new) }
         ensures limited { IfErr result (λ e. e ≡ Limit → (p : Place) (ps : List Place)
@@ -231,7 +231,7 @@ impl Work {
         requires there { at < length self.old.lines.items }
         requires table { HasTable self.old }
         ensures lines { self.new.lines.items ≡ slice_set self.old.lines.items at
-            (line_at line instr) }
+            (line_of_instr line instr) }
         ensures marks { self.new.marks ≡ self.old.marks }
         ensures now { self.new.now ≡ self.old.now }
         ensures saved { self.new.saved ≡ self.old.saved }
@@ -385,11 +385,11 @@ impl Work {
         requires room { length self.old.lines.items ≤ 4096 }
         requires table { HasTable self.old }
         ensures lines { OnOk result (self.new.lines.items ≡ self.old.lines.items
-            ++ lines_of (jumping falls line counters self.old)) }
+            ++ lines_of_places (jumping falls line counters self.old)) }
         ensures marks { OnOk result (self.new.marks.items ≡ self.old.marks.items
             ++ marks_of (length self.old.lines.items) (jumping falls line counters self.old)) }
         ensures saved { OnOk result (self.new.saved.items ≡ self.old.saved.items
-            ++ kept (way falls self.old)) }
+            ++ spots_of (way falls self.old)) }
         ensures room { OnOk result (length self.new.lines.items ≤ 4096) }
         ensures table { OnOk result (HasTable self.new) }
         ensures refused { IfErr result (λ e. IsRefusal e → ⊥) }
@@ -454,17 +454,17 @@ impl Work {
         requires table { HasTable self.old }
         ensures arrives { IfOk result (λ f. (front : List Spot) (a : Option Spot) → first
             ≡ is_some a
-            → self.old.saved.items ≡ front ++ kept a → Arrives a (way second self.old) front line
-            jump self.old self.new f) }
+            → self.old.saved.items ≡ front ++ spots_of a
+            → IsAfterBranches a (way second self.old) front line jump self.old self.new f) }
         ensures room { OnOk result (length self.new.lines.items ≤ 4096) }
         ensures refused { IfErr result (λ e. IsRefusal e → (front : List Spot) (a : Option Spot)
             → first
             ≡ is_some a
             → self.old.saved.items ≡ front
-            ++ kept a → BranchesAgree a (way second self.old) → ⊥) }
+            ++ spots_of a → BranchesAgree a (way second self.old) → ⊥) }
         ensures table { OnOk result (HasTable self.new) }
         ensures limited { IfErr result (λ e. e ≡ Limit → (front : List Spot) (a : Option Spot)
-            → first ≡ is_some a → self.old.saved.items ≡ front ++ kept a → (ps : List Place)
+            → first ≡ is_some a → self.old.saved.items ≡ front ++ spots_of a → (ps : List Place)
             → ((u : Spot) → join a (way second self.old) ≡ Some u → Covers u ps)
             → HasSpace self.old ps → ⊥) }
     {

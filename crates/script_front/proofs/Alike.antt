@@ -9,15 +9,15 @@ use Rattle.fib_codec.specs.declared.modes.Mode.TheVariants.{I, II, III, IV}
 use Rattle.script_front.specs.declared.tree.Header.{Header}
 use Rattle.script_front.specs.declared.tree.Item.{Item}
 use Rattle.script_front.specs.declared.tree.Statement.{Statement}
-use Rattle.script_words.specs.declared.keyword.Keyword.TheVariants as the
-use Rattle.script_words.specs.Words.{Word, the as grammar, letters}
+use Rattle.script_tokens.specs.declared.keyword.Keyword.TheVariants as the
+use Rattle.script_tokens.specs.Words.{Word, the as grammar, letters}
 use Rattle.script_words.specs.Spelling.{hex_word}
 use Rattle.script_front.specs.Block.{Block, nothing, basic, stop, when, either, repeat, forever, apply, block_of}
-use Rattle.script_front.specs.Tree.{IsHeader, IsItem, AreDifferent, Fits}
+use Rattle.script_front.specs.Tree.{IsHeader, IsItem, AreNamedApart, IsInBounds}
 use Rattle.script_front.specs.Spelled.{name_at, act_words, braced, block_words, mode_words, header_words, items_words, defined_words, begin_words}
 use Rattle.script_front.specs.Parsing.{Stops, BeginsNoItem, CanDefine}
 use Rattle.script_front.specs.Alike.{unlined, said_by, added_by, ScriptsHaveTheirOwnTokens}
-use Rattle.script_words.proofs.Keys.{word_the, first_is, rest_is}
+use Rattle.script_tokens.proofs.Keys.{word_the, first_is, rest_is}
 use Rattle.script_front.proofs.Finding.{number, number_decimal, four_of, four_again}
 use Rattle.script_front.proofs.Edits.{Same, both_same, number_at, key_at, same_edit, same_act}
 use Rattle.script_front.proofs.Refusing.{act_key, act_begins, mode_front}
@@ -25,7 +25,7 @@ use Rattle.script_front.proofs.ItemLists.{item_first, all_later, none_here}
 use Rattle.script_front.proofs.Definitions.{name_front}
 use Rattle.script_front.proofs.Blocks.{act_key_begins, key_is, all_read, after_act, after_stop, after_apply, in_braces, braced_then, after_forever, after_repeat, after_if, no_else}
 use Rattle.script_front.proofs.Undefined.{first_words, behind_first, append_none, after_items, items_end, can_define}
-use Rattle.script_words.specs.Reading.{Spelled}
+use Rattle.script_tokens.specs.Reading.{Spelled}
 
 -- ---- the header
 
@@ -89,7 +89,7 @@ same_items (i ∷ is) (j ∷ js) xs ys h k m n e =
 abbrev Told : List (List ℕ) → Type 0
 Told names = (m n : ℕ) → m < length names → n < length names → name_at names m ≡ name_at names n → m ≡ n
 
-told_apart : (names ns : List (List ℕ)) → AreDifferent (names ++ ns) → Told names
+told_apart : (names ns : List (List ℕ)) → AreNamedApart (names ++ ns) → Told names
 told_apart names ns h m n a b e =
     let l = length-append names ns in
     let same : name_at (names ++ ns) m ≡ name_at (names ++ ns) n = sym (name_front names ns m a) ∙ e ∙ name_front names ns n b in
@@ -106,7 +106,7 @@ opened : (names : List (List ℕ)) (body other : Block) (tail xs more : Spelled)
     → block_words names body ++ letters the.CloseBrace ∷ (tail ++ xs) ≡ block_words names other ++ letters the.CloseBrace ∷ more
 opened names body other tail xs more e = rest_is _ _ _ _ (sym (braced_then names body tail xs) ∙ e)
 
-same_block : (names : List (List ℕ)) → Told names → (depth : ℕ) (b c : Block) (xs ys : Spelled) → Fits (length names) depth b → Fits (length names) depth c → Stops xs → Stops ys
+same_block : (names : List (List ℕ)) → Told names → (depth : ℕ) (b c : Block) (xs ys : Spelled) → IsInBounds (length names) depth b → IsInBounds (length names) depth c → Stops xs → Stops ys
     → block_words names b ++ xs ≡ block_words names c ++ ys → Same Block (unlined b) (unlined c) xs ys
 same_block names told depth nothing c xs ys f g h k e =
     let none = all_read names c ys xs k h e in record { one = ap unlined (sym none); rest = e ∙ ap (λ (b : Block). block_words names b ++ ys) none }
@@ -216,8 +216,8 @@ scripts_alike s t x y e =
     let b : Block = block_of [] s.statements in
     let c : Block = block_of [] t.statements in
     let w : block_words s.names b ≡ block_words s.names c = rest_is _ _ _ _ d.rest ∙ ap (λ (ns : List (List ℕ)). block_words ns c) (sym d.names) in
-    let told = told_apart s.names [] (subst AreDifferent (sym (append_none s.names)) x.different) in
-    let one = subst (λ (n : ℕ). Fits n 16 b) (sym x.defined) x.fits in
-    let other = subst (λ (n : ℕ). Fits n 16 c) (sym y.defined ∙ ap length (sym d.names)) y.fits in
+    let told = told_apart s.names [] (subst AreNamedApart (sym (append_none s.names)) x.different) in
+    let one = subst (λ (n : ℕ). IsInBounds n 16 b) (sym x.defined) x.fits in
+    let other = subst (λ (n : ℕ). IsInBounds n 16 c) (sym y.defined ∙ ap length (sym d.names)) y.fits in
     let u = same_block s.names told 16 b c [] [] one other tt tt (ap (λ (ws : Spelled). ws ++ []) w) in
     record { header = a.one; items = i.one; names = d.names; blocks = d.blocks; statements = u.one }

@@ -4,17 +4,17 @@ use Rattle.std.proofs.lemmas.Bool.{false≢true}
 use Rattle.std.specs.Fmt.{decimal}
 use Rattle.script_front.specs.declared.tree.Act.{Act}
 use Rattle.script_front.specs.declared.tree.Act.TheVariants.{Edit as Edits, Wait, WaitContact, Until, CommitIn, CommitAt, Join, Settle}
-use Rattle.script_words.specs.declared.keyword.Keyword.{Keyword}
-use Rattle.script_words.specs.declared.keyword.Keyword.TheVariants as the
-use Rattle.script_words.specs.Words.{letters}
+use Rattle.script_tokens.specs.declared.keyword.Keyword.{Keyword}
+use Rattle.script_tokens.specs.declared.keyword.Keyword.TheVariants as the
+use Rattle.script_tokens.specs.Words.{letters}
 use Rattle.script_front.specs.Block.{Block, nothing, basic, stop, when, either, repeat, forever, apply}
 use Rattle.script_front.specs.Alike.{unlined}
-use Rattle.script_front.specs.Tree.{IsAct, Fits, counted}
+use Rattle.script_front.specs.Tree.{IsAct, IsInBounds, counted}
 use Rattle.script_front.specs.Spelled.{name_at, act_words, braced, block_words}
 use Rattle.script_front.specs.Parsing.{Stops}
-use Rattle.script_words.proofs.Keys.{first_is, rest_is, same_key, letters_injective}
+use Rattle.script_tokens.proofs.Keys.{first_is, rest_is, same_key, letters_injective}
 use Rattle.script_front.proofs.Refusing.{act_key, act_begins, key_of_act, begins_edit, edit_key_begins}
-use Rattle.script_words.specs.Reading.{Spelled}
+use Rattle.script_tokens.specs.Reading.{Spelled}
 
 -- ---- first words
 
@@ -127,11 +127,11 @@ pub record AfterAct (names : List (List ℕ)) (known depth : ℕ) (k : Keyword) 
   pub next : Block
   pub is : unlined b ≡ basic 0 act (unlined next)
   pub formed : IsAct act
-  pub fits : Fits known depth next
+  pub fits : IsInBounds known depth next
   pub counts : counted b ≡ 1 + counted next
   pub words : letters k ∷ ws ≡ act_words act ++ (block_words names next ++ rest)
 
-pub after_act : (names : List (List ℕ)) (known depth : ℕ) (k : Keyword) (ws : Spelled) (b : Block) (rest : Spelled) → begins_act k ≡ true → key b ≡ k → Fits known depth b
+pub after_act : (names : List (List ℕ)) (known depth : ℕ) (k : Keyword) (ws : Spelled) (b : Block) (rest : Spelled) → begins_act k ≡ true → key b ≡ k → IsInBounds known depth b
     → letters k ∷ ws ≡ block_words names b ++ rest → AfterAct names known depth k ws b rest
 after_act names known depth k ws nothing rest act e f eq = let g : begins_act the.CloseBrace ≡ true = ap begins_act e ∙ act in absurd (false≢true g)
 after_act names known depth k ws (basic line a r) rest act e f eq = record {
@@ -153,11 +153,11 @@ after_act names known depth k ws (apply line number named r) rest act e f eq = l
 pub record AfterStop (names : List (List ℕ)) (known depth : ℕ) (ws : Spelled) (b : Block) (rest : Spelled) : Type 0 where
   pub next : Block
   pub is : unlined b ≡ stop 0 (unlined next)
-  pub fits : Fits known depth next
+  pub fits : IsInBounds known depth next
   pub counts : counted b ≡ 1 + counted next
   pub words : ws ≡ block_words names next ++ rest
 
-pub after_stop : (names : List (List ℕ)) (known depth : ℕ) (ws : Spelled) (b : Block) (rest : Spelled) → key b ≡ the.End → Fits known depth b
+pub after_stop : (names : List (List ℕ)) (known depth : ℕ) (ws : Spelled) (b : Block) (rest : Spelled) → key b ≡ the.End → IsInBounds known depth b
     → letters the.End ∷ ws ≡ block_words names b ++ rest → AfterStop names known depth ws b rest
 after_stop names known depth ws (stop line r) rest e f eq = record { next = r; is = refl; fits = f; counts = refl; words = rest_is _ _ _ _ eq }
 after_stop names known depth ws (basic line a r) rest e f eq = absurd (no_act_key the.End a refl e)
@@ -173,11 +173,11 @@ pub record AfterApply (names : List (List ℕ)) (known depth : ℕ) (ws : Spelle
   pub next : Block
   pub is : unlined b ≡ apply 0 number nothing (unlined next)
   pub in_range : number < known
-  pub fits : Fits known depth next
+  pub fits : IsInBounds known depth next
   pub counts : counted b ≡ 1 + counted next
   pub words : ws ≡ name_at names number ∷ (block_words names next ++ rest)
 
-pub after_apply : (names : List (List ℕ)) (known depth : ℕ) (ws : Spelled) (b : Block) (rest : Spelled) → key b ≡ the.Apply → Fits known depth b
+pub after_apply : (names : List (List ℕ)) (known depth : ℕ) (ws : Spelled) (b : Block) (rest : Spelled) → key b ≡ the.Apply → IsInBounds known depth b
     → letters the.Apply ∷ ws ≡ block_words names b ++ rest → AfterApply names known depth ws b rest
 after_apply names known depth ws (apply line number named r) rest e f eq = record { number = number; next = r; is = refl; in_range = f.0; fits = f.1; counts = refl; words = rest_is _ _ _ _ eq }
 after_apply names known depth ws (basic line a r) rest e f eq = absurd (no_act_key the.Apply a refl e)
@@ -200,12 +200,12 @@ pub record AfterForever (names : List (List ℕ)) (known depth : ℕ) (ws : Spel
   pub next : Block
   pub is : unlined b ≡ forever 0 (unlined body) (unlined next)
   pub room : 1 ≤ depth
-  pub within : Fits known (depth - 1) body
-  pub fits : Fits known depth next
+  pub within : IsInBounds known (depth - 1) body
+  pub fits : IsInBounds known depth next
   pub counts : counted b ≡ 1 + (counted body + counted next)
   pub words : ws ≡ in_braces names body (block_words names next ++ rest)
 
-pub after_forever : (names : List (List ℕ)) (known depth : ℕ) (ws : Spelled) (b : Block) (rest : Spelled) → key b ≡ the.Forever → Fits known depth b
+pub after_forever : (names : List (List ℕ)) (known depth : ℕ) (ws : Spelled) (b : Block) (rest : Spelled) → key b ≡ the.Forever → IsInBounds known depth b
     → letters the.Forever ∷ ws ≡ block_words names b ++ rest → AfterForever names known depth ws b rest
 after_forever names known depth ws (forever line body r) rest e f eq = record {
   body = body;
@@ -233,12 +233,12 @@ pub record AfterRepeat (names : List (List ℕ)) (known depth : ℕ) (ws : Spell
   pub next : Block
   pub is : unlined b ≡ repeat 0 times (unlined body) (unlined next)
   pub room : 1 ≤ depth
-  pub within : Fits known (depth - 1) body
-  pub fits : Fits known depth next
+  pub within : IsInBounds known (depth - 1) body
+  pub fits : IsInBounds known depth next
   pub counts : counted b ≡ 1 + (counted body + counted next)
   pub words : ws ≡ decimal times ∷ in_braces names body (block_words names next ++ rest)
 
-pub after_repeat : (names : List (List ℕ)) (known depth : ℕ) (ws : Spelled) (b : Block) (rest : Spelled) → key b ≡ the.Repeat → Fits known depth b
+pub after_repeat : (names : List (List ℕ)) (known depth : ℕ) (ws : Spelled) (b : Block) (rest : Spelled) → key b ≡ the.Repeat → IsInBounds known depth b
     → letters the.Repeat ∷ ws ≡ block_words names b ++ rest → AfterRepeat names known depth ws b rest
 after_repeat names known depth ws (repeat line times body r) rest e f eq = record {
   times = times;
@@ -265,7 +265,7 @@ after_repeat names known depth ws (apply line number named r) rest e f eq = absu
 pub record Alone (names : List (List ℕ)) (known depth : ℕ) (b : Block) (contact : ℕ) (first : Block) (later : Spelled) (counts : ℕ) (rest : Spelled) : Type 0 where
   pub next : Block
   pub is : unlined b ≡ when 0 contact (unlined first) (unlined next)
-  pub fits : Fits known depth next
+  pub fits : IsInBounds known depth next
   pub same : counts ≡ counted next
   pub words : later ≡ block_words names next ++ rest
 
@@ -273,8 +273,8 @@ pub record WithElse (names : List (List ℕ)) (known depth : ℕ) (b : Block) (c
   pub second : Block
   pub next : Block
   pub is : unlined b ≡ either 0 contact (unlined first) (unlined second) (unlined next)
-  pub within : Fits known (depth - 1) second
-  pub fits : Fits known depth next
+  pub within : IsInBounds known (depth - 1) second
+  pub fits : IsInBounds known depth next
   pub same : counts ≡ counted second + counted next
   pub words : later ≡ letters the.Else ∷ in_braces names second (block_words names next ++ rest)
 
@@ -283,14 +283,14 @@ pub record AfterIf (names : List (List ℕ)) (known depth : ℕ) (ws : Spelled) 
   pub small : contact < 16
   pub first : Block
   pub room : 1 ≤ depth
-  pub within : Fits known (depth - 1) first
+  pub within : IsInBounds known (depth - 1) first
   pub later : Spelled
   pub more : ℕ
   pub counts : counted b ≡ 1 + (counted first + more)
   pub words : ws ≡ letters the.Contact ∷ decimal contact ∷ in_braces names first later
   pub goes_on : Alone names known depth b contact first later more rest ⊎ WithElse names known depth b contact first later more rest
 
-pub after_if : (names : List (List ℕ)) (known depth : ℕ) (ws : Spelled) (b : Block) (rest : Spelled) → key b ≡ the.If → Fits known depth b
+pub after_if : (names : List (List ℕ)) (known depth : ℕ) (ws : Spelled) (b : Block) (rest : Spelled) → key b ≡ the.If → IsInBounds known depth b
     → letters the.If ∷ ws ≡ block_words names b ++ rest → AfterIf names known depth ws b rest
 after_if names known depth ws (when line contact first r) rest e f eq = record {
   contact = contact;

@@ -9,12 +9,12 @@ use Rattle.script_front.specs.declared.tree.Header.{Header}
 use Rattle.script_front.specs.declared.tree.Item.{Item}
 use Rattle.script_front.specs.declared.tree.Statement.{Statement}
 use Rattle.script_front.specs.Block.{nothing, block_of, and_then}
-use Rattle.script_front.specs.Tree.{Tree, IsScript, IsHeader, IsItem, Fits, AllFit, counted, counted_in}
-use Rattle.script_words.specs.declared.keyword.Keyword.TheVariants as the
-use Rattle.script_words.specs.Words.{letters, IsName}
-use Rattle.script_words.specs.Reading.{Spelled, Input, Passes, line_at, line_of}
+use Rattle.script_front.specs.Tree.{Tree, IsScript, IsHeader, IsItem, IsInBounds, AllFit, counted, counted_in}
+use Rattle.script_tokens.specs.declared.keyword.Keyword.TheVariants as the
+use Rattle.script_tokens.specs.Words.{letters, IsName}
+use Rattle.script_tokens.specs.Reading.{Spelled, Input, Passes, line_of_left, line_of}
 use Rattle.script_front.specs.Spelled.{name_at, block_words, header_words, items_words, defined_words, begin_words, ItemsOn, BlockOn, DefinedOn}
-use Rattle.script_front.specs.Parsing.{IsRead, IsDefined, AreDefined, AreItems, IsSpelled, bodies}
+use Rattle.script_front.specs.Parsing.{IsRead, IsDefined, AreDefined, AreItems, SpellsTree, bodies}
 use Rattle.script_front.proofs.Undefined.{one_defined}
 use Rattle.script_front.proofs.Definitions.{name_front, name_last, words_agree, on_agree, defined_agree, defined_on_agree, definition_words, one_definition, defined_more, defined_on_more}
 
@@ -36,11 +36,11 @@ none_defined n names i is = rw (is) (record {
   only = λ all others rest can. record { later = all; others = others; front = refl; can = can; counts = refl };
 })
 
-fit_more : (k : ℕ) (bs : List (List Statement)) (b : List Statement) → AllFit k bs → Fits (k + length bs) 15 (block_of [] b) → AllFit k (bs ++ b ∷ [])
-fit_more k [] b h f = (let e : k + 0 ≡ k = omega arith in subst (λ (n : ℕ). Fits n 15 (block_of [] b)) e f, tt)
+fit_more : (k : ℕ) (bs : List (List Statement)) (b : List Statement) → AllFit k bs → IsInBounds (k + length bs) 15 (block_of [] b) → AllFit k (bs ++ b ∷ [])
+fit_more k [] b h f = (let e : k + 0 ≡ k = omega arith in subst (λ (n : ℕ). IsInBounds n 15 (block_of [] b)) e f, tt)
 fit_more k (x ∷ bs) b h f =
     let e : k + length (x ∷ bs) ≡ k + 1 + length bs = omega arith in
-    (h.0, fit_more (k + 1) bs b h.1 (subst (λ (n : ℕ). Fits n 15 (block_of [] b)) e f))
+    (h.0, fit_more (k + 1) bs b h.1 (subst (λ (n : ℕ). IsInBounds n 15 (block_of [] b)) e f))
 
 counted_more : (bs : List (List Statement)) (b : List Statement) → counted_in (bs ++ b ∷ []) ≡ counted_in bs + counted (block_of [] b)
 counted_more [] b = omega arith
@@ -56,7 +56,7 @@ bodies_length (x ∷ bs) = ap suc (bodies_length bs)
 
 -- the words of definitions, and of one more
 more_spelled : (names : List (List ℕ)) (name : List ℕ) (i j k m : Input) (bs : List (List Statement)) (b : List Statement) → length names ≡ length bs
-    → AllFit 0 bs → Fits (length names) 15 (block_of [] b) → i.words ≡ defined_words names 0 bs ++ j.words
+    → AllFit 0 bs → IsInBounds (length names) 15 (block_of [] b) → i.words ≡ defined_words names 0 bs ++ j.words
     → j.words ≡ letters the.Define ∷ name ∷ m.words → m.words ≡ letters the.OpenBrace ∷ (block_words names (block_of [] b) ++ letters the.CloseBrace ∷ k.words)
     → (j.words ≡ definition_words (names ++ name ∷ []) (0 + length bs) b ++ k.words) × (i.words ≡ defined_words (names ++ name ∷ []) 0 (bs ++ b ∷ []) ++ k.words)
 more_spelled names name i j k m bs b len fit fits e f g =
@@ -75,7 +75,7 @@ more_spelled names name i j k m bs b len fit fits e f g =
     )
 
 more_lined : (names : List (List ℕ)) (name : List ℕ) (lines : List ℕ) (j k : Input) (bs : List (List Statement)) (b : List Statement) → length names ≡ length bs
-    → AllFit 0 bs → Fits (length names) 15 (block_of [] b) → j.words ≡ definition_words (names ++ name ∷ []) (0 + length bs) b ++ k.words
+    → AllFit 0 bs → IsInBounds (length names) 15 (block_of [] b) → j.words ≡ definition_words (names ++ name ∷ []) (0 + length bs) b ++ k.words
     → DefinedOn names lines 0 bs j.words → BlockOn names lines (block_of [] b) (letters the.CloseBrace ∷ k.words)
     → DefinedOn (names ++ name ∷ []) lines 0 (bs ++ b ∷ []) k.words
 more_lined names name lines j k bs b len fit fits e h o =
@@ -92,7 +92,7 @@ define_more names more old mid new i j k bs cs b is room d h =
     let named = d.named in
     let body = d.body in
     let len : length names ≡ length (bodies bs) = (let l = bodies_length bs in let e = h.defined in omega (arith, l, e)) in
-    let fits : Fits (0 + length (bodies bs)) 15 (block_of [] b.items) = (let e : length names ≡ 0 + length (bodies bs) = omega (arith, len) in subst (λ (n : ℕ). Fits n 15 (block_of [] b.items)) e body.fits) in
+    let fits : IsInBounds (0 + length (bodies bs)) 15 (block_of [] b.items) = (let e : length names ≡ 0 + length (bodies bs) = omega (arith, len) in subst (λ (n : ℕ). IsInBounds n 15 (block_of [] b.items)) e body.fits) in
     let spelled = more_spelled names d.name i j k d.middle (bodies bs) b.items len h.fit body.fits h.spells d.begins.0 body.spells in
     let on : BlockOn names i.lines (block_of [] b.items) (letters the.CloseBrace ∷ k.words) =
     subst (λ (ls : List ℕ). BlockOn names ls (block_of [] b.items) (letters the.CloseBrace ∷ k.words)) (d.begins.1 ∙ h.same) body.lined in
@@ -139,15 +139,15 @@ script_formed h items names blocks begin last ss a b c i j k l head all counts d
       defined = same;
       few_blocks = (let l = bodies_length blocks in let f = d.few in omega (arith, l, f));
       blocks_fit = d.fit;
-      fits = subst (λ (n : ℕ). Fits n 16 (block_of [] ss)) same (r.fits nothing tt);
+      fits = subst (λ (n : ℕ). IsInBounds n 16 (block_of [] ss)) same (r.fits nothing tt);
       few = (let x = d.counts in let y = r.counts nothing in omega (arith, x, y, counts));
     }
 
 -- the parts of a script, in their order
 pub script_spelled : (h : Header) (items : List Item) (names : List (List ℕ)) (blocks : List (Vec Statement Global)) (begin last : ℕ) (ss : List Statement) (a b c : ℕ) (o i j k l m : Input)
     → Passes (header_words h) o i → AreItems items i j → AreDefined names a b j k blocks → begin ≡ line_of k.lines k.words → Passes (letters the.Begin ∷ []) k l
-    → IsRead names 16 b c l m (and_then [] ss) → m.words ≡ [] → last ≡ line_at o.lines 1
-    → IsSpelled (record { header = h; items = items; names = names; blocks = bodies blocks; begin_line = begin; statements = ss; last_line = last }) o
+    → IsRead names 16 b c l m (and_then [] ss) → m.words ≡ [] → last ≡ line_of_left o.lines 1
+    → SpellsTree (record { header = h; items = items; names = names; blocks = bodies blocks; begin_line = begin; statements = ss; last_line = last }) o
 script_spelled h items names blocks begin last ss a b c o i j k l m head all d at p r end final =
     let t : Tree = record { header = h; items = items; names = names; blocks = bodies blocks; begin_line = begin; statements = ss; last_line = last } in
     let whole : l.words ≡ block_words names (block_of [] ss) = r.spells nothing [] end ∙ append_nil (block_words names (block_of [] ss)) in

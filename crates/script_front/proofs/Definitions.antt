@@ -1,12 +1,12 @@
 -- What is spelled where some names are known is spelled so where more are.
 use Rattle.std.proofs.Common.{◌≡◌, ℕ, zero, suc, ◌+◌, ◌-◌, ◌<◌, ◌≤◌, List, [], ◌∷◌, ◌++◌, length, refl, sym, ap, ◌∙◌, subst, append_assoc, arith}
 use Rattle.script_front.specs.declared.tree.Statement.{Statement}
-use Rattle.script_words.specs.declared.keyword.Keyword.TheVariants as the
+use Rattle.script_tokens.specs.declared.keyword.Keyword.TheVariants as the
 use Rattle.std.specs.Fmt.{decimal}
-use Rattle.script_words.specs.Words.{letters}
-use Rattle.script_words.specs.Reading.{Spelled, line_of}
+use Rattle.script_tokens.specs.Words.{letters}
+use Rattle.script_tokens.specs.Reading.{Spelled, line_of}
 use Rattle.script_front.specs.Block.{Block, nothing, basic, stop, when, either, repeat, forever, apply, block_of}
-use Rattle.script_front.specs.Tree.{Fits, AllFit}
+use Rattle.script_front.specs.Tree.{IsInBounds, AllFit}
 use Rattle.script_front.specs.Spelled.{name_at, act_words, braced, block_words, defined_words, BlockOn, DefinedOn}
 
 -- two lists of names agree on the first ones
@@ -25,7 +25,7 @@ name_last (x ∷ names) name = name_last names name
 both_braced : (a b c d : Spelled) → a ≡ b → c ≡ d → braced a c ≡ braced b d
 both_braced a b c d e f = ap (λ (x : Spelled). braced x c) e ∙ ap (λ (x : Spelled). braced b x) f
 
-pub words_agree : (known depth : ℕ) (names more : List (List ℕ)) → Agree known names more → (b : Block) → Fits known depth b → block_words names b ≡ block_words more b
+pub words_agree : (known depth : ℕ) (names more : List (List ℕ)) → Agree known names more → (b : Block) → IsInBounds known depth b → block_words names b ≡ block_words more b
 words_agree known depth names more a nothing h = refl
 words_agree known depth names more a (basic line act rest) h = ap (λ (x : Spelled). act_words act ++ x) (words_agree known depth names more a rest h.1)
 words_agree known depth names more a (stop line rest) h = ap (λ (x : Spelled). letters the.End ∷ x) (words_agree known depth names more a rest h)
@@ -53,7 +53,7 @@ same_line lines line x y after later e f h = h ∙ ap (λ (ws : Spelled). line_o
 closing : (x y after later : Spelled) → x ≡ y → after ≡ later → letters the.CloseBrace ∷ (x ++ after) ≡ letters the.CloseBrace ∷ (y ++ later)
 closing x y after later e f = ap (λ (ws : Spelled). letters the.CloseBrace ∷ (ws ++ after)) e ∙ ap (λ (ws : Spelled). letters the.CloseBrace ∷ (y ++ ws)) f
 
-pub on_agree : (known depth : ℕ) (names more : List (List ℕ)) (lines : List ℕ) → Agree known names more → (b : Block) (after later : Spelled) → after ≡ later → Fits known depth b
+pub on_agree : (known depth : ℕ) (names more : List (List ℕ)) (lines : List ℕ) → Agree known names more → (b : Block) (after later : Spelled) → after ≡ later → IsInBounds known depth b
     → BlockOn names lines b after → BlockOn more lines b later
 on_agree known depth names more lines a nothing after later e h o = tt
 on_agree known depth names more lines a (basic line act rest) after later e h o =

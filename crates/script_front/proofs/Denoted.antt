@@ -18,16 +18,16 @@ use Rattle.script_front.specs.declared.tree.Act.TheVariants.{Edit as Edits, Wait
 use Rattle.script_front.specs.declared.tree.Header.{Header}
 use Rattle.script_front.specs.declared.tree.Item.{Item}
 use Rattle.script_front.specs.declared.tree.Statement.{Statement}
-use Rattle.script_words.specs.declared.keyword.Keyword.TheVariants as the
-use Rattle.script_words.specs.Words.{letters, IsName}
+use Rattle.script_tokens.specs.declared.keyword.Keyword.TheVariants as the
+use Rattle.script_tokens.specs.Words.{letters, IsName}
 use Rattle.script_front.specs.Block.{Block, nothing, basic, stop, when, either, repeat, forever, apply, block_of}
-use Rattle.script_front.specs.Tree.{Tree, IsHeader, IsAct, IsItem, IsScript, Fits, AllFit}
+use Rattle.script_front.specs.Tree.{Tree, IsHeader, IsAct, IsItem, IsScript, IsInBounds, AllFit}
 use Rattle.script_front.specs.Spelled.{carrier_words, in_words, groups_word, edit_words, level_word, act_words, name_at, block_words, mode_words, header_words, items_words, defined_words, tree_words}
 use Rattle.script_front.specs.Printing.{Line, line, text_of_lines, closing, block_lines, header_lines, items_lines, defined_lines, tree_lines}
 use Rattle.script_front.specs.Denoting.{HasWords, Denotes}
 use Rattle.script_front.proofs.Lined.{IsLine, AreLines, all_words, lines_have}
 use Rattle.script_words.proofs.Wording.{IsWord, AreWords, decimal_word, hex_word_word, sid_word_word, profile_word_word, time_word_word, keyword_word, name_word}
-use Rattle.script_words.specs.Reading.{Spelled}
+use Rattle.script_tokens.specs.Reading.{Spelled}
 
 -- ---- edits and acts
 
@@ -89,7 +89,7 @@ AreNamed names = (n : ℕ) → n < length names → IsWord (name_at names n)
 closing_are : (d : ℕ) → IsLine (closing d).words
 closing_are d = (keyword_word the.CloseBrace, tt)
 
-block_are : (names : List (List ℕ)) (known depth d : ℕ) → known ≤ length names → AreNamed names → (b : Block) → Fits known depth b → AreLines (block_lines names d b)
+block_are : (names : List (List ℕ)) (known depth d : ℕ) → known ≤ length names → AreNamed names → (b : Block) → IsInBounds known depth b → AreLines (block_lines names d b)
 block_are names known depth d le are nothing h = tt
 block_are names known depth d le are (basic n act rest) h = (act_are act h.0, block_are names known depth d le are rest h.1)
 block_are names known depth d le are (stop n rest) h = ((keyword_word the.End, tt), block_are names known depth d le are rest h)

@@ -1,21 +1,21 @@
 -- The words of a text's tokens are those among its pieces.
 use Rattle.std.proofs.Common.{◌≡◌, ℕ, ◌+◌, ◌-◌, List, [], ◌∷◌, ◌++◌, length, length-append, slice_range, refl, sym, ap, ◌∙◌, subst, append_assoc, arith}
 use Rattle.std.proofs.Math.Seq.{drop-append_seam, take-append_seam}
-use Rattle.script_words.specs.declared.token.Token.{Token}
-use Rattle.script_words.specs.declared.token.Kind.{Kind}
-use Rattle.script_words.specs.declared.token.Kind.TheVariants.{Blank, LineEnd, Hash, Brace, Letter, Bad}
-use Rattle.script_words.specs.declared.token.Place.{Place}
-use Rattle.script_words.specs.Bytes.{kind_of, place_after, past, first_place}
-use Rattle.script_words.specs.Texts.{Piece, blank, comment, brace, atom, text_of, tokens_of, AreTokens, TokensFit, script_limits}
-use Rattle.script_words.specs.Reading.{words_of, lines_of}
+use Rattle.script_tokens.specs.declared.token.Token.{Token}
+use Rattle.script_tokens.specs.declared.token.Kind.{Kind}
+use Rattle.script_tokens.specs.declared.token.Kind.TheVariants.{Blank, LineEnd, Hash, Brace, Letter, Bad}
+use Rattle.script_tokens.specs.declared.token.Place.{Place}
+use Rattle.script_tokens.specs.Bytes.{kind_of, place_after, place_behind, first_place}
+use Rattle.script_tokens.specs.Texts.{Piece, blank, comment, brace, atom, text_of, tokens_of, AreTokens, TokensFit, script_limits}
+use Rattle.script_tokens.specs.Reading.{words_of, lines_of}
 use Rattle.script_front.specs.Tree.{Tree}
 use Rattle.script_front.specs.Spelled.{tree_words, HasLines}
 use Rattle.script_front.specs.Denoting.{words_in, IsScriptOf}
 use Rattle.std.specs.Prelude.{Result, Ok}
-use Rattle.script_words.specs.declared.fault.ScriptFault.{ScriptFault}
-use Rattle.script_words.specs.declared.token.Inside.TheVariants.{Nothing}
-use Rattle.script_words.specs.Lexing.{lexed}
-use Rattle.script_words.proofs.Pieces.{texts_are_cut}
+use Rattle.script_tokens.specs.declared.fault.ScriptFault.{ScriptFault}
+use Rattle.script_tokens.specs.declared.token.Inside.TheVariants.{Nothing}
+use Rattle.script_tokens.specs.Lexing.{lexed}
+use Rattle.script_tokens.proofs.Pieces.{texts_are_cut}
 
 after_byte : (p : Place) (k : Kind) → (place_after p k).at ≡ p.at + 1
 after_byte p LineEnd = refl
@@ -25,7 +25,7 @@ after_byte p Brace = refl
 after_byte p Letter = refl
 after_byte p Bad = refl
 
-pub past_bytes : (p : Place) (bs : List ℕ) → (past p bs).at ≡ p.at + length bs
+pub past_bytes : (p : Place) (bs : List ℕ) → (place_behind p bs).at ≡ p.at + length bs
 past_bytes p [] = omega arith
 past_bytes p (b ∷ bs) = let later = past_bytes (place_after p (kind_of b)) bs in let step = after_byte p (kind_of b) in omega (arith, later, step)
 
@@ -34,7 +34,7 @@ seam front bs rest a e =
     let len : length front + length bs - length front ≡ length bs = omega arith in
     rw (e, drop-append_seam front (bs ++ rest), len) (take-append_seam bs rest)
 
-next_at : (p : Place) (front bs : List ℕ) → p.at ≡ length front → (past p bs).at ≡ length (front ++ bs)
+next_at : (p : Place) (front bs : List ℕ) → p.at ≡ length front → (place_behind p bs).at ≡ length (front ++ bs)
 next_at p front bs e = let l = length-append front bs in let m = past_bytes p bs in omega (arith, l, m, e)
 
 goes_on : (front bs : List ℕ) (ts : List Token) (ps : List Piece) → words_of ((front ++ bs) ++ text_of ps) ts ≡ words_in ps → words_of (front ++ (bs ++ text_of ps)) ts ≡ words_in ps
@@ -43,16 +43,16 @@ goes_on front bs ts ps h = ap (λ (t : List ℕ). words_of t ts) (sym (append_as
 slices : (front : List ℕ) (p : Place) (ps : List Piece) → p.at ≡ length front → words_of (front ++ text_of ps) (tokens_of p ps) ≡ words_in ps
 slices front p [] e = refl
 slices front p (blank b ∷ ps) e =
-    goes_on front (b ∷ []) (tokens_of (past p (b ∷ [])) ps) ps (slices (front ++ b ∷ []) (past p (b ∷ [])) ps (next_at p front (b ∷ []) e))
+    goes_on front (b ∷ []) (tokens_of (place_behind p (b ∷ [])) ps) ps (slices (front ++ b ∷ []) (place_behind p (b ∷ [])) ps (next_at p front (b ∷ []) e))
 slices front p (comment bs ∷ ps) e =
-    goes_on front (35 ∷ bs) (tokens_of (past p (35 ∷ bs)) ps) ps (slices (front ++ 35 ∷ bs) (past p (35 ∷ bs)) ps (next_at p front (35 ∷ bs) e))
+    goes_on front (35 ∷ bs) (tokens_of (place_behind p (35 ∷ bs)) ps) ps (slices (front ++ 35 ∷ bs) (place_behind p (35 ∷ bs)) ps (next_at p front (35 ∷ bs) e))
 slices front p (brace b ∷ ps) e =
     let here : slice_range (front ++ (b ∷ text_of ps)) p.at (p.at + 1) ≡ b ∷ [] = seam front (b ∷ []) (text_of ps) p.at e in
-    ap (λ (w : List ℕ). w ∷ words_of (front ++ (b ∷ text_of ps)) (tokens_of (past p (b ∷ [])) ps)) here
-    ∙ ap (λ (ws : List (List ℕ)). (b ∷ []) ∷ ws) (goes_on front (b ∷ []) (tokens_of (past p (b ∷ [])) ps) ps (slices (front ++ b ∷ []) (past p (b ∷ [])) ps (next_at p front (b ∷ []) e)))
+    ap (λ (w : List ℕ). w ∷ words_of (front ++ (b ∷ text_of ps)) (tokens_of (place_behind p (b ∷ [])) ps)) here
+    ∙ ap (λ (ws : List (List ℕ)). (b ∷ []) ∷ ws) (goes_on front (b ∷ []) (tokens_of (place_behind p (b ∷ [])) ps) ps (slices (front ++ b ∷ []) (place_behind p (b ∷ [])) ps (next_at p front (b ∷ []) e)))
 slices front p (atom bs ∷ ps) e =
-    ap (λ (w : List ℕ). w ∷ words_of (front ++ (bs ++ text_of ps)) (tokens_of (past p bs) ps)) (seam front bs (text_of ps) p.at e)
-    ∙ ap (λ (ws : List (List ℕ)). bs ∷ ws) (goes_on front bs (tokens_of (past p bs) ps) ps (slices (front ++ bs) (past p bs) ps (next_at p front bs e)))
+    ap (λ (w : List ℕ). w ∷ words_of (front ++ (bs ++ text_of ps)) (tokens_of (place_behind p bs) ps)) (seam front bs (text_of ps) p.at e)
+    ∙ ap (λ (ws : List (List ℕ)). bs ∷ ws) (goes_on front bs (tokens_of (place_behind p bs) ps) ps (slices (front ++ bs) (place_behind p bs) ps (next_at p front bs e)))
 
 -- a tree that the words spell, on the lines of its tokens, is that of the text
 pub is_script : (text : List ℕ) (tokens : List Token) (t : Tree) → AreTokens text tokens → words_of text tokens ≡ tree_words t → HasLines (lines_of tokens) t → IsScriptOf text t

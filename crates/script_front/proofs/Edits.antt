@@ -12,13 +12,13 @@ use Rattle.mux_config.specs.Configuration.{IsSid, IsComponent}
 use Rattle.plan_code.specs.Program.{IsEdit, IsCarrier}
 use Rattle.script_front.specs.declared.tree.Act.{Act}
 use Rattle.script_front.specs.declared.tree.Act.TheVariants.{Edit as Edits, Wait, WaitContact, Until, CommitIn, CommitAt, Join, Settle}
-use Rattle.script_words.specs.declared.keyword.Keyword.TheVariants as the
-use Rattle.script_words.specs.Words.{Word, the as is, word_of}
+use Rattle.script_tokens.specs.declared.keyword.Keyword.TheVariants as the
+use Rattle.script_tokens.specs.Words.{Word, the as is, word_of}
 use Rattle.script_front.specs.Tree.{IsAct}
 use Rattle.script_front.specs.Spelled.{in_words, groups_word, carried_words, carrier_words, edit_words, level_word, act_words}
-use Rattle.script_words.proofs.Keys.{word_the, word_text, decimal_own}
+use Rattle.script_tokens.proofs.Keys.{word_the, word_text, decimal_own}
 use Rattle.script_front.proofs.Finding.{number, number_decimal, sid_of, sid_again, profile_of, profile_again, time_of, time_again}
-use Rattle.script_words.specs.Reading.{Spelled}
+use Rattle.script_tokens.specs.Reading.{Spelled}
 
 -- the word of this place, and the word of the grammar there
 abbrev pub at : Spelled → ℕ → List ℕ

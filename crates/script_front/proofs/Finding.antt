@@ -10,7 +10,7 @@ use Rattle.mux_types.specs.declared.numbers.Sid.{Sid}
 use Rattle.mux_types.specs.declared.numbers.Sid.TheVariants.{Short, Long}
 use Rattle.mux_config.specs.Configuration.{IsSid}
 use Rattle.script_words.specs.Spelling.{hex_digit, hex_word, sid_word, set_letter, profile_word, two_digits, time_word}
-use Rattle.script_words.proofs.Digits.{own, read_on}
+use Rattle.script_tokens.proofs.Digits.{own, read_on}
 
 abbrev pub number : List ℕ → ℕ
 number w = read_on 0 w

@@ -5,13 +5,13 @@ use Rattle.mux_config.specs.declared.edit.Edit.{Edit}
 use Rattle.mux_config.specs.declared.edit.Edit.TheVariants.{AddSub, DropSub, MoveSub, RateSub, AddService, DropService, AddComponent, DropComponent, AddPacket, DropPacket}
 use Rattle.mux_types.specs.declared.parts.Component.TheVariants.{Sound, Stream, Packet as InPackets}
 use Rattle.plan_code.specs.Program.{IsEdit}
-use Rattle.script_words.specs.declared.keyword.Keyword.{Keyword}
-use Rattle.script_words.specs.Words.{letters, begins_item}
+use Rattle.script_tokens.specs.declared.keyword.Keyword.{Keyword}
+use Rattle.script_tokens.specs.Words.{letters, begins_item}
 use Rattle.script_front.specs.Tree.{IsItem, Adds}
 use Rattle.script_front.proofs.Edits.{same_edit}
 use Rattle.script_front.proofs.Refusing.{edit_key, edit_begins}
 use Rattle.script_front.specs.declared.tree.Item.{Item}
-use Rattle.script_words.specs.Reading.{Spelled, Input, line_of}
+use Rattle.script_tokens.specs.Reading.{Spelled, Input, line_of}
 use Rattle.script_front.specs.Spelled.{edit_words, items_words, ItemsOn}
 use Rattle.script_front.specs.Parsing.{IsOneMore, AreItems, NoneOf, BeginsItem, BeginsNoItem, NoItems}
 

@@ -1,10 +1,10 @@
 -- Printed lines hold their words: a blank or the end of the line follows each word.
 use Rattle.std.proofs.Common.{◌≡◌, ◌⊎◌, inl, inr, ℕ, zero, suc, List, [], ◌∷◌, ◌++◌, refl, sym, ap, ◌∙◌, append_assoc, subst}
 use Rattle.std.proofs.lemmas.List.{append-nil}
-use Rattle.script_words.specs.declared.token.Kind.TheVariants.{Blank, LineEnd, Brace}
-use Rattle.script_words.specs.Bytes.{kind_of}
-use Rattle.script_words.specs.Texts.{blank, brace, atom}
-use Rattle.script_words.specs.Reading.{Spelled}
+use Rattle.script_tokens.specs.declared.token.Kind.TheVariants.{Blank, LineEnd, Brace}
+use Rattle.script_tokens.specs.Bytes.{kind_of}
+use Rattle.script_tokens.specs.Texts.{blank, brace, atom}
+use Rattle.script_tokens.specs.Reading.{Spelled}
 use Rattle.script_front.specs.Printing.{Line, line, indent, each_behind, spaced, line_text, text_of_lines}
 use Rattle.script_front.specs.Denoting.{HasWords}
 use Rattle.script_words.proofs.Wording.{IsWord, AreWords}

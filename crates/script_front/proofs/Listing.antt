@@ -5,11 +5,11 @@ use Rattle.std.specs.Prelude.{Vec}
 use Rattle.std.specs.Global.{Global}
 use Rattle.script_front.specs.declared.tree.Statement.{Statement}
 use Rattle.script_front.specs.Block.{Block, nothing, basic, stop, when, either, repeat, forever, apply, block_of}
-use Rattle.script_front.specs.Tree.{Fits, AllFit}
+use Rattle.script_front.specs.Tree.{IsInBounds, AllFit}
 use Rattle.script_front.specs.Parsing.{bodies}
 
 -- what fits where this many blocks are known fits where more are
-pub more_known : (known more depth : ℕ) (b : Block) → known ≤ more → Fits known depth b → Fits more depth b
+pub more_known : (known more depth : ℕ) (b : Block) → known ≤ more → IsInBounds known depth b → IsInBounds more depth b
 more_known known more depth nothing le h = tt
 more_known known more depth (basic line act rest) le h = (h.0, more_known known more depth rest le h.1)
 more_known known more depth (stop line rest) le h = more_known known more depth rest le h
@@ -20,7 +20,7 @@ more_known known more depth (forever line body rest) le h = (h.0, more_known kno
 more_known known more depth (apply line number named rest) le h = (omega (arith, h.0, le), more_known known more depth rest le h.1)
 
 pub record NextFits (k i names : ℕ) (bs : List (Vec Statement Global)) (v : Vec Statement Global) : Type 0 where
-  pub fits : Fits names 15 (block_of [] v.items)
+  pub fits : IsInBounds names 15 (block_of [] v.items)
   pub later : AllFit (k + 1) (bodies (drop (i + 1) bs))
 
 pub next_fits : (k i names : ℕ) (bs : List (Vec Statement Global)) (v : Vec Statement Global) → i < length bs → v ≡ get_or bs i v → k ≤ names → AllFit k (bodies (drop i bs)) → NextFits k i names bs v

@@ -2,16 +2,16 @@
 use Rattle.std.proofs.Common.{◌≡◌, ℕ, ◌+◌, List, [], ◌∷◌, ◌++◌, map, refl, sym, ap, ◌∙◌, subst}
 use Rattle.std.specs.Fmt.{decimal}
 use Rattle.mux_config.specs.declared.edit.Edit.{Edit}
-use Rattle.script_words.specs.declared.token.Token.{Token}
+use Rattle.script_tokens.specs.declared.token.Token.{Token}
 use Rattle.script_front.specs.declared.tree.Item.{Item}
 use Rattle.script_front.specs.declared.tree.Statement.{Statement}
 use Rattle.script_front.specs.declared.tree.Statement.TheOpen.{Statement-F}
 use Rattle.script_front.specs.declared.tree.Statement.TheFolds.{fold-roll-Statement, map-Statement, ind-Statement}
-use Rattle.script_words.specs.declared.keyword.Keyword.TheVariants as the
-use Rattle.script_words.specs.Words.{letters}
-use Rattle.script_words.specs.Bytes.{first_place}
-use Rattle.script_words.specs.Texts.{tokens_of}
-use Rattle.script_words.specs.Reading.{Spelled, lines_of, line_of}
+use Rattle.script_tokens.specs.declared.keyword.Keyword.TheVariants as the
+use Rattle.script_tokens.specs.Words.{letters}
+use Rattle.script_tokens.specs.Bytes.{first_place}
+use Rattle.script_tokens.specs.Texts.{tokens_of}
+use Rattle.script_tokens.specs.Reading.{Spelled, lines_of, line_of}
 use Rattle.script_front.specs.Block.{Block, Before, nothing, basic, stop, when, either, repeat, forever, apply, whole, statement_step, before, block_of}
 use Rattle.script_front.specs.Tree.{Tree}
 use Rattle.script_front.specs.Spelled.{edit_words, name_at, act_words, braced, block_words, items_words, defined_words, begin_words, tree_words, ItemsOn, BlockOn, DefinedOn, HasLines}

@@ -2,16 +2,16 @@
 use Rattle.std.proofs.Common.{◌≡◌, ◌≢◌, inl, inr, length, drop, ℕ, ◌+◌, ◌-◌, ◌<◌, ◌≤◌, List, [], ◌∷◌, ◌++◌, refl, sym, ap, ◌∙◌, subst, append_assoc, arith}
 use Rattle.script_front.specs.declared.tree.Act.{Act}
 use Rattle.script_front.specs.declared.tree.Statement.{Statement}
-use Rattle.script_words.specs.declared.keyword.Keyword.{Keyword}
-use Rattle.script_words.specs.declared.keyword.Keyword.TheVariants as the
+use Rattle.script_tokens.specs.declared.keyword.Keyword.{Keyword}
+use Rattle.script_tokens.specs.declared.keyword.Keyword.TheVariants as the
 use Rattle.std.specs.Fmt.{decimal}
-use Rattle.script_words.specs.Words.{letters}
-use Rattle.script_words.specs.Reading.{Spelled, Input, Passes, behind, line_of}
+use Rattle.script_tokens.specs.Words.{letters}
+use Rattle.script_tokens.specs.Reading.{Spelled, Input, Passes, behind, line_of}
 use Rattle.script_front.specs.Block.{Block, Before, nothing, basic, stop, when, either, repeat, forever, apply, before, and_then, block_of}
 use Rattle.script_front.specs.Spelled.{name_at, act_words, braced, block_words, BlockOn}
 use Rattle.script_front.specs.Tree.{IsAct, counted}
-use Rattle.script_front.specs.Parsing.{IsRead, IsBody, IsApplied}
-use Rattle.script_words.proofs.Keys.{rest_is}
+use Rattle.script_front.specs.Parsing.{IsRead, IsBraced, IsApplied}
+use Rattle.script_tokens.proofs.Keys.{rest_is}
 use Rattle.script_front.proofs.Edits.{same_act}
 use Rattle.script_front.proofs.Refusing.{act_key, act_begins}
 use Rattle.script_front.proofs.Blocks.{key_is, act_key_begins, after_act, after_stop, after_apply, after_forever, after_repeat, after_if, no_else, all_read}
@@ -112,7 +112,7 @@ before_rest body tail rest ws e =
     ap (λ (x : Spelled). letters the.OpenBrace ∷ (body ++ letters the.CloseBrace ∷ x)) e
     ∙ ap (λ (x : Spelled). letters the.OpenBrace ∷ x) (sym (append_assoc body (letters the.CloseBrace ∷ tail) rest))
 
-body_on : (names : List (List ℕ)) (depth old new : ℕ) (i j : Input) (b : Block) (lines : List ℕ) (tail : Spelled) → IsBody names depth old new i j b → i.lines ≡ lines → j.words ≡ tail
+body_on : (names : List (List ℕ)) (depth old new : ℕ) (i j : Input) (b : Block) (lines : List ℕ) (tail : Spelled) → IsBraced names depth old new i j b → i.lines ≡ lines → j.words ≡ tail
     → BlockOn names lines b (letters the.CloseBrace ∷ tail)
 body_on names depth old new i j b lines tail h f e =
     subst (λ (ls : List ℕ). BlockOn names ls b (letters the.CloseBrace ∷ tail)) f (subst (λ (ws : Spelled). BlockOn names i.lines b (letters the.CloseBrace ∷ ws)) e h.lined)
@@ -124,7 +124,7 @@ if_spells names line contact i j k first b rest p q e =
     ap (λ (ws : Spelled). letters the.If ∷ ws) (p ∙ ap (λ (ws : Spelled). letters the.Contact ∷ decimal contact ∷ ws) (q ∙ before_rest (block_words names first) (block_words names b) rest k.words e))
 
 pub when_read : (names : List (List ℕ)) (depth old new line contact : ℕ) (i j k : Input) (first : Block) (added : Before) → ((b : Block) → added b ≡ when line contact first b) → contact < 16
-    → Passes (letters the.Contact ∷ decimal contact ∷ []) i j → IsBody names depth old new j k first → line ≡ line_of i.lines (letters the.If ∷ i.words)
+    → Passes (letters the.Contact ∷ decimal contact ∷ []) i j → IsBraced names depth old new j k first → line ≡ line_of i.lines (letters the.If ∷ i.words)
     → ((ws : Spelled) → k.words ≢ letters the.Else ∷ ws) → IsRead names depth (old + 1) new (behind the.If i) k added
 when_read names depth old new line contact i j k first added is small p h at other = record {
   only = λ b rest can. (
@@ -160,7 +160,7 @@ either_spells names line contact i j k first second b rest p q e =
     q ∙ before_rest (block_words names first) (letters the.Else ∷ braced (block_words names second) (block_words names b)) rest k.words e))
 
 pub either_read : (names : List (List ℕ)) (depth old mid new line contact : ℕ) (i j k l m : Input) (first second : Block) (added : Before) → ((b : Block) → added b ≡ either line contact first second b) → contact < 16
-    → Passes (letters the.Contact ∷ decimal contact ∷ []) i j → IsBody names depth old mid j k first → Passes (letters the.Else ∷ []) k l → IsBody names depth mid new l m second
+    → Passes (letters the.Contact ∷ decimal contact ∷ []) i j → IsBraced names depth old mid j k first → Passes (letters the.Else ∷ []) k l → IsBraced names depth mid new l m second
     → line ≡ line_of i.lines (letters the.If ∷ i.words) → IsRead names depth (old + 1) new (behind the.If i) m added
 either_read names depth old mid new line contact i j k l m first second added is small p h q g at = record {
   only = λ b rest can. (
@@ -201,7 +201,7 @@ repeat_spells names line times i j k body b rest p q e =
     ap (λ (ws : Spelled). letters the.Repeat ∷ ws) (p ∙ ap (λ (ws : Spelled). decimal times ∷ ws) (q ∙ before_rest (block_words names body) (block_words names b) rest k.words e))
 
 pub repeat_read : (names : List (List ℕ)) (depth old new line times : ℕ) (i j k : Input) (body : Block) (added : Before) → ((b : Block) → added b ≡ repeat line times body b) → 1 ≤ times → times < 65536
-    → Passes (decimal times ∷ []) i j → IsBody names depth old new j k body → line ≡ line_of i.lines (letters the.Repeat ∷ i.words)
+    → Passes (decimal times ∷ []) i j → IsBraced names depth old new j k body → line ≡ line_of i.lines (letters the.Repeat ∷ i.words)
     → IsRead names depth (old + 1) new (behind the.Repeat i) k added
 repeat_read names depth old new line times i j k body added is some small p h at = record {
   only = λ b rest can. (
@@ -223,7 +223,7 @@ forever_spells : (names : List (List ℕ)) (line : ℕ) (i k : Input) (body b : 
 forever_spells names line i k body b rest q e = ap (λ (ws : Spelled). letters the.Forever ∷ ws) (q ∙ before_rest (block_words names body) (block_words names b) rest k.words e)
 
 pub forever_read : (names : List (List ℕ)) (depth old new line : ℕ) (i k : Input) (body : Block) (added : Before) → ((b : Block) → added b ≡ forever line body b)
-    → IsBody names depth old new i k body → line ≡ line_of i.lines (letters the.Forever ∷ i.words)
+    → IsBraced names depth old new i k body → line ≡ line_of i.lines (letters the.Forever ∷ i.words)
     → IsRead names depth (old + 1) new (behind the.Forever i) k added
 forever_read names depth old new line i k body added is h at = record {
   only = λ b rest can. (
@@ -247,7 +247,7 @@ taken_read k names depth old new i j l added some p h =
     from_behind k names depth old new i j l added p.0 p.1 (subst (λ (n : ℕ). IsRead names depth n new (behind k j) l added) e h)
 
 pub body_read : (names : List (List ℕ)) (depth old new : ℕ) (i j k l : Input) (ss : List Statement) → 1 ≤ depth → Passes (letters the.OpenBrace ∷ []) i j
-    → IsRead names (depth - 1) old new j k (and_then [] ss) → Passes (letters the.CloseBrace ∷ []) k l → IsBody names depth old new i l (block_of [] ss)
+    → IsRead names (depth - 1) old new j k (and_then [] ss) → Passes (letters the.CloseBrace ∷ []) k l → IsBraced names depth old new i l (block_of [] ss)
 body_read names depth old new i j k l ss room p h q = record {
   room = room;
   fits = h.fits nothing tt;

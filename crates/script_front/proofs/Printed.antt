@@ -16,15 +16,15 @@ use Rattle.script_front.specs.declared.tree.Act.TheVariants.{Until}
 use Rattle.script_front.specs.declared.tree.Header.{Header}
 use Rattle.script_front.specs.declared.tree.Item.{Item}
 use Rattle.script_front.specs.declared.tree.Statement.{Statement}
-use Rattle.script_words.specs.declared.keyword.Keyword.TheVariants as the
-use Rattle.script_words.specs.Words.{letters}
+use Rattle.script_tokens.specs.declared.keyword.Keyword.TheVariants as the
+use Rattle.script_tokens.specs.Words.{letters}
 use Rattle.script_words.specs.Spelling.{hex_byte, hex_word, time_word}
 use Rattle.script_front.specs.Block.{Block, Before, nothing, basic, stop, when, either, repeat, forever, apply, before, block_of}
 use Rattle.script_front.specs.Spelled.{carried_words, carrier_words, in_words, edit_words, act_words, name_at, mode_words}
 use Rattle.script_front.specs.Tree.{Tree}
 use Rattle.script_front.specs.Parsing.{bodies}
 use Rattle.script_front.specs.Printing.{Line, line, indent, each_behind, spaced, line_text, text_of_lines, closing, block_lines, limits_line, header_lines, items_lines, definition_lines, defined_lines, tree_lines, IsPut}
-use Rattle.script_words.specs.Reading.{Spelled}
+use Rattle.script_tokens.specs.Reading.{Spelled}
 
 -- ---- words
 

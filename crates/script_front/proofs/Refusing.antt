@@ -12,21 +12,21 @@ use Rattle.mux_types.specs.declared.parts.Component.TheVariants.{Sound, Stream, 
 use Rattle.mux_types.specs.declared.numbers.Sid.{Sid}
 use Rattle.mux_config.specs.Configuration.{IsSid, IsComponent}
 use Rattle.plan_code.specs.Program.{IsEdit, IsNewSub, IsNewPacket, IsCarrier}
-use Rattle.script_words.specs.declared.keyword.Keyword.{Keyword}
-use Rattle.script_words.specs.declared.keyword.Keyword.TheVariants as the
-use Rattle.script_words.specs.Words.{the as is, letters}
+use Rattle.script_tokens.specs.declared.keyword.Keyword.{Keyword}
+use Rattle.script_tokens.specs.declared.keyword.Keyword.TheVariants as the
+use Rattle.script_tokens.specs.Words.{the as is, letters}
 use Rattle.script_words.specs.Spelling.{sid_word, time_word}
 use Rattle.std.proofs.lemmas.Bool.{false≢true}
 use Rattle.script_front.specs.declared.tree.Act.{Act}
 use Rattle.script_front.specs.declared.tree.Act.TheVariants.{Edit as Edits, Wait, WaitContact, Until, CommitIn, CommitAt, Join, Settle}
 use Rattle.script_front.specs.Tree.{IsAct, Adds}
-use Rattle.script_words.specs.Reading.{Spelled, Input, Passes, behind}
+use Rattle.script_tokens.specs.Reading.{Spelled, Input, Passes, behind}
 use Rattle.script_front.specs.declared.tree.Header.{Header}
 use Rattle.fib_codec.specs.declared.modes.Mode.{Mode}
 use Rattle.fib_codec.specs.declared.modes.Mode.TheVariants.{I, II, III, IV}
 use Rattle.script_front.specs.Spelled.{mode_words, in_words, groups_word, carried_words, carrier_words, edit_words, level_word, act_words}
 use Rattle.script_front.specs.Parsing.{NoneOf}
-use Rattle.script_words.proofs.Keys.{word_the, rest_is, same_key}
+use Rattle.script_tokens.proofs.Keys.{word_the, rest_is, same_key}
 use Rattle.script_front.proofs.Edits.{same_carried, same_carrier, edit_in, edit_by, edit_again, act_in, act_by, act_again, wait_by, commit_by}
 
 -- what is left behind words that were passed

@@ -4,14 +4,14 @@ use Rattle.std.specs.Prelude.{true, Vec}
 use Rattle.std.specs.Global.{Global}
 use Rattle.std.specs.List.{All}
 use Rattle.script_front.specs.declared.tree.Statement.{Statement}
-use Rattle.script_words.specs.declared.keyword.Keyword.TheVariants as the
-use Rattle.script_words.specs.Words.{letters, begins_item, IsName}
-use Rattle.script_words.specs.Reading.{Spelled, Input, Passes, BeginsWith}
+use Rattle.script_tokens.specs.declared.keyword.Keyword.TheVariants as the
+use Rattle.script_tokens.specs.Words.{letters, begins_item, IsName}
+use Rattle.script_tokens.specs.Reading.{Spelled, Input, Passes, BeginsWith}
 use Rattle.script_front.specs.Block.{Block, Before, block_of}
-use Rattle.script_front.specs.Tree.{Tree, IsScript, AreDifferent, Fits, AllFit, counted_in}
+use Rattle.script_front.specs.Tree.{Tree, IsScript, AreNamedApart, IsInBounds, AllFit, counted_in}
 use Rattle.script_front.specs.Spelled.{name_at, block_words, braced, defined_words, begin_words}
-use Rattle.script_front.specs.Parsing.{Stops, CanBe, CanDefine, IsBody, IsRead, AreDefined, NoBody, NoDefinitions, NoNewName, BeginsNoItem}
-use Rattle.script_words.proofs.Keys.{first_is, rest_is, same_key}
+use Rattle.script_front.specs.Parsing.{Stops, CanBe, CanDefine, IsBraced, IsRead, AreDefined, NoBody, NoDefinitions, NoNewName, BeginsNoItem}
+use Rattle.script_tokens.proofs.Keys.{first_is, rest_is, same_key}
 use Rattle.script_front.proofs.Definitions.{name_front, words_agree}
 use Rattle.script_front.proofs.Blocks.{all_read}
 use Rattle.script_front.proofs.Unread.{slice_at}
@@ -50,7 +50,7 @@ behind_first names n words after ns x xs rest can is =
     let more : length names + 1 ≡ length (names ++ n ∷ []) = sym (length-append names (n ∷ [])) in
     record {
       named = subst (λ (xs : List (List ℕ)). All IsName xs) all can.named;
-      different = subst AreDifferent all can.different;
+      different = subst AreNamedApart all can.different;
       each = (let e = can.each in omega (arith, e));
       few = (let f = can.few in omega (arith, f, more));
       fit = subst (λ (k : ℕ). AllFit k xs) more can.fit.1;
@@ -59,7 +59,7 @@ behind_first names n words after ns x xs rest can is =
     }
 
 pub one_defined : (names : List (List ℕ)) (name : List ℕ) (old new : ℕ) (i m k : Input) (b : Block) (later : List (List ℕ)) (blocks : List (List Statement)) (rest : Spelled)
-    → Passes (letters the.Define ∷ name ∷ []) i m → IsBody names 16 old new m k b → CanDefine names i.words later blocks rest → DefinesOne names name old new k.words later blocks rest
+    → Passes (letters the.Define ∷ name ∷ []) i m → IsBraced names 16 old new m k b → CanDefine names i.words later blocks rest → DefinesOne names name old new k.words later blocks rest
 one_defined names name old new i m k b later [] rest p h can = absurd (can.ends _ (sym can.spelled ∙ p.0))
 one_defined names name old new i m k b [] (x ∷ xs) rest p h can = let e = can.each in absurd (omega (arith, e))
 one_defined names name old new i m k b (n ∷ ns) (x ∷ xs) rest p h can =
@@ -89,7 +89,7 @@ any_default [] k d e lt = absurd (omega (arith, lt))
 any_default (x ∷ names) zero d e lt = refl
 any_default (x ∷ names) (suc k) d e lt = any_default names k d e (omega (arith, lt))
 
-others_differ : (names : List (List ℕ)) (n : List ℕ) (ns : List (List ℕ)) → AreDifferent (names ++ n ∷ ns) → All (λ other. other ≢ n) names
+others_differ : (names : List (List ℕ)) (n : List ℕ) (ns : List (List ℕ)) → AreNamedApart (names ++ n ∷ ns) → All (λ other. other ≢ n) names
 others_differ names n ns h = λ k d lt e. (
     let within : length names < length (names ++ n ∷ ns) = (let l = length-append names (n ∷ ns) in omega (arith, l)) in
     h k (length names) [] lt within (sym (name_front names (n ∷ ns) k lt) ∙ any_default names k [] d lt ∙ e ∙ sym (name_mid names n ns))
@@ -177,7 +177,7 @@ can_run t names k l is same p e =
     let b : Block = block_of [] t.statements in
     let len : length t.blocks ≡ length names = sym is.defined ∙ ap length (sym same) in
     record {
-      fits = subst (λ (n : ℕ). Fits n 16 b) len is.fits;
+      fits = subst (λ (n : ℕ). IsInBounds n 16 b) len is.fits;
       stops = tt;
       spelled = rest_is _ _ _ _ (sym p.0 ∙ e) ∙ ap (λ (ns : List (List ℕ)). block_words ns b) (sym same) ∙ sym (append_none (block_words names b));
     }

@@ -2,17 +2,17 @@
 use Rattle.std.proofs.Common.{◌≡◌, ◌≢◌, inl, inr, ℕ, suc, zero, ◌+◌, ◌-◌, ◌<◌, ◌≤◌, true, false, List, [], ◌∷◌, ◌++◌, length, slice_get, Some, refl, sym, ap, ◌∙◌, subst, append_assoc, arith}
 use Rattle.std.specs.Prelude.{Result, Ok, Err, IfErr}
 use Rattle.std.specs.Fmt.{decimal}
-use Rattle.script_words.specs.declared.fault.ScriptFault.{ScriptFault}
-use Rattle.script_words.specs.declared.fault.ScriptFault.TheVariants.{Memory}
-use Rattle.script_words.specs.declared.keyword.Keyword.{Keyword}
-use Rattle.script_words.specs.declared.keyword.Keyword.TheVariants as the
-use Rattle.script_words.specs.Words.{letters, begins_item, begins_statement}
+use Rattle.script_tokens.specs.declared.fault.ScriptFault.{ScriptFault}
+use Rattle.script_tokens.specs.declared.fault.ScriptFault.TheVariants.{Memory}
+use Rattle.script_tokens.specs.declared.keyword.Keyword.{Keyword}
+use Rattle.script_tokens.specs.declared.keyword.Keyword.TheVariants as the
+use Rattle.script_tokens.specs.Words.{letters, begins_item, begins_statement}
 use Rattle.script_front.specs.Block.{Block, Before, nothing, basic, stop, when, either, repeat, forever, apply}
-use Rattle.script_front.specs.Tree.{Fits, counted}
-use Rattle.script_words.specs.Reading.{Spelled, Input, Passes, BeginsWith, behind}
+use Rattle.script_front.specs.Tree.{IsInBounds, counted}
+use Rattle.script_tokens.specs.Reading.{Spelled, Input, Passes, BeginsWith, behind}
 use Rattle.script_front.specs.Spelled.{name_at, act_words, block_words}
-use Rattle.script_front.specs.Parsing.{Stops, CanBe, NoBlock, NoBody, NoApplied, BeginsNoItem, IsRead, IsBody}
-use Rattle.script_words.proofs.Keys.{first_is, rest_is}
+use Rattle.script_front.specs.Parsing.{Stops, CanBe, NoBlock, NoBody, NoApplied, BeginsNoItem, IsRead, IsBraced}
+use Rattle.script_tokens.proofs.Keys.{first_is, rest_is}
 use Rattle.script_front.proofs.Refusing.{Found, NoAct}
 use Rattle.script_front.proofs.Blocks.{key, begins_act, act_key_begins, key_is, key_first, all_read, after_apply, after_forever, after_repeat, after_if, no_else}
 
@@ -111,7 +111,7 @@ no_block_at names depth n m words vs e f none named b rest few can =
 -- ---- each kind of statement
 
 act_only : (names : List (List ℕ)) (depth : ℕ) (first : Keyword) (ws : Spelled) → NoAct first ws → (first ≡ the.End → ⊥) → (first ≡ the.If → ⊥) → (first ≡ the.Repeat → ⊥) → (first ≡ the.Forever → ⊥)
-    → (first ≡ the.Apply → ⊥) → (b : Block) (rest : Spelled) → Fits (length names) depth b → (b ≡ nothing → ⊥) → key b ≡ first → letters first ∷ ws ≡ block_words names b ++ rest → ⊥
+    → (first ≡ the.Apply → ⊥) → (b : Block) (rest : Spelled) → IsInBounds (length names) depth b → (b ≡ nothing → ⊥) → key b ≡ first → letters first ∷ ws ≡ block_words names b ++ rest → ⊥
 act_only names depth first ws none p q r s t (basic line a next) rest f some same eq = none a _ f.0 (eq ∙ append_assoc (act_words a) (block_words names next) rest)
 act_only names depth first ws none p q r s t nothing rest f some same eq = some refl
 act_only names depth first ws none p q r s t (stop line next) rest f some same eq = p (sym same)
@@ -164,7 +164,7 @@ no_first_block names depth left contact i j p none named b rest few can =
     none named x.first _ x.room x.within (let c = x.counts in omega (arith, c, few)) (rest_is _ _ _ _ (rest_is _ _ _ _ (sym p.0 ∙ x.words)))
 
 pub no_second_block : (names : List (List ℕ)) (depth old mid contact : ℕ) (i j k l : Input) (first : Block) → Passes (letters the.Contact ∷ decimal contact ∷ []) i j
-    → IsBody names depth old mid j k first → Passes (letters the.Else ∷ []) k l → NoBody names depth mid l.words → NoBlock names depth (old + 1) (letters the.If ∷ i.words)
+    → IsBraced names depth old mid j k first → Passes (letters the.Else ∷ []) k l → NoBody names depth mid l.words → NoBlock names depth (old + 1) (letters the.If ∷ i.words)
 no_second_block names depth old mid contact i j k l first p h q none named b rest few can =
     let x = after_if names (length names) depth i.words b rest (key_is names b rest the.If i.words can.stops (sym can.spelled)) can.fits can.spelled in
     let y = h.only x.first x.later x.within (rest_is _ _ _ _ (rest_is _ _ _ _ (sym p.0 ∙ x.words))) in

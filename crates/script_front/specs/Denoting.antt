@@ -1,8 +1,8 @@
 -- What a text denotes: the tree whose words it holds in their order, with blanks and comments between and around them.
 use Rattle.std.specs.Prelude.{◌≡◌, ℕ, ◌≤◌, List, [], ◌∷◌, length}
-use Rattle.script_words.specs.Bytes.{first_place}
-use Rattle.script_words.specs.Texts.{Piece, blank, comment, brace, atom, text_of, AreText, tokens_of, TokensFit, script_limits, MOST_BYTES}
-use Rattle.script_words.specs.Reading.{Spelled, lines_of}
+use Rattle.script_tokens.specs.Bytes.{first_place}
+use Rattle.script_tokens.specs.Texts.{Piece, blank, comment, brace, atom, text_of, AreText, tokens_of, TokensFit, script_limits, MOST_BYTES}
+use Rattle.script_tokens.specs.Reading.{Spelled, lines_of}
 use Rattle.script_front.specs.Tree.{Tree, IsScript}
 use Rattle.script_front.specs.Spelled.{tree_words, HasLines}
 

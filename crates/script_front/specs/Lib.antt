@@ -5,10 +5,10 @@ pub mod Parsing
 pub mod Printing
 pub mod Spelled
 pub mod Tree
-pub use Rattle.script_words.specs.Bytes
-pub use Rattle.script_words.specs.Lexing
-pub use Rattle.script_words.specs.Reading
+pub use Rattle.script_tokens.specs.Bytes
+pub use Rattle.script_tokens.specs.Lexing
+pub use Rattle.script_tokens.specs.Reading
 pub use Rattle.script_words.specs.Spelling
-pub use Rattle.script_words.specs.Texts
+pub use Rattle.script_tokens.specs.Texts
 pub use Rattle.script_words.specs.Times
-pub use Rattle.script_words.specs.Words
+pub use Rattle.script_tokens.specs.Words

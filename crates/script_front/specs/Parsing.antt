@@ -6,12 +6,12 @@ use Rattle.std.specs.Global.{Global}
 use Rattle.script_front.specs.declared.tree.Item.{Item}
 use Rattle.script_front.specs.declared.tree.Statement.{Statement}
 use Rattle.script_front.specs.Block.{Block, Before, nothing, apply}
-use Rattle.script_words.specs.declared.keyword.Keyword.TheVariants as the
-use Rattle.script_words.specs.declared.keyword.Keyword.{Keyword}
-use Rattle.script_words.specs.Words.{letters, begins_item, IsName}
-use Rattle.script_words.specs.Reading.{Spelled, Input, Passes, line_of}
+use Rattle.script_tokens.specs.declared.keyword.Keyword.TheVariants as the
+use Rattle.script_tokens.specs.declared.keyword.Keyword.{Keyword}
+use Rattle.script_tokens.specs.Words.{letters, begins_item, IsName}
+use Rattle.script_tokens.specs.Reading.{Spelled, Input, Passes, line_of}
 use Rattle.script_front.specs.Spelled.{edit_words, items_words, name_at, block_words, defined_words, tree_words, ItemsOn, BlockOn, DefinedOn, HasLines}
-use Rattle.script_front.specs.Tree.{Tree, IsScript, IsItem, Fits, AllFit, AreDifferent, counted, counted_in}
+use Rattle.script_front.specs.Tree.{Tree, IsScript, IsItem, IsInBounds, AllFit, AreNamedApart, counted, counted_in}
 
 -- the words that are left begin with those of no such value
 abbrev pub NoneOf : (A : Type 0) → (A → Type 0) → (A → Spelled) → Input → Type 0
@@ -24,7 +24,7 @@ Stops (w ∷ ws) = w ≡ letters the.CloseBrace
 
 -- these words are those of this block, in range, before others that no statement begins
 pub record CanBe (names : List (List ℕ)) (depth : ℕ) (words : Spelled) (b : Block) (rest : Spelled) : Type 0 where
-  pub fits : Fits (length names) depth b
+  pub fits : IsInBounds (length names) depth b
   pub stops : Stops rest
   pub spelled : words ≡ block_words names b ++ rest
 
@@ -45,7 +45,7 @@ NoBlock names depth left words = All IsName names → (b : Block) (rest : Spelle
 
 -- nor does one in braces
 abbrev pub NoBody : (names : List (List ℕ)) (depth left : ℕ) → Spelled → Type 0
-NoBody names depth left words = All IsName names → (b : Block) (rest : Spelled) → 1 ≤ depth → Fits (length names) (depth - 1) b → counted b ≤ left
+NoBody names depth left words = All IsName names → (b : Block) (rest : Spelled) → 1 ≤ depth → IsInBounds (length names) (depth - 1) b → counted b ≤ left
     → words ≢ letters the.OpenBrace ∷ (block_words names b ++ letters the.CloseBrace ∷ rest)
 
 -- no defined block has the name that stands here
@@ -70,7 +70,7 @@ NoItems left words = (items : List Item) (after : Spelled) → All IsItem items 
 -- these words are the definitions of these blocks by these names, where others are known, and then what is none
 pub record CanDefine (known : List (List ℕ)) (words : Spelled) (later : List (List ℕ)) (blocks : List (List Statement)) (rest : Spelled) : Type 0 where
   pub named : All IsName (known ++ later)
-  pub different : AreDifferent (known ++ later)
+  pub different : AreNamedApart (known ++ later)
   pub each : length later ≡ length blocks
   pub few : length known + length blocks ≤ 64
   pub fit : AllFit (length known) blocks
@@ -99,7 +99,7 @@ SpellsNone words = (t : Tree) → IsScript t → words ≢ tree_words t
 
 -- statements before a block: in range, counted and spelled; `old` and `new` are how many more may follow
 pub record IsRead (names : List (List ℕ)) (depth old new : ℕ) (before after : Input) (added : Before) : Type 0 where
-  pub fits : (b : Block) → Fits (length names) depth b → Fits (length names) depth (added b)
+  pub fits : (b : Block) → IsInBounds (length names) depth b → IsInBounds (length names) depth (added b)
   pub counts : (b : Block) → counted (added b) + new ≡ counted b + old
   pub spells : (b : Block) (rest : Spelled) → after.words ≡ block_words names b ++ rest → before.words ≡ block_words names (added b) ++ rest
   pub lined : (b : Block) (rest : Spelled) → after.words ≡ block_words names b ++ rest → BlockOn names before.lines b rest
@@ -108,14 +108,14 @@ pub record IsRead (names : List (List ℕ)) (depth old new : ℕ) (before after 
   pub only : (b : Block) (rest : Spelled) → CanBe names depth before.words b rest → GoesOn names depth old new after.words b rest
 
 -- a block in braces
-pub record IsBody (names : List (List ℕ)) (depth old new : ℕ) (before after : Input) (b : Block) : Type 0 where
+pub record IsBraced (names : List (List ℕ)) (depth old new : ℕ) (before after : Input) (b : Block) : Type 0 where
   pub room : 1 ≤ depth
-  pub fits : Fits (length names) (depth - 1) b
+  pub fits : IsInBounds (length names) (depth - 1) b
   pub counts : counted b + new ≡ old
   pub spells : before.words ≡ letters the.OpenBrace ∷ (block_words names b ++ letters the.CloseBrace ∷ after.words)
   pub lined : BlockOn names before.lines b (letters the.CloseBrace ∷ after.words)
   pub same : after.lines ≡ before.lines
-  pub only : (other : Block) (rest : Spelled) → Fits (length names) (depth - 1) other
+  pub only : (other : Block) (rest : Spelled) → IsInBounds (length names) (depth - 1) other
       → before.words ≡ letters the.OpenBrace ∷ (block_words names other ++ letters the.CloseBrace ∷ rest) → IsPassed old new after.words other rest
 
 abbrev pub bodies : List (Vec Statement Global) → List (List Statement)
@@ -125,7 +125,7 @@ bodies blocks = map (λ b. b.items) blocks
 pub record AreDefined (names : List (List ℕ)) (old new : ℕ) (before after : Input) (blocks : List (Vec Statement Global)) : Type 0 where
   pub defined : length names ≡ length blocks
   pub named : All IsName names
-  pub different : AreDifferent names
+  pub different : AreNamedApart names
   pub few : length blocks ≤ 64
   pub fit : AllFit 0 (bodies blocks)
   pub counts : counted_in (bodies blocks) + new ≡ old
@@ -146,7 +146,7 @@ pub record IsDefined (old new : List (List ℕ)) (left_old left_new : ℕ) (befo
   pub named : IsNamed old new name
   pub middle : Input
   pub begins : Passes (letters the.Define ∷ name ∷ []) before middle
-  pub body : IsBody old 16 left_old left_new middle after b
+  pub body : IsBraced old 16 left_old left_new middle after b
 
 -- the name of a defined block
 pub record IsApplied (names : List (List ℕ)) (line : ℕ) (before after : Input) (added : Before) : Type 0 where
@@ -169,6 +169,6 @@ pub record AreItems (items : List Item) (before after : Input) : Type 0 where
   pub lined : ItemsOn before.lines items after.words
 
 -- all that is left is the words of this tree, on its lines
-pub record IsSpelled (t : Tree) (input : Input) : Type 0 where
+pub record SpellsTree (t : Tree) (input : Input) : Type 0 where
   pub spells : input.words ≡ tree_words t
   pub lined : HasLines input.lines t

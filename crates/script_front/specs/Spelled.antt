@@ -15,11 +15,11 @@ use Rattle.script_front.specs.declared.tree.Act.TheVariants.{Edit as Edits, Wait
 use Rattle.script_front.specs.declared.tree.Header.{Header}
 use Rattle.script_front.specs.declared.tree.Item.{Item}
 use Rattle.script_front.specs.declared.tree.Statement.{Statement}
-use Rattle.script_words.specs.declared.keyword.Keyword.TheVariants as the
-use Rattle.script_words.specs.Words.{letters}
+use Rattle.script_tokens.specs.declared.keyword.Keyword.TheVariants as the
+use Rattle.script_tokens.specs.Words.{letters}
 use Rattle.script_words.specs.Spelling.{hex_word, sid_word, profile_word, time_word}
 use Rattle.script_front.specs.Block.{Block, nothing, basic, stop, when, either, repeat, forever, apply, block_of}
-use Rattle.script_words.specs.Reading.{Spelled, line_at, line_of}
+use Rattle.script_tokens.specs.Reading.{Spelled, line_of_left, line_of}
 use Rattle.script_front.specs.Tree.{Tree}
 
 -- ---- edits
@@ -169,4 +169,4 @@ pub record HasLines (lines : List ℕ) (t : Tree) : Type 0 where
   pub blocks : DefinedOn t.names lines 0 t.blocks (begin_words t)
   pub begin : t.begin_line ≡ line_of lines (begin_words t)
   pub statements : BlockOn t.names lines (block_of [] t.statements) []
-  pub last : t.last_line ≡ line_at lines 1
+  pub last : t.last_line ≡ line_of_left lines 1

@@ -10,7 +10,7 @@ use Rattle.script_front.specs.declared.tree.Header.{Header}
 use Rattle.script_front.specs.declared.tree.Item.{Item}
 use Rattle.script_front.specs.declared.tree.Statement.{Statement}
 use Rattle.script_front.specs.Block.{Block, nothing, basic, stop, when, either, repeat, forever, apply, block_of}
-use Rattle.script_words.specs.Words.{IsName}
+use Rattle.script_tokens.specs.Words.{IsName}
 
 pub record Tree : Type 0 where
   pub header : Header
@@ -58,29 +58,29 @@ IsItem item = IsEdit item.edit × Adds item.edit
 
 -- ---- names
 
-abbrev pub AreDifferent : List (List ℕ) → Type 0
-AreDifferent names = AllPairs (λ one other. one ≢ other) names
+abbrev pub AreNamedApart : List (List ℕ) → Type 0
+AreNamedApart names = AllPairs (λ one other. one ≢ other) names
 
 -- ---- blocks
 
 -- every number is in range, this many blocks are known, and braces stand at most so deep
-abbrev pub Fits : (known depth : ℕ) → Block → Type 0
-Fits known depth nothing = Unit {0}
-Fits known depth (basic line act rest) = IsAct act × Fits known depth rest
-Fits known depth (stop line rest) = Fits known depth rest
-Fits known depth (when line contact first rest) =
-    (1 ≤ depth) × (contact < 16) × Fits known (depth - 1) first × Fits known depth rest
-Fits known depth (either line contact first second rest) =
-    (1 ≤ depth) × (contact < 16) × Fits known (depth - 1) first × Fits known (depth - 1) second × Fits known depth rest
-Fits known depth (repeat line times body rest) =
-    (1 ≤ depth) × (1 ≤ times) × (times < 65536) × Fits known (depth - 1) body × Fits known depth rest
-Fits known depth (forever line body rest) = (1 ≤ depth) × Fits known (depth - 1) body × Fits known depth rest
-Fits known depth (apply line number named rest) = (number < known) × Fits known depth rest
+abbrev pub IsInBounds : (known depth : ℕ) → Block → Type 0
+IsInBounds known depth nothing = Unit {0}
+IsInBounds known depth (basic line act rest) = IsAct act × IsInBounds known depth rest
+IsInBounds known depth (stop line rest) = IsInBounds known depth rest
+IsInBounds known depth (when line contact first rest) =
+    (1 ≤ depth) × (contact < 16) × IsInBounds known (depth - 1) first × IsInBounds known depth rest
+IsInBounds known depth (either line contact first second rest) =
+    (1 ≤ depth) × (contact < 16) × IsInBounds known (depth - 1) first × IsInBounds known (depth - 1) second × IsInBounds known depth rest
+IsInBounds known depth (repeat line times body rest) =
+    (1 ≤ depth) × (1 ≤ times) × (times < 65536) × IsInBounds known (depth - 1) body × IsInBounds known depth rest
+IsInBounds known depth (forever line body rest) = (1 ≤ depth) × IsInBounds known (depth - 1) body × IsInBounds known depth rest
+IsInBounds known depth (apply line number named rest) = (number < known) × IsInBounds known depth rest
 
 -- each defined block applies those before it only; its own braces are the first
 abbrev pub AllFit : ℕ → List (List Statement) → Type 0
 AllFit known [] = Unit {0}
-AllFit known (b ∷ bs) = Fits known 15 (block_of [] b) × AllFit (known + 1) bs
+AllFit known (b ∷ bs) = IsInBounds known 15 (block_of [] b) × AllFit (known + 1) bs
 
 -- the statements of a block, those inside others too
 abbrev pub counted : Block → ℕ
@@ -102,9 +102,9 @@ pub record IsScript (t : Tree) : Type 0 where
   pub headed : IsHeader t.header
   pub adding : All IsItem t.items
   pub named : All IsName t.names
-  pub different : AreDifferent t.names
+  pub different : AreNamedApart t.names
   pub defined : length t.names ≡ length t.blocks
   pub few_blocks : length t.blocks ≤ 64
   pub blocks_fit : AllFit 0 t.blocks
-  pub fits : Fits (length t.blocks) 16 (block_of [] t.statements)
+  pub fits : IsInBounds (length t.blocks) 16 (block_of [] t.statements)
   pub few : length t.items + (counted_in t.blocks + counted (block_of [] t.statements)) ≤ 8192

@@ -2,9 +2,9 @@
 
 ghost use Rattle.std.specs.Prelude.{◌≡◌, ◌<◌, ◌≤◌, ◌∷◌, [], length, IfOk, OnOk};
 ghost use Rattle.std.specs.Fmt.{decimal};
-ghost use Rattle.script_words.specs.declared.keyword.Keyword.TheVariants as the;
-ghost use Rattle.script_words.specs.Words.{letters};
-ghost use Rattle.script_words.specs.Reading.{Passes, behind};
+ghost use Rattle.script_tokens.specs.declared.keyword.Keyword.TheVariants as the;
+ghost use Rattle.script_tokens.specs.Words.{letters};
+ghost use Rattle.script_tokens.specs.Reading.{Passes, behind};
 ghost use Rattle.script_front.specs.Spelled.{mode_words, header_words};
 ghost use Rattle.script_front.specs.Tree.{IsHeader};
 ghost use Rattle.script_front.specs.Parsing.{NoneOf};

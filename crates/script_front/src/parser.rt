@@ -3,13 +3,13 @@
 ghost use Rattle.std.specs.Prelude.{◌≡◌, ◌≢◌, ℕ, ◌+◌, ◌++◌, ◌∷◌, [], ◌<◌, ◌≤◌, true, length, slice_get, Some, IfOk, OnOk, map};
 ghost use Rattle.std.specs.List.{All};
 ghost use Rattle.script_front.specs.Block.{block_of};
-ghost use Rattle.script_words.specs.declared.keyword.Keyword.TheVariants as the;
-ghost use Rattle.script_words.specs.Words.{letters, IsName};
-ghost use Rattle.script_words.specs.Reading.{BeginsWith};
-ghost use Rattle.script_front.specs.Parsing.{AreDefined, IsDefined, IsSpelled, NoDefinitions, NoNewName, SpellsNone};
+ghost use Rattle.script_tokens.specs.declared.keyword.Keyword.TheVariants as the;
+ghost use Rattle.script_tokens.specs.Words.{letters, IsName};
+ghost use Rattle.script_tokens.specs.Reading.{BeginsWith};
+ghost use Rattle.script_front.specs.Parsing.{AreDefined, IsDefined, SpellsTree, NoDefinitions, NoNewName, SpellsNone};
 ghost use Rattle.script_front.specs.Denoting.{IsScriptOf, IsNoScript};
 ghost use Rattle.std.specs.Prelude.{IfErr, OnErr, List};
-ghost use Rattle.script_words.specs.declared.fault.ScriptFault.TheVariants.{Memory};
+ghost use Rattle.script_tokens.specs.declared.fault.ScriptFault.TheVariants.{Memory};
 ghost use Rattle.script_front.specs.Tree.{IsItem};
 
 use crate::header::header;
@@ -111,7 +111,7 @@ fn end(reader: &Reader) -> Result<(), ScriptFault>
 
 /// The words of a whole script.
 fn script(alloc: Global, reader: &mut Reader) -> Result<Script, ScriptFault>
-    ensures spelled { IfOk result (λ s. IsSpelled s reader.old) }
+    ensures spelled { IfOk result (λ s. SpellsTree s reader.old) }
     ensures none { IfErr result (λ e. e ≢ Memory → SpellsNone reader.old.words) }
 {
     let last_line = reader.last_line();

@@ -2,10 +2,10 @@
 
 ghost use Rattle.std.specs.Prelude.{◌≡◌, ℕ, ◌+◌, ◌-◌, ◌<◌, ◌≤◌, ◌++◌, ◌∷◌, [], length, OnOk, IfOk, string_bytes};
 ghost use Rattle.std.specs.Fmt.{decimal};
-ghost use Rattle.script_words.specs.declared.keyword.Keyword.TheVariants as the;
-ghost use Rattle.script_words.specs.Words.{letters};
+ghost use Rattle.script_tokens.specs.declared.keyword.Keyword.TheVariants as the;
+ghost use Rattle.script_tokens.specs.Words.{letters};
 ghost use Rattle.script_front.specs.Block.{before, nothing, block_of};
-ghost use Rattle.script_front.specs.Tree.{Fits, AllFit};
+ghost use Rattle.script_front.specs.Tree.{IsInBounds, AllFit};
 ghost use Rattle.script_front.specs.Parsing.{bodies};
 ghost use Rattle.script_front.specs.Spelled.{act_words, edit_words, name_at};
 ghost use Rattle.script_front.specs.Printing.{IsPut, line, indent, line_text, text_of_lines, block_lines, items_lines, definition_lines, defined_lines, tree_lines};
@@ -74,7 +74,7 @@ fn put_basic(out: &mut String, act: Act, depth: u8) -> Result<(), AllocError>
 }
 
 /// The line of `apply`.
-#[tactic(auto, unfolding(script_words::specs::Words::letters))]
+#[tactic(auto, unfolding(script_tokens::specs::Words::letters))]
 fn put_apply(out: &mut String, names: &Names, block: BlockId, depth: u8) -> Result<(), AllocError>
     requires { block < length names.now }
     ensures { OnOk result (string_bytes out.new ≡ string_bytes out.old ++ line_text (line depth
@@ -99,7 +99,7 @@ fn put_name(out: &mut String, names: &Names, index: usize) -> Result<(), AllocEr
 }
 
 /// The first line of `if`.
-#[tactic(auto, unfolding(script_words::specs::Words::letters))]
+#[tactic(auto, unfolding(script_tokens::specs::Words::letters))]
 fn put_if(out: &mut String, contact: ContactId, depth: u8) -> Result<(), AllocError>
     ensures { OnOk result (string_bytes out.new ≡ string_bytes out.old
         ++ line_text (line depth (letters the.If ∷ letters the.Contact ∷ decimal contact ∷ letters
@@ -111,7 +111,7 @@ fn put_if(out: &mut String, contact: ContactId, depth: u8) -> Result<(), AllocEr
 }
 
 /// The first line of `repeat`.
-#[tactic(auto, unfolding(script_words::specs::Words::letters))]
+#[tactic(auto, unfolding(script_tokens::specs::Words::letters))]
 fn put_repeat(out: &mut String, times: Times, depth: u8) -> Result<(), AllocError>
     ensures { OnOk result (string_bytes out.new ≡ string_bytes out.old
         ++ line_text (line depth (letters the.Repeat ∷ decimal times ∷ letters the.OpenBrace ∷
@@ -133,7 +133,7 @@ fn put_statement(
     left: u8,
 ) -> Result<(), AllocError>
     requires room { depth + left ≤ 16 }
-    requires fits { Fits (length names.now) left (before [] statement.now nothing) }
+    requires fits { IsInBounds (length names.now) left (before [] statement.now nothing) }
     ensures { OnOk result (IsPut names.now depth (before [] statement.now) (string_bytes out.old)
         (string_bytes out.new)) }
 {
@@ -195,7 +195,7 @@ fn put_statements(
     left: u8,
 ) -> Result<(), AllocError>
     requires room { depth + left ≤ 16 }
-    requires fits { Fits (length names.now) left (block_of [] list.now) }
+    requires fits { IsInBounds (length names.now) left (block_of [] list.now) }
     ensures { OnOk result (string_bytes out.new ≡ string_bytes out.old ++ text_of_lines
         (block_lines names.now depth (block_of [] list.now))) }
 {
@@ -206,7 +206,7 @@ fn put_statements(
 }
 
 /// A definition.
-#[tactic(auto, using(crate::proofs::Printed::definition_put), unfolding(script_words::specs::Words::letters))]
+#[tactic(auto, using(crate::proofs::Printed::definition_put), unfolding(script_tokens::specs::Words::letters))]
 fn put_definition(
     out: &mut String,
     names: &Names,
@@ -214,7 +214,7 @@ fn put_definition(
     block: &[Statement],
 ) -> Result<(), AllocError>
     requires known { index < length names.now }
-    requires fits { Fits (length names.now) 15 (block_of [] block.now) }
+    requires fits { IsInBounds (length names.now) 15 (block_of [] block.now) }
     ensures { OnOk result (string_bytes out.new ≡ string_bytes out.old ++ text_of_lines
         (definition_lines names.now index block.now)) }
 {

@@ -2,12 +2,12 @@
 
 ghost use Rattle.std.specs.Prelude.{◌≡◌, ℕ, ◌+◌, ◌<◌, ◌≤◌, ◌∷◌, [], length, IfOk, OnOk, IsSome};
 ghost use Rattle.script_front.specs.Block.{and_then, before, block_of};
-ghost use Rattle.script_words.specs.declared.keyword.Keyword.TheVariants as the;
-ghost use Rattle.script_words.specs.Words.{letters};
-ghost use Rattle.script_words.specs.Reading.{Passes, behind, line_of};
-ghost use Rattle.script_front.specs.Parsing.{IsRead, IsBody, IsApplied, Stops, NoBlock, NoBody, NoApplied};
+ghost use Rattle.script_tokens.specs.declared.keyword.Keyword.TheVariants as the;
+ghost use Rattle.script_tokens.specs.Words.{letters};
+ghost use Rattle.script_tokens.specs.Reading.{Passes, behind, line_of};
+ghost use Rattle.script_front.specs.Parsing.{IsRead, IsBraced, IsApplied, Stops, NoBlock, NoBody, NoApplied};
 ghost use Rattle.std.specs.Prelude.{◌≢◌, List, true, false, IfErr, OnErr};
-ghost use Rattle.script_words.specs.declared.fault.ScriptFault.TheVariants.{Memory};
+ghost use Rattle.script_tokens.specs.declared.fault.ScriptFault.TheVariants.{Memory};
 
 use crate::items::act;
 use crate::make::{acting, applying, choosing, conditional, ending, looping, repeating};
@@ -102,7 +102,7 @@ pub fn statements(
 }
 
 /// Whether statements end here.
-#[tactic(auto, unfolding(script_words::specs::Words::letters))]
+#[tactic(auto, unfolding(script_tokens::specs::Words::letters))]
 fn ends(reader: &Reader) -> bool
     ensures stops { result ≡ true → Stops reader.now.words }
     ensures goes_on { result ≡ false → Stops reader.now.words → ⊥ }
@@ -126,8 +126,8 @@ pub fn block(
     depth: u8,
 ) -> Result<Vec<Statement>, ScriptFault>
     requires { length names.now ≤ 64 }
-    ensures read { IfOk result (λ v. IsBody names.now depth left.old left.new reader.old reader.new
-        (block_of [] v.items)) }
+    ensures read { IfOk result (λ v. IsBraced names.now depth left.old left.new reader.old
+        reader.new (block_of [] v.items)) }
     ensures none { IfErr result (λ e. e ≢ Memory → NoBody names.now depth left.old
         reader.old.words) }
     ensures shorter { OnOk result (length reader.new.words < length reader.old.words) }

@@ -62,7 +62,7 @@ fn put_profile(out: &mut String, protection: Protection) -> Result<(), AllocErro
 }
 
 /// A sub-channel that is added.
-#[tactic(auto, unfolding(script_words::specs::Words::letters))]
+#[tactic(auto, unfolding(script_tokens::specs::Words::letters))]
 fn put_new_sub(out: &mut String, sub: NewSub) -> Result<(), AllocError>
     ensures { OnOk result (string_bytes out.new ≡ string_bytes out.old ++ spaced (edit_words
         (AddSub sub))) }
@@ -77,7 +77,7 @@ fn put_new_sub(out: &mut String, sub: NewSub) -> Result<(), AllocError>
 }
 
 /// A packet component that is added.
-#[tactic(auto, unfolding(script_words::specs::Words::letters))]
+#[tactic(auto, unfolding(script_tokens::specs::Words::letters))]
 fn put_packet(out: &mut String, packet: Packet) -> Result<(), AllocError>
     ensures { OnOk result (string_bytes out.new ≡ string_bytes out.old ++ spaced (edit_words
         (AddPacket packet))) }
@@ -100,7 +100,7 @@ fn put_packet(out: &mut String, packet: Packet) -> Result<(), AllocError>
 }
 
 /// A component, up to the service.
-#[tactic(auto, unfolding(script_words::specs::Words::letters))]
+#[tactic(auto, unfolding(script_tokens::specs::Words::letters))]
 fn put_carried(out: &mut String, component: Component) -> Result<(), AllocError>
     ensures { OnOk result (string_bytes out.new ≡ string_bytes out.old ++ spaced (carried_words
         component)) }
@@ -124,7 +124,7 @@ fn put_carried(out: &mut String, component: Component) -> Result<(), AllocError>
 }
 
 /// What a component names.
-#[tactic(auto, unfolding(script_words::specs::Words::letters))]
+#[tactic(auto, unfolding(script_tokens::specs::Words::letters))]
 fn put_carrier(out: &mut String, carrier: Carrier) -> Result<(), AllocError>
     ensures { OnOk result (string_bytes out.new ≡ string_bytes out.old ++ each_behind
         (carrier_words carrier)) }
@@ -142,7 +142,7 @@ fn put_carrier(out: &mut String, carrier: Carrier) -> Result<(), AllocError>
 }
 
 /// The service of a component.
-#[tactic(auto, unfolding(script_words::specs::Words::letters))]
+#[tactic(auto, unfolding(script_tokens::specs::Words::letters))]
 fn put_in(out: &mut String, sid: Sid) -> Result<(), AllocError>
     ensures { OnOk result (string_bytes out.new ≡ string_bytes out.old ++ each_behind (in_words
         sid)) }
@@ -185,7 +185,7 @@ fn put_after(out: &mut String, words: &str, sid: Sid) -> Result<(), AllocError>
 }
 
 /// An edit.
-#[tactic(auto, unfolding(script_words::specs::Words::letters))]
+#[tactic(auto, unfolding(script_tokens::specs::Words::letters))]
 pub fn put_edit(out: &mut String, edit: Edit) -> Result<(), AllocError>
     ensures { OnOk result (string_bytes out.new ≡ string_bytes out.old ++ spaced (edit_words
         edit)) }
@@ -242,7 +242,7 @@ fn put_time(out: &mut String, time: TimeOfDay) -> Result<(), AllocError>
 }
 
 /// Waiting for a time of the day.
-#[tactic(auto, unfolding(script_words::specs::Words::letters))]
+#[tactic(auto, unfolding(script_tokens::specs::Words::letters))]
 fn put_until(out: &mut String, time: TimeOfDay) -> Result<(), AllocError>
     ensures { OnOk result (string_bytes out.new ≡ string_bytes out.old ++ spaced (act_words (Until
         time))) }
@@ -253,7 +253,7 @@ fn put_until(out: &mut String, time: TimeOfDay) -> Result<(), AllocError>
 }
 
 /// Waiting for a contact.
-#[tactic(auto, unfolding(script_words::specs::Words::letters))]
+#[tactic(auto, unfolding(script_tokens::specs::Words::letters))]
 fn put_waiting(out: &mut String, contact: ContactId, closed: bool) -> Result<(), AllocError>
     ensures { OnOk result (string_bytes out.new ≡ string_bytes out.old ++ spaced (act_words
         (WaitContact contact closed))) }
@@ -267,7 +267,7 @@ fn put_waiting(out: &mut String, contact: ContactId, closed: bool) -> Result<(),
 }
 
 /// A statement without a block.
-#[tactic(auto, unfolding(script_words::specs::Words::letters))]
+#[tactic(auto, unfolding(script_tokens::specs::Words::letters))]
 pub fn put_act(out: &mut String, act: Act) -> Result<(), AllocError>
     ensures { OnOk result (string_bytes out.new ≡ string_bytes out.old ++ spaced (act_words act)) }
 {
@@ -290,7 +290,7 @@ pub fn put_act(out: &mut String, act: Act) -> Result<(), AllocError>
 }
 
 /// The mode, where it is not mode I.
-#[tactic(auto, unfolding(script_words::specs::Words::letters), using(crate::proofs::Printed::digit))]
+#[tactic(auto, unfolding(script_tokens::specs::Words::letters), using(crate::proofs::Printed::digit))]
 fn put_mode(out: &mut String, mode: Mode) -> Result<(), AllocError>
     ensures { OnOk result (string_bytes out.new ≡ string_bytes out.old ++ each_behind (mode_words
         mode)) }
@@ -304,7 +304,7 @@ fn put_mode(out: &mut String, mode: Mode) -> Result<(), AllocError>
 }
 
 /// The second line of a header.
-#[tactic(auto, unfolding(script_words::specs::Words::letters))]
+#[tactic(auto, unfolding(script_tokens::specs::Words::letters))]
 fn put_limits(out: &mut String, header: Header) -> Result<(), AllocError>
     ensures { OnOk result (string_bytes out.new ≡ string_bytes out.old ++ line_text (limits_line
         header)) }

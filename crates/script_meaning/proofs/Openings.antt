@@ -11,7 +11,7 @@ use Rattle.script_front.specs.Block.{Block, nothing, basic, stop, when, either, 
 use Rattle.script_front.specs.Tree.{Tree}
 use Rattle.script_scheme.specs.declared.flow.Flow.{Flow}
 use Rattle.script_scheme.specs.declared.flow.Spot.{Spot}
-use Rattle.script_scheme.specs.Scheme.{Place, onward, head, falls_out, after, alone, places, all_places, mark_of, marks_of}
+use Rattle.script_scheme.specs.Scheme.{Place, onward, head, falls_out, spot_after, alone, places, all_places, mark_of, marks_of}
 use Rattle.script_scheme.specs.Compiled.{IsCodeOf, AreLabelsOf, plan_of, body_of, opening_of, places_of, beginning}
 
 -- a stretch of places that begins at a label where this is known
@@ -34,7 +34,7 @@ labelled_head body s h = by (falls_out body)
     by true = ap (λ l. let u : Spot = record { flow = s.flow; labelled = l } in u) (sym h)
     by false = refl
 
-block_begins : (plan : Plan) (r pc : ℕ) (b : Block) (s : Spot) → s.labelled ≡ true → Begins s (places plan r pc b s) (after plan b s)
+block_begins : (plan : Plan) (r pc : ℕ) (b : Block) (s : Spot) → s.labelled ≡ true → Begins s (places plan r pc b s) (spot_after plan b s)
 block_begins plan r pc nothing s h = inr (refl, refl)
 block_begins plan r pc (basic line act rest) s h = inl (refl, h)
 block_begins plan r pc (stop line rest) s h = inl (refl, h)
@@ -52,31 +52,31 @@ block_begins plan r pc (forever line body rest) s h = by (block_begins plan r pc
     goal : List Place → Type 0
     goal ps = BeginsAt s.flow ps ⊎ ((ps ≡ []) × (None ≡ Some s))
 
-    by : Begins s (places plan r pc body s) (after plan body s) → goal (jumping (places plan r pc body (head body s)) (after plan body (head body s)))
-    by (inl there) = subst (λ u. goal (jumping (places plan r pc body u) (after plan body u))) (sym same) (inl (begins_then s.flow (places plan r pc body s) (onward (after plan body s) [] (alone line (Jump pc) r)) there))
-    by (inr none) = subst (λ u. goal (jumping (places plan r pc body u) (after plan body u))) (sym same)
-        (subst (λ ps. goal (jumping ps (after plan body s))) (sym none.0) (subst (λ w. goal (jumping [] w)) (sym none.1) (inl (refl, h))))
+    by : Begins s (places plan r pc body s) (spot_after plan body s) → goal (jumping (places plan r pc body (head body s)) (spot_after plan body (head body s)))
+    by (inl there) = subst (λ u. goal (jumping (places plan r pc body u) (spot_after plan body u))) (sym same) (inl (begins_then s.flow (places plan r pc body s) (onward (spot_after plan body s) [] (alone line (Jump pc) r)) there))
+    by (inr none) = subst (λ u. goal (jumping (places plan r pc body u) (spot_after plan body u))) (sym same)
+        (subst (λ ps. goal (jumping ps (spot_after plan body s))) (sym none.0) (subst (λ w. goal (jumping [] w)) (sym none.1) (inl (refl, h))))
 block_begins plan r pc (apply line number named rest) s h = by (block_begins plan r pc named s h) (block_begins plan r (pc + 0) rest s h)
   where
     following : List Place → Option Spot → List Place
     following ps w = ps ++ onward w [] (λ u. places plan r (pc + length ps) rest u)
 
-    by : Begins s (places plan r pc named s) (after plan named s) → Begins s (places plan r (pc + 0) rest s) (after plan rest s) →
-        Begins s (following (places plan r pc named s) (after plan named s)) (onward (after plan named s) None (λ u. after plan rest u))
-    by (inl there) more = inl (begins_then s.flow (places plan r pc named s) (onward (after plan named s) [] (λ u. places plan r (pc + length (places plan r pc named s)) rest u)) there)
+    by : Begins s (places plan r pc named s) (spot_after plan named s) → Begins s (places plan r (pc + 0) rest s) (spot_after plan rest s) →
+        Begins s (following (places plan r pc named s) (spot_after plan named s)) (onward (spot_after plan named s) None (λ u. spot_after plan rest u))
+    by (inl there) more = inl (begins_then s.flow (places plan r pc named s) (onward (spot_after plan named s) [] (λ u. places plan r (pc + length (places plan r pc named s)) rest u)) there)
     by (inr none) more =
-        subst (λ ps. Begins s (following ps (after plan named s)) (onward (after plan named s) None (λ u. after plan rest u))) (sym none.0)
-        (subst (λ w. Begins s (following [] w) (onward w None (λ u. after plan rest u))) (sym none.1)
+        subst (λ ps. Begins s (following ps (spot_after plan named s)) (onward (spot_after plan named s) None (λ u. spot_after plan rest u))) (sym none.0)
+        (subst (λ w. Begins s (following [] w) (onward w None (λ u. spot_after plan rest u))) (sym none.1)
         more)
 
 -- the whole code begins there
 all_begin : (plan : Plan) (last : ℕ) (b : Block) (s : Spot) → s.labelled ≡ true → BeginsAt s.flow (all_places plan last b s)
 all_begin plan last b s h = by (block_begins plan 0 0 b s h)
   where
-    by : Begins s (places plan 0 0 b s) (after plan b s) → BeginsAt s.flow (places plan 0 0 b s ++ onward (after plan b s) [] (alone last End 0))
-    by (inl there) = begins_then s.flow (places plan 0 0 b s) (onward (after plan b s) [] (alone last End 0)) there
+    by : Begins s (places plan 0 0 b s) (spot_after plan b s) → BeginsAt s.flow (places plan 0 0 b s ++ onward (spot_after plan b s) [] (alone last End 0))
+    by (inl there) = begins_then s.flow (places plan 0 0 b s) (onward (spot_after plan b s) [] (alone last End 0)) there
     by (inr none) =
-        subst (λ ps. BeginsAt s.flow (ps ++ onward (after plan b s) [] (alone last End 0))) (sym none.0)
+        subst (λ ps. BeginsAt s.flow (ps ++ onward (spot_after plan b s) [] (alone last End 0))) (sym none.0)
         (subst (λ w. BeginsAt s.flow (onward w [] (alone last End 0))) (sym none.1) (refl, h))
 
 -- so the label at the first instruction has it

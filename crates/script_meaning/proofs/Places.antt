@@ -7,7 +7,7 @@ use Rattle.plan_code.specs.declared.plan.Plan.{Plan}
 use Rattle.plan_code.specs.declared.instr.Instr.{Instr}
 use Rattle.script_front.specs.Block.{Block, nothing, basic, stop, when, either, repeat, forever, apply}
 use Rattle.script_scheme.specs.declared.flow.Spot.{Spot}
-use Rattle.script_scheme.specs.Scheme.{Place, moved, past, at_label, meet, join, onward, head, instr_of, falls_out, after, alone}
+use Rattle.script_scheme.specs.Scheme.{Place, moved, past, at_label, meet, join, onward, head, instr_of_act, falls_out, spot_after, alone}
 
 -- these stand in the code from this place on
 abbrev pub Stand : List Place → ℕ → List Place → Type 0
@@ -49,22 +49,22 @@ join_falls None w = refl
 join_falls (Some u) None = refl
 join_falls (Some u) (Some v) = refl
 
--- what is known after a block exists where it falls out
-pub after_falls : (plan : Plan) (b : Block) (s : Spot) → is_some (after plan b s) ≡ falls_out b
+-- what is known spot_after a block exists where it falls out
+pub after_falls : (plan : Plan) (b : Block) (s : Spot) → is_some (spot_after plan b s) ≡ falls_out b
 after_falls plan nothing s = refl
-after_falls plan (basic line act rest) s = after_falls plan rest (past (moved plan (instr_of act) s.flow))
+after_falls plan (basic line act rest) s = after_falls plan rest (past (moved plan (instr_of_act act) s.flow))
 after_falls plan (stop line rest) s = refl
-after_falls plan (when line c first rest) s = meet_falls (after plan first (past s.flow)) s _ (falls_out rest) (λ u. after_falls plan rest u)
+after_falls plan (when line c first rest) s = meet_falls (spot_after plan first (past s.flow)) s _ (falls_out rest) (λ u. after_falls plan rest u)
 after_falls plan (either line c first second rest) s =
-    let a = after plan first (past s.flow) in
-    let b = after plan second (at_label s.flow) in
+    let a = spot_after plan first (past s.flow) in
+    let b = spot_after plan second (at_label s.flow) in
     let e : is_some (join a b) ≡ (falls_out first || falls_out second) =
     join_falls a b ∙ ap (λ f. f || is_some b) (after_falls plan first (past s.flow)) ∙ ap (λ f. falls_out first || f) (after_falls plan second (at_label s.flow)) in
     onward_falls (join a b) _ _ (falls_out rest) e (λ u. after_falls plan rest u)
 after_falls plan (repeat line n body rest) s =
-    onward_falls (after plan body (head body (past s.flow))) _ _ (falls_out rest) (after_falls plan body (head body (past s.flow))) (λ u. after_falls plan rest (past u.flow))
+    onward_falls (spot_after plan body (head body (past s.flow))) _ _ (falls_out rest) (after_falls plan body (head body (past s.flow))) (λ u. after_falls plan rest (past u.flow))
 after_falls plan (forever line body rest) s = refl
-after_falls plan (apply line k named rest) s = onward_falls (after plan named s) _ _ (falls_out rest) (after_falls plan named s) (λ u. after_falls plan rest u)
+after_falls plan (apply line k named rest) s = onward_falls (spot_after plan named s) _ _ (falls_out rest) (after_falls plan named s) (λ u. after_falls plan rest u)
 
 -- a jump stands at the end of a branch that falls out
 pub jump_length : (line : ℕ) (i : Instr) (r : ℕ) (w : Option Spot) (f : Bool) → is_some w ≡ f → length (onward w [] (alone line i r)) ≡ (if f then 1 else 0)

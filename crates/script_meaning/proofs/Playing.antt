@@ -20,8 +20,8 @@ use Rattle.plan_runs.proofs.TypedRuns.{typed_code_runs}
 use Rattle.script_front.specs.Block.{Block, nothing, basic, stop, when, either, repeat, forever, apply}
 use Rattle.script_front.specs.Tree.{Tree}
 use Rattle.script_scheme.specs.declared.flow.Spot.{Spot}
-use Rattle.script_scheme.specs.Scheme.{Place, placed, alone, onward, after, places, all_places}
-use Rattle.script_scheme.specs.Compiled.{IsCodeOf, plan_of, body_of, opening_of, lines_of, beginning}
+use Rattle.script_scheme.specs.Scheme.{Place, place_of_instr, alone, onward, spot_after, places, all_places}
+use Rattle.script_scheme.specs.Compiled.{IsCodeOf, plan_of, body_of, opening_of, lines_of_places, beginning}
 use Rattle.script_meaning.specs.Meaning.{Scene, Reading, reading, scene_of, followed, first_done, Performs, opens, closes, PerformsFrame, PerformsEvent, PerformsAll, begins, ScriptsPlayAsTheyRead}
 use Rattle.script_meaning.proofs.Scenes.{ready_scene, ready_place, shown_scene}
 use Rattle.script_meaning.proofs.Places.{Stand, stand_front, stand_back, stand_all}
@@ -100,12 +100,12 @@ module _ (p : Program) where
 
 -- ---- scripts
 
-instr_there : (p : Program) (ps : List Place) → p.lines ≡ lines_of ps → (pc : ℕ) (q : Place) → slice_get ps pc ≡ Some q → instr_at p pc ≡ Some q.instr
+instr_there : (p : Program) (ps : List Place) → p.lines ≡ lines_of_places ps → (pc : ℕ) (q : Place) → slice_get ps pc ≡ Some q → instr_at p pc ≡ Some q.instr
 instr_there p ps h pc q e =
     ap (λ (ls : List Line). option_map (λ (l : Line). l.instr) (slice_get ls pc)) h
     ∙ ap (λ o. option_map (λ (l : Line). l.instr) o) (slice_get-map (λ (x : Place). let l : Line = record { number = x.line; instr = x.instr } in l) ps pc ∙ ap (λ o. option_map (λ (x : Place). let l : Line = record { number = x.line; instr = x.instr } in l) o) e)
 
--- nothing after a block
+-- nothing spot_after a block
 then_nothing : (b : Block) → followed b nothing ≡ b
 then_nothing nothing = refl
 then_nothing (basic line act rest) = ap (λ x. basic line act x) (then_nothing rest)
@@ -117,18 +117,18 @@ then_nothing (forever line body rest) = ap (λ x. forever line body x) (then_not
 then_nothing (apply line k named rest) = ap (λ x. apply line k named x) (then_nothing rest)
 
 -- the code of all of a block follows it from its beginning on
-code_follows : (p : Program) (last : ℕ) (b : Block) (start : Spot) → IsProgram p → p.lines ≡ lines_of (all_places p.plan last b start) →
+code_follows : (p : Program) (last : ℕ) (b : Block) (start : Spot) → IsProgram p → p.lines ≡ lines_of_places (all_places p.plan last b start) →
     (n : ℕ) (cs : List ℕ) → length cs ≡ 8 → Follows p n 0 cs b
 code_follows p last b start formed lines n cs eight =
     let whole = all_places p.plan last b start in
     let body = places p.plan 0 0 b start in
-    let ending = onward (after p.plan b start) [] (alone last End 0) in
+    let ending = onward (spot_after p.plan b start) [] (alone last End 0) in
     let there = instr_there p whole lines in
     let fine : (pc : ℕ) (q : Place) → slice_get whole pc ≡ Some q → IsInstr q.instr = λ pc q e. line_formed p.lines pc q.instr formed.lines_formed (there pc q e) in
     let st : Stand whole 0 whole = stand_all whole [] in
-    let goes : Goes p whole there fine n (0 + length body) 0 (after p.plan b start) cs nothing = λ m le u ds e same.
-    let j = there_after p whole there fine last End 0 (0 + length body) (λ x. []) (after p.plan b start) u e (stand_back whole 0 body ending st) in
-    ends_follow p m (0 + length body) ds (there (0 + length body) (placed last End 0 u) j.0) in
+    let goes : Goes p whole there fine n (0 + length body) 0 (spot_after p.plan b start) cs nothing = λ m le u ds e same.
+    let j = there_after p whole there fine last End 0 (0 + length body) (λ x. []) (spot_after p.plan b start) u e (stand_back whole 0 body ending st) in
+    ends_follow p m (0 + length body) ds (there (0 + length body) (place_of_instr last End 0 u) j.0) in
     subst (λ x. Follows p n 0 cs x) (then_nothing b) (block_plays p whole there fine n b 0 0 start nothing cs (stand_front whole 0 body ending st) eight goes)
 
 -- a start of the code is the script's beginning
@@ -149,8 +149,8 @@ pub scripts_play : ScriptsPlayAsTheyRead
 scripts_play s p formed typed code start first events in_range started within =
     let played : IsPlayed p first = record { program = formed; typed = typed; reached = starts_are_reached p start first in_range started } in
     let allowed : RunIsAllowed p first events = (typed_code_runs p first events played).allowed in
-    let lines : p.lines ≡ lines_of (all_places p.plan s.last_line (body_of s) (beginning (opening_of s))) =
-    subst (λ plan. p.lines ≡ lines_of (all_places plan s.last_line (body_of s) (beginning (opening_of s)))) (sym code.plan) code.lines in
+    let lines : p.lines ≡ lines_of_places (all_places p.plan s.last_line (body_of s) (beginning (opening_of s))) =
+    subst (λ plan. p.lines ≡ lines_of_places (all_places plan s.last_line (body_of s) (beginning (opening_of s)))) (sym code.plan) code.lines in
     let eight : length first.counters ≡ 8 = ap length started.counters in
     let n = counted p events first allowed in
     let follows : Follows p n first.pc first.counters (body_of s) =

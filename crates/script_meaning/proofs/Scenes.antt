@@ -8,12 +8,12 @@ use Rattle.plan_code.specs.Machine.{State, effect, settle, IsAllowed}
 use Rattle.plan_runs.specs.Frames.{is_due, with_swap, with_due_swap, is_here, with_hold_ended, ready, after_burst, is_first_noticed, shown}
 use Rattle.script_front.specs.declared.tree.Act.{Act}
 use Rattle.script_front.specs.declared.tree.Act.TheVariants.{Edit, Wait, WaitContact, Until, CommitIn, CommitAt, Join, Settle}
-use Rattle.script_scheme.specs.Scheme.{instr_of}
-use Rattle.script_meaning.specs.Meaning.{acts_as, scene_of, state_of, acts, opens, ScenesSuffice}
+use Rattle.script_scheme.specs.Scheme.{instr_of_act}
+use Rattle.script_meaning.specs.Meaning.{acts_as, scene_of, state_of_scene, acts, opens, ScenesSuffice}
 
 -- a state with the same scene, and nothing else of this one
 abbrev plain : State → State
-plain s = state_of (scene_of s)
+plain s = state_of_scene (scene_of s)
 
 -- it stands at the same place, with the same counters
 abbrev pub SamePlace : State → State → Type 0
@@ -44,7 +44,7 @@ swap_falls s = swaps_by (is_due s.left) s
 
 pub ready_scene : (s : State) → scene_of (ready s) ≡ opens (scene_of s)
 ready_scene s =
-    hold_ends (with_due_swap s) ∙ ap (λ x. scene_of (with_hold_ended (state_of x))) (swap_falls s) ∙ sym (hold_ends (with_due_swap (plain s)))
+    hold_ends (with_due_swap s) ∙ ap (λ x. scene_of (with_hold_ended (state_of_scene x))) (swap_falls s) ∙ sym (hold_ends (with_due_swap (plain s)))
 
 swap_place : (b : Bool) (s : State) → SamePlace s (if b then with_swap s else s)
 swap_place true s = (refl, refl)
@@ -71,7 +71,7 @@ shown_scene p s = turned (is_first_noticed p.plan.notice (after_burst p s).left)
 -- ---- a statement that is one instruction
 
 -- the scheme has that instruction for it
-pub acts_as_compiled : (a : Act) → instr_of a ≡ acts_as a
+pub acts_as_compiled : (a : Act) → instr_of_act a ≡ acts_as a
 acts_as_compiled (Edit edit) = refl
 acts_as_compiled (Wait frames) = refl
 acts_as_compiled (WaitContact contact closed) = refl

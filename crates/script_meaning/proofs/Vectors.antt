@@ -19,7 +19,7 @@ use Rattle.plan_code.specs.Machine.{State}
 use Rattle.plan_verifier.proofs.OneVerdict.{typed_if}
 use Rattle.plan_runs.specs.declared.event.Event.TheVariants.{Contact, Frame}
 use Rattle.plan_runs.specs.declared.event.Start.{Start}
-use Rattle.plan_runs.specs.Runs.{IsInRange, IsStart}
+use Rattle.plan_runs.specs.Runs.{StartIsInRange, IsStart}
 use Rattle.script_front.specs.declared.tree.Act.TheVariants.{Edit, Wait, Join, Settle}
 use Rattle.script_front.specs.Block.{Block, nothing, basic, when, either, repeat, forever, apply}
 use Rattle.script_front.specs.Tree.{Tree}
@@ -234,7 +234,7 @@ first =
       turn = 0;
     }
 
-in_range : IsInRange start
+in_range : StartIsInRange start
 in_range = record { eid = omega arith; count = omega arith; day = omega arith; contacts = omega arith }
 
 it_starts : (lines : List Line) → IsStart (code lines) start first

@@ -16,7 +16,7 @@ use Rattle.plan_runs.specs.declared.event.Event.{Event}
 use Rattle.plan_runs.specs.declared.event.Event.TheVariants.{Contact, Frame}
 use Rattle.plan_runs.specs.declared.event.Start.{Start}
 use Rattle.plan_runs.specs.Frames.{is_running, ready, with_next_counts}
-use Rattle.plan_runs.specs.Runs.{IsInRange, IsEvent, IsStart, run}
+use Rattle.plan_runs.specs.Runs.{StartIsInRange, IsEvent, IsStart, run}
 use Rattle.script_front.specs.declared.tree.Act.{Act}
 use Rattle.script_front.specs.declared.tree.Act.TheVariants.{Edit, Wait, WaitContact, Until, CommitIn, CommitAt, Join, Settle}
 use Rattle.script_front.specs.Block.{Block, nothing, basic, stop, when, either, repeat, forever, apply}
@@ -62,8 +62,8 @@ scene_of s =
     }
 
 -- a player's state that has this scene; the rest of it does not matter, see `SceneSuffices`
-abbrev pub state_of : Scene → State
-state_of x =
+abbrev pub state_of_scene : Scene → State
+state_of_scene x =
     record {
       current = x.current;
       next = x.next;
@@ -93,7 +93,7 @@ acts_as Settle = DoesSettle
 
 -- what an instruction makes of the scene
 abbrev pub acts : Plan → Instr → Scene → Scene
-acts plan i x = scene_of (effect plan i (state_of x))
+acts plan i x = scene_of (effect plan i (state_of_scene x))
 
 -- the statements of one block, and then those of another
 abbrev pub followed : Block → Block → Block
@@ -123,7 +123,7 @@ first_done plan (apply line number named rest) x = reading (followed named rest)
 
 -- it meets no trap
 abbrev pub IsFineToDo : Plan → Block → Scene → Type 0
-IsFineToDo plan (basic line act rest) x = IsAllowed plan (acts_as act) (state_of x)
+IsFineToDo plan (basic line act rest) x = IsAllowed plan (acts_as act) (state_of_scene x)
 IsFineToDo plan _ x = Unit {0}
 
 -- ---- frames and events
@@ -137,11 +137,11 @@ Performs plan x (suc n) y =
 
 -- a frame begins: a swap that is due is made, and what is waited for ends where it is here
 abbrev pub opens : Scene → Scene
-opens x = scene_of (ready (state_of x))
+opens x = scene_of (ready (state_of_scene x))
 
 -- a frame ends: the counts continue
 abbrev pub closes : Plan → Scene → Scene
-closes plan x = scene_of (with_next_counts plan (state_of x))
+closes plan x = scene_of (with_next_counts plan (state_of_scene x))
 
 -- in between are the statements, however many
 pub record PerformsFrame (plan : Plan) (x y : Reading) : Type 0 where
@@ -170,7 +170,7 @@ pub record SceneSuffices (plan : Plan) (s : State) : Type 0 where
   pub closed : scene_of (with_next_counts plan s) ≡ closes plan (scene_of s)
   pub ended : scene_of (effect plan End s) ≡ acts plan End (scene_of s)
   pub acted : (a : Act) → scene_of (effect plan (acts_as a) s) ≡ acts plan (acts_as a) (scene_of s)
-  pub allowed : (a : Act) → IsAllowed plan (acts_as a) s ↔ IsAllowed plan (acts_as a) (state_of (scene_of s))
+  pub allowed : (a : Act) → IsAllowed plan (acts_as a) s ↔ IsAllowed plan (acts_as a) (state_of_scene (scene_of s))
 
 abbrev pub ScenesSuffice : Type 0
 ScenesSuffice = (plan : Plan) (s : State) → SceneSuffices plan s
@@ -203,7 +203,7 @@ pub record PlaysAlong (s : Tree) (start : Start) (events : List Event) (state : 
 abbrev pub PlaysAsItReads : Tree → Program → Type 0
 PlaysAsItReads s code =
     (start : Start) (first : State) (events : List Event)
-    → IsInRange start → IsStart code start first → Each IsEvent events
+    → StartIsInRange start → IsStart code start first → Each IsEvent events
     → PlaysAlong s start events (run code first events)
 
 -- so does every typed code of a script

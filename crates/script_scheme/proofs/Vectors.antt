@@ -22,10 +22,10 @@ use Rattle.script_front.specs.Tree.{Tree}
 use Rattle.script_scheme.specs.declared.flow.Flow.{Flow}
 use Rattle.script_scheme.specs.declared.flow.Mark.{Mark}
 use Rattle.script_scheme.specs.declared.flow.Spot.{Spot}
-use Rattle.script_scheme.specs.Scheme.{at_label, past, widest, falls_out, after, all_places, marks_of}
+use Rattle.script_scheme.specs.Scheme.{at_label, past, widest, falls_out, spot_after, all_places, marks_of}
 use Rattle.script_scheme.specs.Judged.{FitsFlow, WaysAgree, BranchesAgree, ComesRound, IsDone, Reached, IsJudged}
-use Rattle.script_scheme.specs.Need.{suspends, GoesTo, HasPath, IsWithin, IsNeed}
-use Rattle.script_scheme.specs.Compiled.{AreFine, StandsIn, Added, Tabled, IsLabelOf, AreLabelsOf, IsCodeOf, CostsItsNeeds, IsAccepted, beginning, lines_of, instrs_of, nested, places_of}
+use Rattle.script_scheme.specs.Need.{suspends, GoesTo, HasPath, IsWithinBudget, IsNeed}
+use Rattle.script_scheme.specs.Compiled.{AreFine, StandsIn, Added, Tabled, IsLabelOf, AreLabelsOf, IsCodeOf, CostsItsNeeds, IsAccepted, beginning, lines_of_places, instrs_of, nested, places_of}
 
 -- ---- values shared by these vectors
 
@@ -88,7 +88,7 @@ stops i j to pc s e g =
     let not : suspends i ≡ false = subst (λ x. suspends x ≡ false) is g.0 in
     cc
 
-stays_within_one : IsWithin 1 two
+stays_within_one : IsWithinBudget 1 two
 stays_within_one pc zero h = omega arith
 stays_within_one pc (suc zero) h = omega arith
 stays_within_one zero (suc (suc n)) h = absurd (stops (Wait 1) h.0 h.1 0 refl h.2 h.3)
@@ -101,7 +101,7 @@ round_and_round zero = tt
 round_and_round (suc zero) = search rules
 round_and_round (suc (suc n)) = (Jump 0, 0, refl, (refl, inr refl), round_and_round (suc n))
 
-is_over_any_budget : (budget : ℕ) → IsWithin budget (Jump 0 ∷ []) → ⊥
+is_over_any_budget : (budget : ℕ) → IsWithinBudget budget (Jump 0 ∷ []) → ⊥
 is_over_any_budget budget h = let e : suc budget ≤ budget = h 0 (suc budget) (round_and_round (suc budget)) in omega (arith, e)
 
 needs_one : IsNeed two 0 1
@@ -154,10 +154,10 @@ none_follows = tt
 one_follows : IsDone (waits nothing) → ⊥
 one_follows h = h
 
-what_ends_leads_nowhere : Reached (after plan (stop 4 nothing) start) nothing (λ u. ⊥)
+what_ends_leads_nowhere : Reached (spot_after plan (stop 4 nothing) start) nothing (λ u. ⊥)
 what_ends_leads_nowhere = tt
 
-nothing_is_reached_after_it : Reached (after plan (stop 4 nothing) start) (waits nothing) (λ u. Unit {0}) → ⊥
+nothing_is_reached_after_it : Reached (spot_after plan (stop 4 nothing) start) (waits nothing) (λ u. Unit {0}) → ⊥
 nothing_is_reached_after_it h = h
 
 a_wait_is_judged : IsJudged plan (waits nothing) start
@@ -184,7 +184,7 @@ falls_not = refl
 
 -- `repeat 3 { wait 1 }`, in a text of five lines
 the_lines_of_a_loop :
-    lines_of (all_places plan 5 (repeat 2 3 (waits nothing) nothing) start)
+    lines_of_places (all_places plan 5 (repeat 2 3 (waits nothing) nothing) start)
     ≡ record { number = 2; instr = Set 0 3 } ∷ record { number = 3; instr = Wait 1 } ∷ record { number = 2; instr = Loop 0 1 } ∷ record { number = 5; instr = End } ∷ []
 the_lines_of_a_loop = refl
 
@@ -192,7 +192,7 @@ the_labels_of_a_loop : map (λ m. m.pc) (marks_of 0 (all_places plan 5 (repeat 2
 the_labels_of_a_loop = refl
 
 -- `if contact 1 { } else { }` and `wait 1`
-the_instructions_of_a_choice : instrs_of (lines_of (all_places plan 5 (either 2 1 nothing nothing (waits nothing)) start)) ≡ Test 1 2 ∷ Jump 2 ∷ Wait 1 ∷ End ∷ []
+the_instructions_of_a_choice : instrs_of (lines_of_places (all_places plan 5 (either 2 1 nothing nothing (waits nothing)) start)) ≡ Test 1 2 ∷ Jump 2 ∷ Wait 1 ∷ End ∷ []
 the_instructions_of_a_choice = refl
 
 two_deep : nested (repeat 2 3 (repeat 3 3 (waits nothing) nothing) nothing) ≡ 2

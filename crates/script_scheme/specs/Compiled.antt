@@ -20,7 +20,7 @@ use Rattle.script_scheme.specs.declared.flow.Mark.{Mark}
 use Rattle.script_scheme.specs.declared.flow.Spot.{Spot}
 use Rattle.script_scheme.specs.Scheme.{Place, at_label, all_places, marks_of}
 use Rattle.script_scheme.specs.Judged.{IsJudged}
-use Rattle.script_scheme.specs.Need.{IsWithin, IsNeed}
+use Rattle.script_scheme.specs.Need.{IsWithinBudget, IsNeed}
 
 -- ---- the parts of a script
 
@@ -57,8 +57,8 @@ body_of s = block_of (table_of [] s.blocks) s.statements
 abbrev pub places_of : Tree → List Place
 places_of s = all_places (plan_of s) s.last_line (body_of s) (beginning (opening_of s))
 
-abbrev pub lines_of : List Place → List Line
-lines_of ps = map (λ p. record { number = p.line; instr = p.instr }) ps
+abbrev pub lines_of_places : List Place → List Line
+lines_of_places ps = map (λ p. record { number = p.line; instr = p.instr }) ps
 
 abbrev pub instrs_of : List Line → List Instr
 instrs_of lines = map (λ l. l.instr) lines
@@ -99,7 +99,7 @@ AreLabelsOf table (m ∷ ms) (l ∷ ls) = IsLabelOf table m l × AreLabelsOf tab
 -- the code of a script, but for what its labels cost
 pub record IsCodeOf (s : Tree) (code : Program) : Type 0 where
   pub plan : code.plan ≡ plan_of s
-  pub lines : code.lines ≡ lines_of (places_of s)
+  pub lines : code.lines ≡ lines_of_places (places_of s)
   pub table : Tabled [] (marks_of 0 (places_of s)) code.configurations
   pub labels : AreLabelsOf code.configurations (marks_of 0 (places_of s)) code.labels
 
@@ -130,4 +130,4 @@ pub record IsAccepted (s : Tree) : Type 0 where
   pub configurations :
       (table : List Configuration) → Tabled [] (marks_of 0 (places_of s)) table → length table ≤ MOST_CONFIGURATIONS
   pub repeats : nested (body_of s) ≤ COUNTERS
-  pub within : IsWithin s.header.budget (instrs_of (lines_of (places_of s)))
+  pub within : IsWithinBudget s.header.budget (instrs_of (lines_of_places (places_of s)))

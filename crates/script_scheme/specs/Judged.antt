@@ -1,11 +1,11 @@
--- The judgement of a block of statements: from what is known before it, it leads to what is known after it.
+-- The judgement of a block of statements: from what is known before it, it leads to what is known spot_after it.
 use Rattle.std.specs.Prelude.{Option, Some, None}
 use Rattle.plan_code.specs.declared.plan.Plan.{Plan}
 use Rattle.plan_verifier.specs.Typing.{IsFine, FitsSwap}
 use Rattle.script_front.specs.Block.{Block, nothing, basic, stop, when, either, repeat, forever, apply}
 use Rattle.script_scheme.specs.declared.flow.Flow.{Flow}
 use Rattle.script_scheme.specs.declared.flow.Spot.{Spot}
-use Rattle.script_scheme.specs.Scheme.{known_at, moved, at_label, past, merged, meet, join, head, instr_of, after}
+use Rattle.script_scheme.specs.Scheme.{known_at, moved, at_label, past, merged, meet, join, head, instr_of_act, spot_after}
 
 -- a state fits another: it knows as much or more
 abbrev pub FitsFlow : Flow → Flow → Type 0
@@ -16,7 +16,7 @@ abbrev pub WaysAgree : Option Spot → Option Spot → Type 0
 WaysAgree (Some s) (Some t) = FitsFlow s.flow (merged s.flow t.flow) × FitsFlow t.flow (merged s.flow t.flow)
 WaysAgree _ _ = Unit {0}
 
--- after two branches
+-- spot_after two branches
 abbrev pub BranchesAgree : Option Spot → Option Spot → Type 0
 BranchesAgree first second = WaysAgree second first
 
@@ -35,26 +35,26 @@ abbrev pub Reached : Option Spot → Block → (Spot → Type 0) → Type 0
 Reached None rest judged = IsDone rest
 Reached (Some s) rest judged = judged s
 
--- from this spot the block leads to `after` it
+-- from this spot the block leads to `spot_after` it
 abbrev pub IsJudged : Plan → Block → Spot → Type 0
 IsJudged plan nothing s = Unit {0}
 IsJudged plan (basic line act rest) s =
-    IsFine plan (instr_of act) (known_at s.flow) × IsJudged plan rest (past (moved plan (instr_of act) s.flow))
+    IsFine plan (instr_of_act act) (known_at s.flow) × IsJudged plan rest (past (moved plan (instr_of_act act) s.flow))
 IsJudged plan (stop line rest) s = IsDone rest
 IsJudged plan (when line contact first rest) s =
-    let a = after plan first (past s.flow) in
+    let a = spot_after plan first (past s.flow) in
     IsJudged plan first (past s.flow) × WaysAgree a (Some s) × Reached (meet a (Some s)) rest (λ u. IsJudged plan rest u)
 IsJudged plan (either line contact first second rest) s =
-    let a = after plan first (past s.flow) in
-    let b = after plan second (at_label s.flow) in
+    let a = spot_after plan first (past s.flow) in
+    let b = spot_after plan second (at_label s.flow) in
     IsJudged plan first (past s.flow) × IsJudged plan second (at_label s.flow) × BranchesAgree a b
     × Reached (join a b) rest (λ u. IsJudged plan rest u)
 IsJudged plan (repeat line times body rest) s =
     let start = head body (past s.flow) in
-    IsJudged plan body start × ComesRound (after plan body start) start
-    × Reached (after plan body start) rest (λ u. IsJudged plan rest (past u.flow))
+    IsJudged plan body start × ComesRound (spot_after plan body start) start
+    × Reached (spot_after plan body start) rest (λ u. IsJudged plan rest (past u.flow))
 IsJudged plan (forever line body rest) s =
     let start = head body s in
-    IsJudged plan body start × ComesRound (after plan body start) start × IsDone rest
+    IsJudged plan body start × ComesRound (spot_after plan body start) start × IsDone rest
 IsJudged plan (apply line number named rest) s =
-    IsJudged plan named s × Reached (after plan named s) rest (λ u. IsJudged plan rest u)
+    IsJudged plan named s × Reached (spot_after plan named s) rest (λ u. IsJudged plan rest u)

@@ -25,8 +25,8 @@ HasPath code pc (suc (suc n)) =
     (i : Instr) × (to : ℕ) × (slice_get code pc ≡ Some i) × GoesTo i pc to × HasPath code to (suc n)
 
 -- no path is longer than the budget: then no round is without a suspension
-abbrev pub IsWithin : ℕ → List Instr → Type 0
-IsWithin budget code = (pc n : ℕ) → HasPath code pc n → n ≤ budget
+abbrev pub IsWithinBudget : ℕ → List Instr → Type 0
+IsWithinBudget budget code = (pc n : ℕ) → HasPath code pc n → n ≤ budget
 
 -- the need of a pc
 pub record IsNeed (code : List Instr) (pc need : ℕ) : Type 0 where

@@ -23,7 +23,7 @@ known_at t = record { current = t.current; next = t.next; pending = t.pending; c
 abbrev pub flow_of : Known → Flow
 flow_of t = record { current = t.current; next = t.next; pending = t.pending }
 
--- after an instruction
+-- spot_after an instruction
 abbrev pub moved : Plan → Instr → Flow → Flow
 moved plan i t = flow_of (leaves plan i (known_at t))
 
@@ -63,7 +63,7 @@ meet None (Some t) = Some (at_label t.flow)
 meet (Some s) None = Some (at_label s.flow)
 meet (Some s) (Some t) = Some (at_label (merged s.flow t.flow))
 
--- after two branches: where the first doesn't fall out, the second continues and no label stands there
+-- spot_after two branches: where the first doesn't fall out, the second continues and no label stands there
 abbrev pub join : Option Spot → Option Spot → Option Spot
 join None second = second
 join (Some s) second = meet second (Some s)
@@ -74,15 +74,15 @@ onward (Some s) none some = some s
 
 -- ---- instructions
 
-abbrev pub instr_of : Act → Instr
-instr_of (Edits edit) = Edit edit
-instr_of (Waits frames) = Wait frames
-instr_of (WaitsContact contact closed) = WaitContact contact closed
-instr_of (WaitsUntil second) = Until (frame_at second)
-instr_of (CommitsIn delay) = CommitIn delay
-instr_of (CommitsAt count) = CommitAt count
-instr_of Joins = Join
-instr_of Settles = Settle
+abbrev pub instr_of_act : Act → Instr
+instr_of_act (Edits edit) = Edit edit
+instr_of_act (Waits frames) = Wait frames
+instr_of_act (WaitsContact contact closed) = WaitContact contact closed
+instr_of_act (WaitsUntil second) = Until (frame_at second)
+instr_of_act (CommitsIn delay) = CommitIn delay
+instr_of_act (CommitsAt count) = CommitAt count
+instr_of_act Joins = Join
+instr_of_act Settles = Settle
 
 -- what follows can be reached
 abbrev pub falls_out : Block → Bool
@@ -100,18 +100,18 @@ abbrev pub head : Block → Spot → Spot
 head body s = record { flow = s.flow; labelled = if falls_out body then true else s.labelled }
 
 -- where a block leads: nowhere, if it doesn't fall out
-abbrev pub after : Plan → Block → Spot → Option Spot
-after plan nothing s = Some s
-after plan (basic line act rest) s = after plan rest (past (moved plan (instr_of act) s.flow))
-after plan (stop line rest) s = None
-after plan (when line contact first rest) s =
-    onward (meet (after plan first (past s.flow)) (Some s)) None (λ u. after plan rest u)
-after plan (either line contact first second rest) s =
-    onward (join (after plan first (past s.flow)) (after plan second (at_label s.flow))) None (λ u. after plan rest u)
-after plan (repeat line times body rest) s =
-    onward (after plan body (head body (past s.flow))) None (λ u. after plan rest (past u.flow))
-after plan (forever line body rest) s = None
-after plan (apply line number named rest) s = onward (after plan named s) None (λ u. after plan rest u)
+abbrev pub spot_after : Plan → Block → Spot → Option Spot
+spot_after plan nothing s = Some s
+spot_after plan (basic line act rest) s = spot_after plan rest (past (moved plan (instr_of_act act) s.flow))
+spot_after plan (stop line rest) s = None
+spot_after plan (when line contact first rest) s =
+    onward (meet (spot_after plan first (past s.flow)) (Some s)) None (λ u. spot_after plan rest u)
+spot_after plan (either line contact first second rest) s =
+    onward (join (spot_after plan first (past s.flow)) (spot_after plan second (at_label s.flow))) None (λ u. spot_after plan rest u)
+spot_after plan (repeat line times body rest) s =
+    onward (spot_after plan body (head body (past s.flow))) None (λ u. spot_after plan rest (past u.flow))
+spot_after plan (forever line body rest) s = None
+spot_after plan (apply line number named rest) s = onward (spot_after plan named s) None (λ u. spot_after plan rest u)
 
 -- an instruction, with what is known before it and the number of repeats around it
 pub record Place : Type 0 where
@@ -120,49 +120,49 @@ pub record Place : Type 0 where
   pub spot : Spot
   pub repeats : ℕ
 
-abbrev pub placed : ℕ → Instr → ℕ → Spot → Place
-placed line i r s = record { line = line; instr = i; spot = s; repeats = r }
+abbrev pub place_of_instr : ℕ → Instr → ℕ → Spot → Place
+place_of_instr line i r s = record { line = line; instr = i; spot = s; repeats = r }
 
 abbrev pub alone : ℕ → Instr → ℕ → Spot → List Place
-alone line i r s = placed line i r s ∷ []
+alone line i r s = place_of_instr line i r s ∷ []
 
 -- the code of a block inside this many repeats, from this pc on
 abbrev pub places : Plan → ℕ → ℕ → Block → Spot → List Place
 places plan r pc nothing s = []
 places plan r pc (basic line act rest) s =
-    placed line (instr_of act) r s ∷ places plan r (pc + 1) rest (past (moved plan (instr_of act) s.flow))
-places plan r pc (stop line rest) s = placed line End r s ∷ []
+    place_of_instr line (instr_of_act act) r s ∷ places plan r (pc + 1) rest (past (moved plan (instr_of_act act) s.flow))
+places plan r pc (stop line rest) s = place_of_instr line End r s ∷ []
 places plan r pc (when line contact first rest) s =
     let firsts = places plan r (pc + 1) first (past s.flow) in
     let end = pc + 1 + length firsts in
-    placed line (Test contact end) r s
-    ∷ (firsts ++ onward (meet (after plan first (past s.flow)) (Some s)) [] (λ u. places plan r end rest u))
+    place_of_instr line (Test contact end) r s
+    ∷ (firsts ++ onward (meet (spot_after plan first (past s.flow)) (Some s)) [] (λ u. places plan r end rest u))
 places plan r pc (either line contact first second rest) s =
     let firsts = places plan r (pc + 1) first (past s.flow) in
-    let leaving = after plan first (past s.flow) in
+    let leaving = spot_after plan first (past s.flow) in
     let start = pc + 1 + length firsts + (if falls_out first then 1 else 0) in
     let seconds = places plan r start second (at_label s.flow) in
     let end = start + length seconds in
-    placed line (Test contact start) r s
+    place_of_instr line (Test contact start) r s
     ∷ (firsts ++ (onward leaving [] (alone line (Jump end) r) ++ (seconds
-    ++ onward (join leaving (after plan second (at_label s.flow))) [] (λ u. places plan r end rest u))))
+    ++ onward (join leaving (spot_after plan second (at_label s.flow))) [] (λ u. places plan r end rest u))))
 places plan r pc (repeat line times body rest) s =
     let start = head body (past s.flow) in
     let bodies = places plan (r + 1) (pc + 1) body start in
     let end = pc + 1 + length bodies in
-    placed line (Set r times) r s
-    ∷ (bodies ++ onward (after plan body start) [] (λ u.
-    placed line (Loop r (pc + 1)) (r + 1) u ∷ places plan r (end + 1) rest (past u.flow)))
+    place_of_instr line (Set r times) r s
+    ∷ (bodies ++ onward (spot_after plan body start) [] (λ u.
+    place_of_instr line (Loop r (pc + 1)) (r + 1) u ∷ places plan r (end + 1) rest (past u.flow)))
 places plan r pc (forever line body rest) s =
     let start = head body s in
-    places plan r pc body start ++ onward (after plan body start) [] (alone line (Jump pc) r)
+    places plan r pc body start ++ onward (spot_after plan body start) [] (alone line (Jump pc) r)
 places plan r pc (apply line number named rest) s =
     let names = places plan r pc named s in
-    names ++ onward (after plan named s) [] (λ u. places plan r (pc + length names) rest u)
+    names ++ onward (spot_after plan named s) [] (λ u. places plan r (pc + length names) rest u)
 
 -- all of a script: an End follows, in this line, where it falls out
 abbrev pub all_places : Plan → ℕ → Block → Spot → List Place
-all_places plan last b s = places plan 0 0 b s ++ onward (after plan b s) [] (alone last End 0)
+all_places plan last b s = places plan 0 0 b s ++ onward (spot_after plan b s) [] (alone last End 0)
 
 -- ---- labels
 

@@ -1,4 +1,4 @@
--- Words that are no words of the grammar, no names, no profiles and no times.
+-- Words that are no names, no profiles and no times.
 use Rattle.std.proofs.Common.{◌≡◌, ◌≢◌, ◌⊎◌, inl, inr, ℕ, ◌+◌, ◌*◌, ◌/◌, ◌%◌, ◌<◌, ◌≤◌, true, false, List, [], ◌∷◌, length, get_or, refl, sym, ap, ◌∙◌, subst, arith}
 use Rattle.std.specs.Prelude.{Result, Ok, Err, OnErr}
 use Rattle.std.proofs.lemmas.Bool.{false≢true}
@@ -9,23 +9,9 @@ use Rattle.std.proofs.lemmas.Fmt.{decimal_injective}
 use Rattle.mux_eep.specs.declared.sizes.EepSet.{EepSet}
 use Rattle.mux_eep.specs.declared.sizes.EepSet.TheVariants.{A, B}
 use Rattle.mux_eep.specs.Sizes.{Profile}
-use Rattle.script_words.specs.declared.token.Kind.TheVariants.{Brace, Letter}
-use Rattle.script_words.specs.declared.keyword.Keyword.TheVariants.{OpenBrace, CloseBrace}
-use Rattle.script_words.specs.Texts.{AreLetters}
-use Rattle.script_words.specs.Words.{letters, IsName}
+use Rattle.script_tokens.specs.Words.{IsName}
 use Rattle.script_words.specs.Spelling.{set_letter, profile_word, two_digits, time_word}
-use Rattle.script_words.specs.Reading.{Spelled, BeginsWith}
-
--- ---- words of the grammar
-
--- a brace is no atom
-pub no_open : (w : List ℕ) → w ≡ letters OpenBrace → AreLetters w → ⊥
-unfolding letters
-no_open w e h = let g : AreLetters (letters OpenBrace) = subst AreLetters e h in let f : Brace ≡ Letter = g.0 in absurd cc
-
-pub no_close : (w : List ℕ) → w ≡ letters CloseBrace → AreLetters w → ⊥
-unfolding letters
-no_close w e h = let g : AreLetters (letters CloseBrace) = subst AreLetters e h in let f : Brace ≡ Letter = g.0 in absurd cc
+use Rattle.script_tokens.specs.Reading.{Spelled, BeginsWith}
 
 -- ---- the first of two lists
 

@@ -1,10 +1,3 @@
 pub mod Atoms
-pub mod Digits
-pub mod Ending
-pub mod Keys
-mod Lexing
 mod Numerals
-pub mod Pieces
-pub mod Spans
-mod Vectors
 pub mod Wording

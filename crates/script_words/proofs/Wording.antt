@@ -7,13 +7,13 @@ use Rattle.std.specs.Char.{is_ascii_digit}
 use Rattle.std.specs.Str.{all_ascii_digits}
 use Rattle.std.specs.List.{list_all}
 use Rattle.std.proofs.lemmas.Fmt.{digits_decimal, decimal_nonempty}
-use Rattle.script_words.specs.declared.token.Kind.{Kind}
-use Rattle.script_words.specs.declared.token.Kind.TheVariants.{Blank, LineEnd, Hash, Brace, Letter, Bad}
-use Rattle.script_words.specs.declared.keyword.Keyword.{Keyword}
-use Rattle.script_words.specs.declared.keyword.Keyword.TheVariants.{Ensemble, Mode, Period, Notice, Budget, Define, Begin, Sub, At, Eep, Service, Audio, In, Data, Carry, Packet, Groups, Raw, TypeWord, Address, Drop, Component, Move, Rate, Wait, Contact, Closed, Open, Until, Commit, Join, Settle, End, If, Else, Repeat, Forever, Apply, OpenBrace, CloseBrace}
-use Rattle.script_words.specs.Bytes.{kind_of}
-use Rattle.script_words.specs.Texts.{AreLetters}
-use Rattle.script_words.specs.Words.{letters, is_lower, is_name_byte, IsName}
+use Rattle.script_tokens.specs.declared.token.Kind.{Kind}
+use Rattle.script_tokens.specs.declared.token.Kind.TheVariants.{Blank, LineEnd, Hash, Brace, Letter, Bad}
+use Rattle.script_tokens.specs.declared.keyword.Keyword.{Keyword}
+use Rattle.script_tokens.specs.declared.keyword.Keyword.TheVariants.{Ensemble, Mode, Period, Notice, Budget, Define, Begin, Sub, At, Eep, Service, Audio, In, Data, Carry, Packet, Groups, Raw, TypeWord, Address, Drop, Component, Move, Rate, Wait, Contact, Closed, Open, Until, Commit, Join, Settle, End, If, Else, Repeat, Forever, Apply, OpenBrace, CloseBrace}
+use Rattle.script_tokens.specs.Bytes.{kind_of}
+use Rattle.script_tokens.specs.Texts.{AreLetters}
+use Rattle.script_tokens.specs.Words.{letters, is_lower, is_name_byte, IsName}
 use Rattle.script_words.specs.Spelling.{hex_digit, hex_word, hex_long, sid_word, set_letter, profile_word, two_digits, time_word}
 use Rattle.mux_eep.specs.declared.sizes.EepSet.{EepSet}
 use Rattle.mux_eep.specs.declared.sizes.EepSet.TheVariants.{A, B}
@@ -26,8 +26,8 @@ use Rattle.std.specs.Str.{IsUtf8}
 use Rattle.std.proofs.lemmas.Str.{IsUtf8-from_ascii}
 use Rattle.std.proofs.lemmas.Str.Ascii.{IsAscii-from_all}
 use Rattle.std.proofs.lemmas.Bool.{eqb-true}
-use Rattle.script_words.specs.Reading.{Spelled}
-use Rattle.script_words.proofs.Digits.{own, digit_range}
+use Rattle.script_tokens.specs.Reading.{Spelled}
+use Rattle.script_tokens.proofs.Digits.{own, digit_range}
 
 -- ---- words
 

@@ -1,7 +1,7 @@
-pub mod Bytes
-pub mod Lexing
-pub mod Reading
 pub mod Spelling
-pub mod Texts
 pub mod Times
-pub mod Words
+pub use Rattle.script_tokens.specs.Bytes
+pub use Rattle.script_tokens.specs.Lexing
+pub use Rattle.script_tokens.specs.Reading
+pub use Rattle.script_tokens.specs.Texts
+pub use Rattle.script_tokens.specs.Words

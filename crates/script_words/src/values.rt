@@ -7,21 +7,21 @@ ghost use Rattle.std.specs.Prelude.{◌≡◌, ℕ, ◌∷◌, ◌<◌, ◌≤�
 ghost use Rattle.mux_types.specs.declared.numbers.Sid.{Sid};
 ghost use Rattle.mux_eep.specs.Sizes.{Profile};
 ghost use Rattle.std.specs.Fmt.{decimal};
-ghost use Rattle.script_words.specs.Reading.{Passes, BeginsWith};
+ghost use Rattle.script_tokens.specs.Reading.{Passes, BeginsWith};
 ghost use Rattle.script_words.specs.Spelling.{hex_word, sid_word, profile_word, time_word};
 ghost use Rattle.mux_config.specs.Configuration.{IsSid};
 ghost use Rattle.std.specs.Prelude.{true, false};
 ghost use Rattle.std.specs.List.{list_all};
-ghost use Rattle.script_words.specs.Words.{IsName, has_name_letters, is_name_byte};
+ghost use Rattle.script_tokens.specs.Words.{IsName, has_name_letters, is_name_byte};
 
-use crate::fault::ScriptFault;
-use crate::keyword::Keyword;
 use crate::number;
-use crate::reader::Reader;
 use crate::time::TimeOfDay;
 use mux_config::{ScId, ScTy, Sid, StartAddress, SubId};
 use mux_eep::Protection;
 use plan_code::{ContactId, Delay, Frames, Times};
+use script_tokens::fault::ScriptFault;
+use script_tokens::keyword::Keyword;
+use script_tokens::reader::Reader;
 
 /// A decimal from `low` to `high`.
 #[tactic(auto, using(crate::proofs::Wording::decimal_letters, crate::proofs::Atoms::decimal_below, crate::proofs::Atoms::decimal_above))]

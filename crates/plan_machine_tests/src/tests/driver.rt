@@ -2,7 +2,7 @@
 
 ghost use Rattle.std.specs.Prelude.{◌≡◌, IfSome};
 ghost use Rattle.fib_codec.specs.Ranges.{IsEnsembleInformation};
-ghost use Rattle.plan_runs.specs.Runs.{IsInRange};
+ghost use Rattle.plan_runs.specs.Runs.{StartIsInRange};
 ghost use Rattle.plan_runs.specs.TypedRuns.{IsPlayed};
 ghost use Rattle.plan_runs.specs.Frames.{after_frame, ensemble_sent};
 ghost use Rattle.plan_machine.specs.Positions.{state_of};
@@ -43,7 +43,7 @@ pub struct Header {
 
 /// A machine at the start of a typed code.
 fn started<S: Store>(code: &Verified, start: Start) -> Machine<S>
-    requires { IsInRange start }
+    requires { StartIsInRange start }
     ensures { IsPlayed code.now (state_of S.content result) }
 {
     let _code = code.code();
@@ -121,7 +121,7 @@ impl<'a, S: Store> Model for Driver<'a, S> {
 impl<'a, S: Store> Driver<'a, S> {
     /// The machine at the start of the code.
     pub fn new(code: &'a Verified, start: Start) -> Driver<'a, S>
-        requires { IsInRange start }
+        requires { StartIsInRange start }
     {
         Driver {
             code,

@@ -1,7 +1,7 @@
 use Rattle.std.proofs.Common.{◌≡◌, ℕ, List, ap, subst, ◌∙◌}
 use Rattle.plan_code.specs.Program.{Program}
 use Rattle.plan_runs.specs.declared.event.Start.{Start as Starting}
-use Rattle.plan_player.specs.Playing.{Playing, BeginsWith}
+use Rattle.plan_player.specs.Playing.{Playing, IsAtStart}
 use Rattle.plan_events.specs.declared.command.Command.{Command}
 use Rattle.plan_debug.specs.Commands.{Debugging, fresh}
 use Rattle.plan_playback.specs.Playback.{Request, asked, start_of}
@@ -22,8 +22,8 @@ returns-in-Ok-lead-clause-printed g c = λ p commands h.
     let eid : c.plan.result.eid ≡ v.plan.eid = cc (c.plan.ensures.value, c.code.ensures.value) in
     let starts : start ≡ start_of v r = ap (λ (e : ℕ). let s : Starting = record { eid = e; count = c.args.start.count; day = c.args.start.day; contacts = c.args.start.contacts } in s) eid in
     let codes : v ≡ p.code = c.in-Ok.ensures.only p.code h.ready.file in
-    let at : BeginsWith v (start_of v r) q = subst (λ (s : Starting). BeginsWith v s q) starts c.in-Ok-new.ensures.begins in
-    let there : BeginsWith p.code (start_of p.code r) q = subst (λ (k : Program). BeginsWith k (start_of k r) q) codes at in
+    let at : IsAtStart v (start_of v r) q = subst (λ (s : Starting). IsAtStart v s q) starts c.in-Ok-new.ensures.begins in
+    let there : IsAtStart p.code (start_of p.code r) q = subst (λ (k : Program). IsAtStart k (start_of k r) q) codes at in
     let players : q ≡ p = same_start p.code (start_of p.code r) q p there h.begins in
     let lists : c.as_slice.result.now ≡ commands = c.as_slice.ensures.value ∙ c.one_list_of_commands.ensures c.args.text.now c.in-Ok-read_commands.commands.items commands c.in-Ok-read_commands.ensures.found h.holds in
     let led = c.in-Ok-lead.ensures in

@@ -1,5 +1,5 @@
 use Rattle.std.proofs.Common.{take}
-use Rattle.mux_config.specs.Configuration.{Each}
+use Rattle.mux_types.specs.Configuration.{Each}
 use Rattle.fib_codec.specs.Spelling.{IsUnder}
 use Rattle.fib_codec.proofs.fib.are_under.Given as goal
 

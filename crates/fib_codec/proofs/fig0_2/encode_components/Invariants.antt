@@ -1,5 +1,5 @@
 use Rattle.std.proofs.Common.{◌≡◌, ◌++◌, take}
-use Rattle.mux_config.specs.Configuration.{Each}
+use Rattle.mux_types.specs.Configuration.{Each}
 use Rattle.fib_codec.specs.Ranges.{IsComponentEntry}
 use Rattle.fib_codec.specs.Spelling.{components_bytes}
 use Rattle.fib_codec.proofs.fig0_2.encode_components.Given as goal

@@ -1,6 +1,6 @@
 use Rattle.std.proofs.Common.{◌≡◌, length, take}
 use Rattle.mux_config.specs.Configuration.{Each, IsComponent, AreDifferent}
-use Rattle.mux_config.specs.Facts.{component_entries}
+use Rattle.mux_entries.specs.Facts.{component_entries}
 use Rattle.fib_reader.proofs.from_entry.components_from_entry.Given as goal
 
 abbrev pub invariant-loop-place : goal.invariant-loop-place

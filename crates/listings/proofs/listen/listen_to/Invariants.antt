@@ -2,7 +2,7 @@ use Rattle.std.proofs.Common.{ℕ, ◌≤◌, drop, Result}
 use Rattle.fib_reader.specs.Listening.{untuned}
 use Rattle.listings.specs.declared.listen.StreamFault.{StreamFault}
 use Rattle.listings.specs.declared.listen.Heard.{Heard}
-use Rattle.listings.specs.Stream.{HearsAll}
+use Rattle.listings.specs.Stream.{HearsTheStream}
 use Rattle.listings.proofs.listen.listen_to.Given as goal
 
 -- what is heard from here on is what is heard from the start
@@ -12,4 +12,4 @@ pub record GoesOn (goes : Result Heard StreamFault → Type 0) (whole : Result H
 
 abbrev pub invariant-loop-fib : goal.invariant-loop-fib
 invariant-loop-fib l =
-    GoesOn (HearsAll (drop l.fib-index l.fibs) l.damaged l.listener) (HearsAll l.fibs 0 untuned) l.damaged l.fib-index
+    GoesOn (HearsTheStream (drop l.fib-index l.fibs) l.damaged l.listener) (HearsTheStream l.fibs 0 untuned) l.damaged l.fib-index

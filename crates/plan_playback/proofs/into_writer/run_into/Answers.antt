@@ -1,7 +1,7 @@
 use Rattle.std.proofs.Common.{rules, ◌≡◌, ℕ, ◌+◌, ◌*◌, ◌<◌, ◌≤◌, List, length, Err, sym, subst, ◌∙◌}
 use Rattle.fib_codec.specs.Modes.{fib_count}
 use Rattle.plan_events.specs.Events.{events_of}
-use Rattle.plan_player.specs.Delivery.{bytes_of}
+use Rattle.plan_player.specs.Delivery.{played_bytes}
 use Rattle.plan_playback.specs.Buffering.{taken_by}
 use Rattle.plan_playback.specs.declared.fault.RunFault.{RunFault}
 use Rattle.plan_playback.specs.Playback.{Request, asked, Delivers, IsSilent}
@@ -13,7 +13,7 @@ returns-then-is_whole-clause-played g c = λ p steps h e.
     let taken = taken_by g.W.Write.contents in
     let last = c.deliver-is_whole.new.self in
     let d = c.in-Ok.ensures.played p steps h in
-    rw c.into_inner-out.ensures (d.0, handed_on (g.W.Write.contents c.args.out) (taken c.new-buffer.result) (taken c.run-answer.new.out) (g.W.Write.contents last.out) last.held.items (bytes_of p (events_of steps)) e c.new-buffer.ensures.taken d.1 c.deliver-is_whole.ensures.bytes (c.deliver-is_whole.ensures.all c.if-is_whole.true))
+    rw c.into_inner-out.ensures (d.0, handed_on (g.W.Write.contents c.args.out) (taken c.new-buffer.result) (taken c.run-answer.new.out) (g.W.Write.contents last.out) last.held.items (played_bytes p (events_of steps)) e c.new-buffer.ensures.taken d.1 c.deliver-is_whole.ensures.bytes (c.deliver-is_whole.ensures.all c.if-is_whole.true))
 
 pub returns-else-is_whole-clause-played : goal.returns-else-is_whole-clause-played
 returns-else-is_whole-clause-played g c = λ p steps h e.

@@ -7,11 +7,11 @@ use Rattle.plan_verifier.proofs.labels.refit.Goals as goal
 
 pub returns-then-may_have_swapped : goal.returns-then-may_have_swapped
 returns-then-may_have_swapped g c =
-    let same = next_fits (known_of g.S.Store.content c.args.state.now) (declared_by c.args.code.now c.args.label.now) c.requires.fitting in
+    let same = next_fits (known_of g.S.Store.content c.args.state.now) (declared_by c.args.code.now c.args.label.now) c.requires.fit in
     grind (arith, common_steps, same)
 
 pub returns-else-may_have_swapped : goal.returns-else-may_have_swapped
 returns-else-may_have_swapped g c =
-    let next = next_fits (known_of g.S.Store.content c.args.state.now) (declared_by c.args.code.now c.args.label.now) c.requires.fitting in
-    let current = current_fits (known_of g.S.Store.content c.args.state.now) (declared_by c.args.code.now c.args.label.now) c.requires.fitting in
+    let next = next_fits (known_of g.S.Store.content c.args.state.now) (declared_by c.args.code.now c.args.label.now) c.requires.fit in
+    let current = current_fits (known_of g.S.Store.content c.args.state.now) (declared_by c.args.code.now c.args.label.now) c.requires.fit in
     grind (arith, common_steps, next, current)

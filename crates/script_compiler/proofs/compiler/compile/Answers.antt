@@ -6,8 +6,8 @@ use Rattle.plan_code.specs.Program.{Program, IsProgram}
 use Rattle.script_front.specs.declared.tree.Item.{Item}
 use Rattle.script_scheme.specs.declared.flow.Mark.{Mark}
 use Rattle.script_scheme.specs.Scheme.{all_places, marks_of}
-use Rattle.script_scheme.specs.Need.{IsWithin}
-use Rattle.script_scheme.specs.Compiled.{plan_of, with_items, opening_of, body_of, beginning, places_of, lines_of, instrs_of, AreFine, Tabled, AreLabelsOf, IsCodeOf, CostsItsNeeds, IsAccepted}
+use Rattle.script_scheme.specs.Need.{IsWithinBudget}
+use Rattle.script_scheme.specs.Compiled.{plan_of, with_items, opening_of, body_of, beginning, places_of, lines_of_places, instrs_of, AreFine, Tabled, AreLabelsOf, IsCodeOf, CostsItsNeeds, IsAccepted}
 use Rattle.script_compiler.specs.Longest.{longest, Priced}
 use Rattle.script_compiler.specs.declared.fault.CompileFault.TheVariants.{Memory}
 use Rattle.script_compiler.proofs.Refusing.{over_budget}
@@ -27,11 +27,11 @@ returns-in_err-test_costs-clause-refused c =
     let plan_is : c.plan_of-plan.result ≡ plan_of s = c.plan_of-plan.ensures in
     let config_is : config ≡ opening_of s = c.in_ok-config.ensures.made ∙ ap (λ xs. with_items xs nothing) c.items.ensures.value in
     let places_are = ap (λ (p : Plan). all_places p s.last_line (body_of s) (beginning config)) plan_is ∙ ap (λ x. all_places (plan_of s) s.last_line (body_of s) (beginning x)) config_is in
-    let lines_are : lines ≡ lines_of (places_of s) = c.in_ok-work.ensures.lines ∙ ap lines_of places_are in
+    let lines_are : lines ≡ lines_of_places (places_of s) = c.in_ok-work.ensures.lines ∙ ap lines_of_places places_are in
     let budget_is : budget ≡ s.header.budget = ap (λ (p : Plan). p.budget) plan_is in
     let each : (pc : ℕ) → get_or needs pc 0 ≡ longest (instrs_of lines) (budget + 1) pc = λ pc. c.in_ok-costs.ensures pc ∙ ap (λ (ls : List Line). longest (instrs_of ls) (budget + 1) pc) c.deref.ensures.value in
     let h : c.in_err-test_costs.field-0.0 ≢ Memory → IsAccepted s → ⊥ = λ is accepted.
-    let within : IsWithin budget (instrs_of lines) = subst (λ b. IsWithin b (instrs_of lines)) (sym budget_is) (subst (λ (ls : List Line). IsWithin s.header.budget (instrs_of ls)) (sym lines_are) accepted.within) in
+    let within : IsWithinBudget budget (instrs_of lines) = subst (λ b. IsWithinBudget b (instrs_of lines)) (sym budget_is) (subst (λ (ls : List Line). IsWithinBudget s.header.budget (instrs_of ls)) (sym lines_are) accepted.within) in
     let over = c.in_err-test_costs.ensures.refused is in
     let more : budget < get_or needs over.0 0 = let x = ap (λ xs. get_or xs over.0 0) c.deref-3.ensures.value in let y = over.1 in omega (arith, x, y) in
     over_budget lines needs budget within each over.0 more in

@@ -1,5 +1,5 @@
 use Rattle.std.proofs.Common.{sym, ◌∙◌}
-use Rattle.script_words.proofs.Keys.{found_is}
+use Rattle.script_tokens.proofs.Keys.{found_is}
 use Rattle.script_front.proofs.Unread.{no_item_begins}
 use Rattle.script_front.proofs.items.begins_item.Goals as goal
 

@@ -1,4 +1,4 @@
-use Rattle.script_words.proofs.Keys.{found_is}
+use Rattle.script_tokens.proofs.Keys.{found_is}
 use Rattle.script_front.proofs.Refusing.{no_groups}
 use Rattle.script_front.proofs.items.data_groups.Goals as goal
 

@@ -1,4 +1,4 @@
-use Rattle.script_words.proofs.Keys.{found_is}
+use Rattle.script_tokens.proofs.Keys.{found_is}
 use Rattle.script_front.proofs.Refusing.{no_level}
 use Rattle.script_front.proofs.items.level.Goals as goal
 

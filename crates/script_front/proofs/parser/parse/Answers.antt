@@ -1,11 +1,11 @@
 use Rattle.std.proofs.Common.{ℕ, List, sym, ap, ◌∙◌, subst}
-use Rattle.script_words.specs.declared.token.Token.{Token}
-use Rattle.script_words.specs.Reading.{Input, words_of, lines_of}
+use Rattle.script_tokens.specs.declared.token.Token.{Token}
+use Rattle.script_tokens.specs.Reading.{Input, words_of, lines_of}
 use Rattle.script_front.specs.Spelled.{HasLines}
 use Rattle.script_front.proofs.Denoting.{is_script}
 use Rattle.std.proofs.lemmas.Result.{err_from_is_err_and}
-use Rattle.script_words.specs.Bytes.{first_place}
-use Rattle.script_words.specs.Texts.{tokens_of}
+use Rattle.script_tokens.specs.Bytes.{first_place}
+use Rattle.script_tokens.specs.Texts.{tokens_of}
 use Rattle.script_front.proofs.Denoting.{are_tokens, denoted_words}
 use Rattle.script_front.proofs.parser.parse.Goals as goal
 

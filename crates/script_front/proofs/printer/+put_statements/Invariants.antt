@@ -1,13 +1,13 @@
 use Rattle.std.proofs.Common.{◌+◌, ◌*◌, [], length, drop, string_bytes}
 use Rattle.script_front.specs.Block.{block_of}
-use Rattle.script_front.specs.Tree.{Fits}
+use Rattle.script_front.specs.Tree.{IsInBounds}
 use Rattle.script_front.proofs.Printed.{Printed}
 use Rattle.script_front.proofs.printer.+put_statements.Given as goal
 
 abbrev pub invariant-put_statements-loop-statement : goal.invariant-put_statements-loop-statement
 invariant-put_statements-loop-statement l = record {
   so_far : Printed l.names (string_bytes l.fn.out) (string_bytes l.out) l.depth l.list l.statement-index;
-  fits : Fits (length l.names) l.left (block_of [] (drop l.statement-index l.list));
+  fits : IsInBounds (length l.names) l.left (block_of [] (drop l.statement-index l.list));
 }
 
 abbrev pub decreases-put_statement : goal.decreases-put_statement

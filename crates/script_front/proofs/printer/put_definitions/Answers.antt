@@ -1,7 +1,7 @@
 use Rattle.std.proofs.Common.{List, [], length, ◌++◌, string_bytes, ap, ◌∙◌, sym, subst, arith}
 use Rattle.script_front.specs.declared.tree.Statement.{Statement}
 use Rattle.script_front.specs.Block.{block_of}
-use Rattle.script_front.specs.Tree.{Fits}
+use Rattle.script_front.specs.Tree.{IsInBounds}
 use Rattle.script_front.proofs.Listing.{next_fits}
 use Rattle.script_front.specs.Printing.{text_of_lines, definition_lines}
 use Rattle.script_front.proofs.Printed.{definition_more, definitions_all}
@@ -11,7 +11,7 @@ pub put_definition-requires-clause-fits : goal.put_definition-requires-clause-fi
 put_definition-requires-clause-fits c =
     let few = c.requires.few in
     let h = next_fits c.loop-index.index c.loop-index.index (length c.args.names.now) c.args.blocks.now c.index-blocks-index.result c.loop-index-test.true c.index-blocks-index.is (omega (arith, few, c.loop-index-test.true)) c.loop-index.invariant.fits in
-    subst (λ (ss : List Statement). Fits (length c.args.names.now) 15 (block_of [] ss)) (sym c.as_slice.ensures.value) h.fits
+    subst (λ (ss : List Statement). IsInBounds (length c.args.names.now) 15 (block_of [] ss)) (sym c.as_slice.ensures.value) h.fits
 
 pub loop-index-preserved : goal.loop-index-preserved
 loop-index-preserved c =

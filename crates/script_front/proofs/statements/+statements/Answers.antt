@@ -2,12 +2,12 @@ use Rattle.std.proofs.Common.{[], ◌+◌, refl, not, sym, ap, ◌∙◌, subst,
 use Rattle.std.proofs.ResultArms.{chosen}
 use Rattle.std.proofs.lemmas.Result.{err_from_is_err_and}
 use Rattle.std.specs.Fmt.{decimal}
-use Rattle.script_words.specs.declared.keyword.Keyword.TheVariants as the
-use Rattle.script_words.specs.Words.{letters}
+use Rattle.script_tokens.specs.declared.keyword.Keyword.TheVariants as the
+use Rattle.script_tokens.specs.Words.{letters}
 use Rattle.script_front.specs.Block.{before, block_of}
-use Rattle.script_words.specs.Reading.{BeginsWith}
+use Rattle.script_tokens.specs.Reading.{BeginsWith}
 use Rattle.script_front.specs.Spelled.{act_words}
-use Rattle.script_words.proofs.Keys.{found_is}
+use Rattle.script_tokens.proofs.Keys.{found_is}
 use Rattle.script_front.proofs.Parsing.{more_read, body_read, when_read, either_read, repeat_read, forever_read, stop_read, act_read, apply_read}
 use Rattle.script_front.proofs.Unread.{refused, passes_two, no_word, no_start, no_more, no_act_block, no_apply_block, no_times, no_repeated, no_looped, no_test, no_contact, no_first_block, no_second_block, passes_behind}
 use Rattle.script_front.proofs.statements.+statements.Goals as goal

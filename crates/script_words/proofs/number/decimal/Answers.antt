@@ -1,6 +1,6 @@
 use Rattle.std.proofs.Common.{◌+◌, ◌*◌, ℕ, length, get_or, subst, refl, sym, ◌∙◌, arith}
 use Rattle.std.proofs.lemmas.Bool.{eqb-true}
-use Rattle.script_words.proofs.Digits.{Reading, no_digit, reads_on, found_all, value_small, too_long, empty, zero_first, digit_range, nonzero}
+use Rattle.script_tokens.proofs.Digits.{Reading, no_digit, reads_on, found_all, value_small, too_long, empty, zero_first, digit_range, nonzero}
 use Rattle.script_words.proofs.number.decimal.Goals as goal
 use Rattle.script_words.proofs.number.decimal.Goals.{then-atom-eq48+else-atom-gt1, else-atom-eq48}
 

@@ -1,4 +1,4 @@
-use Rattle.script_words.proofs.Digits.{Reading}
+use Rattle.script_tokens.proofs.Digits.{Reading}
 use Rattle.script_words.proofs.number.decimal.Given as goal
 
 abbrev pub invariant-loop-byte : goal.invariant-loop-byte

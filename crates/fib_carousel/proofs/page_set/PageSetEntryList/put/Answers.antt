@@ -1,6 +1,6 @@
 use Rattle.std.proofs.Common.{◌≡◌, true, false, Some, slice_get, option_map}
 use Rattle.std.specs.Option.{option_copied}
-use Rattle.mux_config.specs.Facts.{marked}
+use Rattle.mux_entries.specs.Facts.{marked}
 use Rattle.fib_carousel.specs.Pages.{page_set_of}
 use Rattle.fib_carousel.proofs.Sides.{in_current, in_next}
 use Rattle.fib_carousel.proofs.page_set.PageSetEntryList.put.Goals as goal

@@ -1,8 +1,8 @@
 use Rattle.std.proofs.Common.{◌∙◌, ap}
 use Rattle.fib_codec.specs.Grammar.{fig_spelled}
-use Rattle.fib_reader.specs.Walk.{fig_of}
+use Rattle.fib_reader.specs.Walk.{fig_of_bytes}
 use Rattle.fib_reader.proofs.FigLists.{spelled_fig}
 use Rattle.fib_reader.proofs.figs.Fig.bytes.Goals as goal
 
 pub returns : goal.returns
-returns c = spelled_fig _ (fig_of c.self.inside.bytes.now) c.self.invariant ∙ ap fig_spelled c.self.view_is
+returns c = spelled_fig _ (fig_of_bytes c.self.inside.bytes.now) c.self.invariant ∙ ap fig_spelled c.self.view_is

@@ -2,13 +2,13 @@ use Rattle.std.proofs.Common.{None, rules, ◌≡◌}
 use Rattle.mux_config.specs.declared.edit.Edit.TheVariants.{AddComponent}
 use Rattle.mux_config.specs.Configuration.{IsComponent}
 use Rattle.mux_config.specs.Edits.{edit_fault}
-use Rattle.mux_tables.specs.Units.{joined}
+use Rattle.mux_tables.specs.Units.{with_sub_channels}
 use Rattle.mux_tables.proofs.Others.{known_keeps}
 use Rattle.mux_tables.proofs.store.TablesStore.add_component_known.Goals as goal
 
 pub invariant_of-self : goal.invariant_of-self
 invariant_of-self c =
-    let before = joined c.self.inside.subs c.self.inside.others in
+    let before = with_sub_channels c.self.inside.subs c.self.inside.others in
     let fault : edit_fault (AddComponent c.args.sid c.args.component) before ≡ None = rw (← c.self.view_is) at c.requires in
     let within : IsComponent c.args.component = search rules in
     let kept = known_keeps (AddComponent c.args.sid c.args.component) tt within c.self.inside.subs c.self.inside.others c.add_component_known.new.self c.self.invariant.apart c.self.invariant.configuration fault c.add_component_known.ensures in

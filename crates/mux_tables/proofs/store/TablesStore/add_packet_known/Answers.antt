@@ -1,13 +1,13 @@
 use Rattle.std.proofs.Common.{None, arith, ◌≡◌}
 use Rattle.mux_config.specs.declared.edit.Edit.TheVariants.{AddPacket}
 use Rattle.mux_config.specs.Edits.{edit_fault}
-use Rattle.mux_tables.specs.Units.{joined}
+use Rattle.mux_tables.specs.Units.{with_sub_channels}
 use Rattle.mux_tables.proofs.Others.{known_keeps}
 use Rattle.mux_tables.proofs.store.TablesStore.add_packet_known.Goals as goal
 
 pub invariant_of-self : goal.invariant_of-self
 invariant_of-self c =
-    let before = joined c.self.inside.subs c.self.inside.others in
+    let before = with_sub_channels c.self.inside.subs c.self.inside.others in
     let fault : edit_fault (AddPacket c.args.packet) before ≡ None = rw (← c.self.view_is) at c.requires in
     let kept = known_keeps (AddPacket c.args.packet) tt (omega arith, omega arith, omega arith) c.self.inside.subs c.self.inside.others c.add_packet_known.new.self c.self.invariant.apart c.self.invariant.configuration fault c.add_packet_known.ensures in
     record { apart = kept.0; configuration = kept.1; counted = c.self.invariant.counted }

@@ -2,13 +2,13 @@ use Rattle.std.proofs.Common.{None, rules, ◌≡◌}
 use Rattle.mux_config.specs.declared.edit.Edit.TheVariants.{AddService}
 use Rattle.mux_config.specs.Configuration.{IsSid}
 use Rattle.mux_config.specs.Edits.{edit_fault}
-use Rattle.mux_tables.specs.Units.{joined}
+use Rattle.mux_tables.specs.Units.{with_sub_channels}
 use Rattle.mux_tables.proofs.Others.{known_keeps}
 use Rattle.mux_tables.proofs.store.TablesStore.add_service_known.Goals as goal
 
 pub invariant_of-self : goal.invariant_of-self
 invariant_of-self c =
-    let before = joined c.self.inside.subs c.self.inside.others in
+    let before = with_sub_channels c.self.inside.subs c.self.inside.others in
     let fault : edit_fault (AddService c.args.sid) before ≡ None = rw (← c.self.view_is) at c.requires in
     let within : IsSid c.args.sid = search rules in
     let kept = known_keeps (AddService c.args.sid) tt within c.self.inside.subs c.self.inside.others c.add_service_known.new.self c.self.invariant.apart c.self.invariant.configuration fault c.add_service_known.ensures in

@@ -4,20 +4,20 @@ use Rattle.mux_config.specs.Configuration.{IsConfiguration}
 use Rattle.mux_config.specs.Edits.{add_sub_fault}
 use Rattle.mux_config.proofs.Keeping.{add_sub_fits, add_sub_keeps}
 use Rattle.mux_tables.specs.declared.span.Span.{Span}
-use Rattle.mux_tables.specs.Units.{Counts, CountsIn, users, joined}
+use Rattle.mux_tables.specs.Units.{Counts, CountsIn, users, with_sub_channels}
 use Rattle.mux_tables.proofs.Users.{counts_with}
 use Rattle.mux_tables.proofs.tables.Tables.insert.Goals as goal
 
 pub insert-requires : goal.insert-requires
 insert-requires c =
-    let before = joined c.self.inside.subs c.self.inside.others in
+    let before = with_sub_channels c.self.inside.subs c.self.inside.others in
     let fault : add_sub_fault c.args.sub before ≡ None = rw (← c.self.view_is) at c.requires in
     let fits = add_sub_fits c.args.sub before (omega arith) c.self.invariant.configuration fault in
     fits.0
 
 pub invariant_of-self : goal.invariant_of-self
 invariant_of-self c =
-    let before = joined c.self.inside.subs c.self.inside.others in
+    let before = with_sub_channels c.self.inside.subs c.self.inside.others in
     let fault : add_sub_fault c.args.sub before ≡ None = rw (← c.self.view_is) at c.requires in
     let keeps = add_sub_keeps c.args.sub before (omega arith) (omega arith) (omega arith) c.self.invariant.configuration fault in
     let counted = counts_with c.self.inside.units c.count_in.new.blocks c.args.sub c.self.inside.subs c.self.invariant.configuration.subs_few (subst (λ (s : Span). CountsIn c.self.inside.units c.count_in.new.blocks s) c.span_of.ensures.value c.count_in.ensures) c.self.invariant.counted in

@@ -5,7 +5,7 @@ use Rattle.mux_config.specs.Tables.{entry_at}
 use Rattle.mux_config.proofs.Keeping.{drop_sub_keeps, entry_holds}
 use Rattle.mux_types.proofs.Tables.{without_absent}
 use Rattle.mux_tables.specs.declared.span.Span.{Span}
-use Rattle.mux_tables.specs.Units.{Counts, CountsOut, users, joined}
+use Rattle.mux_tables.specs.Units.{Counts, CountsOut, users, with_sub_channels}
 use Rattle.mux_tables.proofs.Users.{counts_without}
 use Rattle.mux_tables.proofs.tables.Tables.remove.Goals as goal
 
@@ -14,7 +14,7 @@ span_of-requires c = entry_holds IsPlaced sub_key c.args.id c.self.inside.subs c
 
 pub invariant_of-self : goal.invariant_of-self
 invariant_of-self c =
-    let before = joined c.self.inside.subs c.self.inside.others in
+    let before = with_sub_channels c.self.inside.subs c.self.inside.others in
     let counted = counts_without c.self.inside.units c.count_out.new.blocks c.args.id c.in-Some.sub c.self.inside.subs c.self.invariant.configuration.subs_few c.self.invariant.configuration.subs_ascend (sym c.get.ensures.value ∙ c.in-Some.is)
     (subst (λ (s : Span). CountsOut c.self.inside.units c.count_out.new.blocks s) c.span_of.ensures.value c.count_out.ensures) c.self.invariant.counted in
     record {

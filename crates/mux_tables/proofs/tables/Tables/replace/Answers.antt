@@ -5,7 +5,7 @@ use Rattle.mux_config.specs.Tables.{entry_at}
 use Rattle.mux_config.proofs.Keeping.{entry_holds}
 use Rattle.mux_tables.proofs.Replacing.{replaced_keeps}
 use Rattle.mux_tables.specs.declared.span.Span.{Span}
-use Rattle.mux_tables.specs.Units.{Counts, CountsIn, CountsOut, users, joined}
+use Rattle.mux_tables.specs.Units.{Counts, CountsIn, CountsOut, users, with_sub_channels}
 use Rattle.mux_tables.proofs.Users.{counts_changed}
 use Rattle.mux_tables.proofs.tables.Tables.replace.Goals as goal
 
@@ -16,7 +16,7 @@ span_of-requires c =
 
 pub invariant_of-self : goal.invariant_of-self
 invariant_of-self c =
-    let before = joined c.self.inside.subs c.self.inside.others in
+    let before = with_sub_channels c.self.inside.subs c.self.inside.others in
     let there : entry_at sub_key c.args.new.id c.self.inside.subs ≡ Some c.args.old = rw (← c.self.view_is) at c.requires.there in
     let keeps = replaced_keeps c.args.new before c.self.invariant.configuration c.requires.placed in
     let counted = counts_changed c.self.inside.units c.count_out.new.blocks c.count_in.new.blocks c.args.new c.args.old c.self.inside.subs c.self.invariant.configuration.subs_few c.self.invariant.configuration.subs_ascend there

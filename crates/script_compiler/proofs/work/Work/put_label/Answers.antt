@@ -1,7 +1,7 @@
 use Rattle.std.proofs.Common.{List, ◌≡◌, ◌≤◌, [], ◌∷◌, ◌++◌, length, sym, ap, ◌∙◌, subst, arith}
 use Rattle.mux_config.specs.Configuration.{Configuration}
 use Rattle.script_scheme.specs.declared.flow.Mark.{Mark}
-use Rattle.script_scheme.specs.Scheme.{placed}
+use Rattle.script_scheme.specs.Scheme.{place_of_instr}
 use Rattle.script_scheme.specs.Compiled.{Added}
 use Rattle.script_compiler.specs.declared.short.ShortMark.{ShortMark}
 use Rattle.script_compiler.specs.Marked.{mark_in}
@@ -30,7 +30,7 @@ returns-clause-marks c = λ line i.
     let before = c.index_of-2.ensures.items ∙ c.index_of.ensures.items in
     let at : c.len-2.result ≡ length w.lines.items = c.len-2.ensures ∙ w.lines.ok.0 in
     c.in_default.ensures.added ∙ ap (λ (ms : List Mark). ms ++ mark_in table m ∷ []) before ∙ ap (λ (x : Mark). w.marks.items ++ x ∷ []) whole
-    ∙ ap (λ (ms : List Mark). w.marks.items ++ ms) (one_mark (length w.lines.items) c.len-2.result (placed line i c.args.counters w.now) c.if-not-self.false at)
+    ∙ ap (λ (ms : List Mark). w.marks.items ++ ms) (one_mark (length w.lines.items) c.len-2.result (place_of_instr line i c.args.counters w.now) c.if-not-self.false at)
 
 pub returns-clause-table : goal.returns-clause-table
 returns-clause-table c =

@@ -1,0 +1,14 @@
+-- A brace is no atom.
+use Rattle.std.proofs.Common.{◌≡◌, ℕ, List, subst}
+use Rattle.script_tokens.specs.declared.token.Kind.TheVariants.{Brace, Letter}
+use Rattle.script_tokens.specs.declared.keyword.Keyword.TheVariants.{OpenBrace, CloseBrace}
+use Rattle.script_tokens.specs.Texts.{AreLetters}
+use Rattle.script_tokens.specs.Words.{letters}
+
+pub no_open : (w : List ℕ) → w ≡ letters OpenBrace → AreLetters w → ⊥
+unfolding letters
+no_open w e h = let g : AreLetters (letters OpenBrace) = subst AreLetters e h in let f : Brace ≡ Letter = g.0 in absurd cc
+
+pub no_close : (w : List ℕ) → w ≡ letters CloseBrace → AreLetters w → ⊥
+unfolding letters
+no_close w e h = let g : AreLetters (letters CloseBrace) = subst AreLetters e h in let f : Brace ≡ Letter = g.0 in absurd cc

@@ -1,0 +1,152 @@
+-- A step of the lexer: what it puts before the tokens of the rest.
+use Rattle.std.proofs.Common.{◌≡◌, ◌≢◌, ℕ, ◌+◌, ◌<◌, ◌≤◌, Bool, true, false, cond, List, [], ◌∷◌, ◌++◌, length, get_or, drop, refl, sym, ap, ◌∙◌, add-one, arith}
+use Rattle.std.proofs.Math.Seq.{drop-cons}
+use Rattle.std.proofs.lemmas.List.{drop_all}
+use Rattle.std.specs.Prelude.{if◌then◌else◌, Result, Ok, Err}
+use Rattle.script_tokens.specs.declared.token.Token.{Token}
+use Rattle.script_tokens.specs.declared.token.Limits.{Limits}
+use Rattle.script_tokens.specs.declared.token.Inside.{Inside}
+use Rattle.script_tokens.specs.declared.token.Kind.{Kind}
+use Rattle.script_tokens.specs.declared.token.Kind.TheVariants.{Blank, LineEnd, Hash, Brace, Letter, Bad}
+use Rattle.script_tokens.specs.declared.token.Place.{Place}
+use Rattle.script_tokens.specs.declared.fault.ScriptFault.{ScriptFault}
+use Rattle.script_tokens.specs.declared.fault.ScriptFault.TheVariants.{Byte, Number, Expected, Depth, NameUsed, NameUnknown, Limit, Memory}
+use Rattle.script_tokens.specs.Bytes.{kind_of, place_after}
+use Rattle.script_tokens.specs.Lexing.{inside_after, is_bad, atom_ended, made, fits, added, tokens_before, lexed, Pushes}
+
+pub cut_at : (bs : List ℕ) (i : ℕ) → i < length bs → drop i bs ≡ get_or bs i 0 ∷ drop (i + 1) bs
+cut_at bs i lt = rw (add-one, drop-cons bs i 0 lt) refl
+
+abbrev pub Cuts : Type 0
+Cuts = Result (List Token) ScriptFault
+
+added_twice : (limits : Limits) (t : Token) (b : Bool) (r : Cuts) (p : Cuts) → added t (cond b r p) ≡ cond b (added t r) (added t p)
+added_twice limits t true r p = refl
+added_twice limits t false r p = refl
+
+before_before : (limits : Limits) (ts us : List Token) (r : Cuts) → tokens_before limits ts (tokens_before limits us r) ≡ tokens_before limits (ts ++ us) r
+before_before limits [] us r = refl
+before_before limits (t ∷ ts) us r = ap (λ x. cond (fits limits t) (added t x) (Err (Limit t.position))) (before_before limits ts us r)
+
+-- tokens that all fit: what comes of the rest decides
+pub record AllIn (limits : Limits) (ts : List Token) : Type 0 where
+  pub fit : tokens_before limits ts (Ok []) ≡ Ok ts
+
+not_err : (limits : Limits) (t : Token) (b : Bool) (r : Cuts) (us : List Token) → cond b r (Err (Limit t.position)) ≡ Ok us → (b ≡ true) × (r ≡ Ok us)
+not_err limits t true r us e = (refl, e)
+not_err limits t false r us e = absurd cc
+
+unadded : (t : Token) (r : Cuts) (us : List Token) → added t r ≡ Ok (t ∷ us) → r ≡ Ok us
+unadded t (Ok vs) us e = cc
+unadded t (Err f) us e = absurd cc
+
+-- an error behind tokens that fit is the error of all
+pub before_err : (limits : Limits) (ts : List Token) (e : ScriptFault) → tokens_before limits ts (Ok []) ≡ Ok ts → tokens_before limits ts (Err e) ≡ Err e
+before_err limits [] e h = refl
+before_err limits (t ∷ ts) e h =
+    let p = not_err limits t (fits limits t) (added t (tokens_before limits ts (Ok []))) (t ∷ ts) h in
+    let q = unadded t (tokens_before limits ts (Ok [])) ts p.1 in
+    rw (p.0, before_err limits ts e q) refl
+
+later : (t : Token) (r s : Cuts) (e : ScriptFault) → (r ≡ Err e → s ≡ Err e) → added t r ≡ Err e → added t s ≡ Err e
+later t (Ok us) s e f h = absurd cc
+later t (Err d) s e f h = let g : Cuts = Err d in let is : g ≡ Err e = cc in rw (f is) refl
+
+fault_at : (limits : Limits) (t : Token) (r s : Cuts) (e : ScriptFault) (b : Bool) → (r ≡ Err e → s ≡ Err e)
+    → cond b (added t r) (Err (Limit t.position)) ≡ Err e → cond b (added t s) (Err (Limit t.position)) ≡ Err e
+fault_at limits t r s e true f h = later t r s e f h
+fault_at limits t r s e false f h = h
+
+-- a fault among tokens is the fault, whatever follows
+pub before_fault : (limits : Limits) (ts : List Token) (r : Cuts) (e : ScriptFault) → tokens_before limits ts (Ok []) ≡ Err e → tokens_before limits ts r ≡ Err e
+before_fault limits [] r e h = absurd cc
+before_fault limits (t ∷ ts) r e h =
+    fault_at limits t (tokens_before limits ts (Ok [])) (tokens_before limits ts r) e (fits limits t) (before_fault limits ts r e) h
+
+-- tokens that fit, and more that fit
+pub more_in : (limits : Limits) (ts us : List Token) → tokens_before limits ts (Ok []) ≡ Ok ts → tokens_before limits us (Ok []) ≡ Ok us → tokens_before limits (ts ++ us) (Ok []) ≡ Ok (ts ++ us)
+more_in limits [] us h k = k
+more_in limits (t ∷ ts) us h k =
+    let p = not_err limits t (fits limits t) (added t (tokens_before limits ts (Ok []))) (t ∷ ts) h in
+    let q = unadded t (tokens_before limits ts (Ok [])) ts p.1 in
+    rw (p.0, more_in limits ts us q k) refl
+
+-- ---- the loop
+
+-- what was cut so far, and what is left
+pub record CutSoFar (limits : Limits) (all : Cuts) (ts : List Token) (rest : Cuts) : Type 0 where
+  pub given : all ≡ tokens_before limits ts rest
+  pub fit : tokens_before limits ts (Ok []) ≡ Ok ts
+
+pub cut_on : (limits : Limits) (all : Cuts) (ts us : List Token) (m n : Inside) (p q : Place) (bs : List ℕ) (i : ℕ) (k : Kind) → i < length bs → k ≡ kind_of (get_or bs i 0)
+    → Pushes limits ts us (made m p k) (Ok tt) → is_bad m k ≡ false → n ≡ inside_after m p k → q ≡ place_after p k
+    → CutSoFar limits all ts (lexed limits m p (drop i bs)) → CutSoFar limits all us (lexed limits n q (drop (i + 1) bs))
+unfolding lexed
+cut_on limits all ts us m n p q bs i k lt is push good e f h = record {
+  given =
+      let step : lexed limits m p (drop i bs) ≡ tokens_before limits (made m p k) (lexed limits n q (drop (i + 1) bs)) = rw (cut_at bs i lt, ← is, e, f, good) refl in
+      h.given ∙ ap (tokens_before limits ts) step ∙ before_before limits ts (made m p k) (lexed limits n q (drop (i + 1) bs))
+      ∙ ap (λ vs. tokens_before limits vs (lexed limits n q (drop (i + 1) bs))) (sym push.0);
+  fit = rw (push.0) (more_in limits ts (made m p k) h.fit push.1);
+}
+
+-- a fault as tokens are pushed
+pub fault_pushed : (limits : Limits) (all : Cuts) (ts us : List Token) (m : Inside) (p : Place) (bs : List ℕ) (i : ℕ) (k : Kind) (e : ScriptFault) → i < length bs → k ≡ kind_of (get_or bs i 0)
+    → tokens_before limits (made m p k) (Ok []) ≡ Err e
+    → CutSoFar limits all ts (lexed limits m p (drop i bs)) → all ≡ Err e
+unfolding lexed
+fault_pushed limits all ts us m p bs i k e lt is push h =
+    let rest : Cuts = if is_bad m k then Err (Byte p.position) else lexed limits (inside_after m p k) (place_after p k) (drop (i + 1) bs) in
+    let step : lexed limits m p (drop i bs) ≡ tokens_before limits (made m p k) rest = rw (cut_at bs i lt, ← is) refl in
+    h.given ∙ ap (tokens_before limits ts) (step ∙ before_fault limits (made m p k) rest e push) ∙ before_err limits ts e h.fit
+
+-- a bad byte, after the tokens that it ends
+pub bad_here : (limits : Limits) (all : Cuts) (ts us : List Token) (m : Inside) (p : Place) (bs : List ℕ) (i : ℕ) (k : Kind) → i < length bs → k ≡ kind_of (get_or bs i 0)
+    → Pushes limits ts us (made m p k) (Ok tt) → is_bad m k ≡ true
+    → CutSoFar limits all ts (lexed limits m p (drop i bs)) → all ≡ Err (Byte p.position)
+unfolding lexed
+bad_here limits all ts us m p bs i k lt is push bad h =
+    let step : lexed limits m p (drop i bs) ≡ tokens_before limits (made m p k) (Err (Byte p.position)) = rw (cut_at bs i lt, ← is, bad) refl in
+    h.given ∙ ap (tokens_before limits ts) (step ∙ before_err limits (made m p k) (Byte p.position) push.1) ∙ before_err limits ts (Byte p.position) h.fit
+
+pub cut_end : (limits : Limits) (all : Cuts) (ts us : List Token) (m : Inside) (p : Place) (bs : List ℕ) (i : ℕ) → length bs ≤ i
+    → Pushes limits ts us (atom_ended m p.at Blank) (Ok tt) → CutSoFar limits all ts (lexed limits m p (drop i bs)) → all ≡ Ok us
+unfolding lexed
+cut_end limits all ts us m p bs i long push h =
+    let step : lexed limits m p (drop i bs) ≡ tokens_before limits (atom_ended m p.at Blank) (Ok []) = rw (drop_all i bs long) refl in
+    h.given ∙ ap (tokens_before limits ts) step ∙ before_before limits ts (atom_ended m p.at Blank) (Ok [])
+    ∙ ap (λ vs. tokens_before limits vs (Ok [])) (sym push.0) ∙ rw (push.0) (more_in limits ts (atom_ended m p.at Blank) h.fit push.1)
+
+pub fault_at_end : (limits : Limits) (all : Cuts) (ts : List Token) (m : Inside) (p : Place) (bs : List ℕ) (i : ℕ) (e : ScriptFault) → length bs ≤ i
+    → tokens_before limits (atom_ended m p.at Blank) (Ok []) ≡ Err e → CutSoFar limits all ts (lexed limits m p (drop i bs)) → all ≡ Err e
+unfolding lexed
+fault_at_end limits all ts m p bs i e long push h =
+    let step : lexed limits m p (drop i bs) ≡ tokens_before limits (atom_ended m p.at Blank) (Ok []) = rw (drop_all i bs long) refl in
+    h.given ∙ ap (tokens_before limits ts) (step ∙ push) ∙ before_err limits ts e h.fit
+
+pub nothing_cut : (limits : Limits) (r : Cuts) → CutSoFar limits r [] r
+nothing_cut limits r = record { given = refl; fit = refl }
+
+-- a fault that is not want of memory is the first of the tokens
+pub its_fault : (limits : Limits) (old new ts : List Token) (e : ScriptFault) → Pushes limits old new ts (Err e) → e ≢ Memory → tokens_before limits ts (Ok []) ≡ Err e
+its_fault limits old new ts Memory h ne = absurd (ne refl)
+its_fault limits old new ts (Byte p) h ne = h
+its_fault limits old new ts (Number p) h ne = h
+its_fault limits old new ts (Expected p) h ne = h
+its_fault limits old new ts (Depth p) h ne = h
+its_fault limits old new ts (NameUsed p) h ne = h
+its_fault limits old new ts (NameUnknown p) h ne = h
+its_fault limits old new ts (Limit p) h ne = h
+
+pub record Follows (p q : Place) : Type 0 where
+  pub at : q.at ≡ p.at + 1
+  pub line : q.position.line ≤ p.position.line + 1
+  pub column : q.position.column ≤ p.position.column + 1
+
+pub follows : (p q : Place) (k : Kind) → q ≡ place_after p k → Follows p q
+follows p q LineEnd e = rw (e) (record { at = refl; line = omega arith; column = omega arith })
+follows p q Blank e = rw (e) (record { at = refl; line = omega arith; column = omega arith })
+follows p q Hash e = rw (e) (record { at = refl; line = omega arith; column = omega arith })
+follows p q Brace e = rw (e) (record { at = refl; line = omega arith; column = omega arith })
+follows p q Letter e = rw (e) (record { at = refl; line = omega arith; column = omega arith })
+follows p q Bad e = rw (e) (record { at = refl; line = omega arith; column = omega arith })

@@ -1,0 +1,162 @@
+-- Tokens that are cut stand in order within the text, on lines within the limit.
+use Rattle.std.proofs.Common.{◌≡◌, ℕ, ◌+◌, ◌<◌, ◌≤◌, Bool, true, false, cond, List, [], ◌∷◌, ◌++◌, length, refl, sym, ap, ◌∙◌, subst, arith}
+use Rattle.std.specs.Prelude.{Ok, Err}
+use Rattle.std.proofs.lemmas.Bool.Decides.{nat_tests}
+use Rattle.script_tokens.specs.declared.token.Token.{Token}
+use Rattle.script_tokens.specs.declared.token.Limits.{Limits}
+use Rattle.script_tokens.specs.declared.token.Kind.{Kind}
+use Rattle.script_tokens.specs.declared.token.Kind.TheVariants.{Blank, LineEnd, Hash, Brace, Letter, Bad}
+use Rattle.script_tokens.specs.declared.token.Inside.{Inside}
+use Rattle.script_tokens.specs.declared.token.Inside.TheVariants.{Nothing, Comment, Atom}
+use Rattle.script_tokens.specs.declared.token.Place.{Place}
+use Rattle.script_tokens.specs.declared.fault.ScriptFault.TheVariants.{Byte, Limit}
+use Rattle.script_tokens.specs.Bytes.{kind_of, place_after, first_place}
+use Rattle.script_tokens.specs.Reading.{AreWithin}
+use Rattle.script_tokens.specs.Lexing.{inside_after, is_bad, atom_ended, made, fits, added, tokens_before, lexed, InOrder}
+use Rattle.script_tokens.proofs.Lexing.{Cuts}
+
+abbrev begins : Inside → Place → ℕ
+begins Nothing p = p.at
+begins Comment p = p.at
+begins (Atom q) p = q.at
+
+abbrev IsOpen : Inside → Place → Type 0
+IsOpen Nothing p = Unit {0}
+IsOpen Comment p = Unit {0}
+IsOpen (Atom q) p = q.at < p.at
+
+lower : (n m : ℕ) (ts : List Token) (to : ℕ) → m ≤ n → InOrder n ts to → InOrder m ts to
+lower n m [] to le h = omega (arith, h)
+lower n m (t ∷ ts) to le h = (omega (arith, h.0), h.1, h.2)
+
+step : (m : Inside) (p : Place) (k : Kind) (us : List Token) (to : ℕ) → IsOpen m p → InOrder (begins (inside_after m p k) (place_after p k)) us to
+    → InOrder (begins m p) (made m p k ++ us) to
+step Nothing p Blank us to o h = lower (p.at + 1) _ us to (omega arith) h
+step Nothing p LineEnd us to o h = lower (p.at + 1) _ us to (omega arith) h
+step Nothing p Hash us to o h = lower (p.at + 1) _ us to (omega arith) h
+step Nothing p Brace us to o h = (omega arith, omega arith, h)
+step Nothing p Letter us to o h = h
+step Nothing p Bad us to o h = lower (p.at + 1) _ us to (omega arith) h
+step Comment p Blank us to o h = lower (p.at + 1) _ us to (omega arith) h
+step Comment p LineEnd us to o h = lower (p.at + 1) _ us to (omega arith) h
+step Comment p Hash us to o h = lower (p.at + 1) _ us to (omega arith) h
+step Comment p Brace us to o h = lower (p.at + 1) _ us to (omega arith) h
+step Comment p Letter us to o h = lower (p.at + 1) _ us to (omega arith) h
+step Comment p Bad us to o h = lower (p.at + 1) _ us to (omega arith) h
+step (Atom q) p Blank us to o h = (omega arith, o, lower (p.at + 1) _ us to (omega arith) h)
+step (Atom q) p LineEnd us to o h = (omega arith, o, lower (p.at + 1) _ us to (omega arith) h)
+step (Atom q) p Hash us to o h = (omega arith, o, lower (p.at + 1) _ us to (omega arith) h)
+step (Atom q) p Brace us to o h = (omega arith, o, (omega arith, omega arith, h))
+step (Atom q) p Letter us to o h = h
+step (Atom q) p Bad us to o h = (omega arith, o, lower (p.at + 1) _ us to (omega arith) h)
+
+stays_open : (m : Inside) (p : Place) (k : Kind) → IsOpen m p → IsOpen (inside_after m p k) (place_after p k)
+stays_open Nothing p Letter o = omega arith
+stays_open (Atom q) p Letter o = omega arith
+stays_open Nothing p Blank o = tt
+stays_open Nothing p LineEnd o = tt
+stays_open Nothing p Hash o = tt
+stays_open Nothing p Brace o = tt
+stays_open Nothing p Bad o = tt
+stays_open Comment p Blank o = tt
+stays_open Comment p LineEnd o = tt
+stays_open Comment p Hash o = tt
+stays_open Comment p Brace o = tt
+stays_open Comment p Letter o = tt
+stays_open Comment p Bad o = tt
+stays_open (Atom q) p Blank o = tt
+stays_open (Atom q) p LineEnd o = tt
+stays_open (Atom q) p Hash o = tt
+stays_open (Atom q) p Brace o = tt
+stays_open (Atom q) p Bad o = tt
+
+at_after : (p : Place) (k : Kind) → (place_after p k).at ≡ p.at + 1
+at_after p LineEnd = refl
+at_after p Blank = refl
+at_after p Hash = refl
+at_after p Brace = refl
+at_after p Letter = refl
+at_after p Bad = refl
+
+-- every token is within the limits
+abbrev pub AllIn : Limits → List Token → Type 0
+AllIn limits [] = Unit {0}
+AllIn limits (t ∷ ts) = (fits limits t ≡ true) × AllIn limits ts
+
+-- tokens before those of the rest, and all within the limits
+record Parts (limits : Limits) (ts us : List Token) (r : Cuts) : Type 0 where
+  pub later : List Token
+  pub rest : r ≡ Ok later
+  pub whole : us ≡ ts ++ later
+  pub inside : AllIn limits ts
+
+test_of : (t : Token) (b : Bool) (r : Cuts) (us : List Token) → cond b r (Err (Limit t.position)) ≡ Ok us → (b ≡ true) × (r ≡ Ok us)
+test_of t true r us e = (refl, e)
+test_of t false r us e = absurd cc
+
+after_added : (t : Token) (r : Cuts) (us : List Token) → added t r ≡ Ok us → (vs : List Token) × (r ≡ Ok vs) × (us ≡ t ∷ vs)
+after_added t (Ok vs) us e = (vs, refl, cc)
+after_added t (Err d) us e = absurd cc
+
+parts : (limits : Limits) (ts us : List Token) (r : Cuts) → tokens_before limits ts r ≡ Ok us → Parts limits ts us r
+parts limits [] us r e = record { later = us; rest = e; whole = refl; inside = tt }
+parts limits (t ∷ ts) us r e =
+    let p = test_of t (fits limits t) (added t (tokens_before limits ts r)) us e in
+    let q = after_added t (tokens_before limits ts r) us p.1 in
+    let h = parts limits ts q.0 r q.1 in
+    record { later = h.later; rest = h.rest; whole = q.2 ∙ ap (λ (xs : List Token). t ∷ xs) h.whole; inside = (p.0, h.inside) }
+
+not_bad : (b : Bool) (p : Place) (r : Cuts) (us : List Token) → cond b (Err (Byte p.position)) r ≡ Ok us → r ≡ Ok us
+not_bad true p r us e = absurd cc
+not_bad false p r us e = e
+
+all_both : (limits : Limits) (ts us : List Token) → AllIn limits ts → AllIn limits us → AllIn limits (ts ++ us)
+all_both limits [] us h k = k
+all_both limits (t ∷ ts) us h k = (h.0, all_both limits ts us h.1 k)
+
+pub record AreCut (limits : Limits) (from : ℕ) (ts : List Token) (to : ℕ) : Type 0 where
+  pub order : InOrder from ts to
+  pub inside : AllIn limits ts
+
+at_end : (limits : Limits) (m : Inside) (p : Place) (ts : List Token) → IsOpen m p → tokens_before limits (atom_ended m p.at Blank) (Ok []) ≡ Ok ts → AreCut limits (begins m p) ts (p.at + 0)
+at_end limits Nothing p ts o e = let is : [] ≡ ts = cc in subst (λ (us : List Token). AreCut limits p.at us (p.at + 0)) is (record { order = omega arith; inside = tt })
+at_end limits Comment p ts o e = let is : [] ≡ ts = cc in subst (λ (us : List Token). AreCut limits p.at us (p.at + 0)) is (record { order = omega arith; inside = tt })
+at_end limits (Atom q) p ts o e =
+    let h = parts limits (atom_ended (Atom q) p.at Blank) ts (Ok []) e in
+    let none : [] ≡ h.later = (let f = h.rest in cc) in
+    let is : atom_ended (Atom q) p.at Blank ≡ ts = ap (λ (us : List Token). atom_ended (Atom q) p.at Blank ++ us) none ∙ sym h.whole in
+    subst (λ (us : List Token). AreCut limits q.at us (p.at + 0)) is (record { order = (omega arith, o, omega arith); inside = h.inside })
+
+pub cut_in_order : (limits : Limits) (m : Inside) (p : Place) (bs : List ℕ) (ts : List Token) → IsOpen m p → lexed limits m p bs ≡ Ok ts → AreCut limits (begins m p) ts (p.at + length bs)
+unfolding lexed
+cut_in_order limits m p [] ts o e = at_end limits m p ts o e
+cut_in_order limits m p (b ∷ bs) ts o e =
+    let k = kind_of b in
+    let h = parts limits (made m p k) ts (cond (is_bad m k) (Err (Byte p.position)) (lexed limits (inside_after m p k) (place_after p k) bs)) e in
+    let good = not_bad (is_bad m k) p (lexed limits (inside_after m p k) (place_after p k) bs) h.later h.rest in
+    let later = cut_in_order limits (inside_after m p k) (place_after p k) bs h.later (stays_open m p k o) good in
+    let to : (place_after p k).at + length bs ≡ p.at + length (b ∷ bs) = (let a = at_after p k in omega (arith, a)) in
+    record {
+      order = subst (λ (us : List Token). InOrder (begins m p) us (p.at + length (b ∷ bs))) (sym h.whole)
+          (step m p k h.later (p.at + length (b ∷ bs)) o (subst (λ (n : ℕ). InOrder (begins (inside_after m p k) (place_after p k)) h.later n) to later.order));
+      inside = subst (λ (us : List Token). AllIn limits us) (sym h.whole) (all_both limits (made m p k) h.later h.inside later.inside);
+    }
+
+reaches : (from : ℕ) (ts : List Token) (to : ℕ) → InOrder from ts to → from ≤ to
+reaches from [] to h = h
+reaches from (t ∷ ts) to h = let later = reaches t.end ts to h.2 in omega (arith, h.0, h.1, later)
+
+line_of : (limits : Limits) (t : Token) → fits limits t ≡ true → t.position.line ≤ limits.line
+line_of limits t e = grind (arith, nat_tests, e)
+
+are_within : (limits : Limits) (from : ℕ) (ts : List Token) (to : ℕ) → limits.line ≤ 65535 → InOrder from ts to → AllIn limits ts → AreWithin to ts
+are_within limits from [] to small h k = tt
+are_within limits from (t ∷ ts) to small h k =
+    let line = line_of limits t k.0 in
+    (h.1, reaches t.end ts to h.2, omega (arith, line), are_within limits t.end ts to small h.2 k.1)
+
+pub within : (limits : Limits) (bs : List ℕ) (ts : List Token) → limits.line ≤ 65535 → lexed limits Nothing first_place bs ≡ Ok ts → AreWithin (length bs) ts
+within limits bs ts small e =
+    let h = cut_in_order limits Nothing first_place bs ts tt e in
+    let z : 0 + length bs ≡ length bs = omega arith in
+    subst (λ (n : ℕ). AreWithin n ts) z (are_within limits 0 ts (0 + length bs) small h.order h.inside)

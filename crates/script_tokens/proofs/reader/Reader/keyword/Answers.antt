@@ -1,0 +1,10 @@
+use Rattle.std.proofs.Common.{sym, ◌∙◌}
+use Rattle.script_tokens.specs.Words.{letters}
+use Rattle.script_tokens.proofs.Keys.{found_of, first_is}
+use Rattle.script_tokens.proofs.reader.Reader.keyword.Goals as goal
+
+pub returns-in-Some-clause-is : goal.returns-in-Some-clause-is
+returns-in-Some-clause-is c = λ k rest e. (
+    let b = c.in-Some.ensures in
+    found_of c.of.result c.in-Some.word.now c.of.ensures.found c.of.ensures.none k (first_is c.in-Some.word.now (letters k) b.rest rest (sym b.begins ∙ e))
+    )

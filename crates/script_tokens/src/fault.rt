@@ -1,0 +1,60 @@
+//! Why a text is no script.
+
+use std::alloc::AllocError;
+use std::fmt::{self, Display, Formatter, Write};
+use thiserror::Error;
+
+/// A position of a text: its line and its column in bytes, both from 1.
+#[derive(Clone, Copy, Debug, PartialEq, Eq)]
+pub struct Position {
+    pub line: usize,
+    pub column: usize,
+}
+
+impl Display for Position {
+    /// Line and column with a colon between them.
+    fn fmt<W: Write>(&self, f: &mut Formatter<W>) -> fmt::Result {
+        write!(f, "{}:{}", self.line, self.column)
+    }
+}
+
+/// Why a text is no script, with the position of the token, or just past the text.
+#[derive(Clone, Copy, Debug, PartialEq, Eq, Error)]
+pub enum ScriptFault {
+    /// A byte outside comments that has no place in a script.
+    #[error("{0}: Byte")]
+    Byte(Position),
+    /// An atom where a value must stand that is no such value in range.
+    #[error("{0}: Number")]
+    Number(Position),
+    /// Another token, or the end of the text, than what must stand there.
+    #[error("{0}: Expected")]
+    Expected(Position),
+    /// A brace that would stand more than 16 deep.
+    #[error("{0}: Depth")]
+    Depth(Position),
+    /// A second definition of a name.
+    #[error("{0}: NameUsed")]
+    NameUsed(Position),
+    /// A name that is not defined before it is applied.
+    #[error("{0}: NameUnknown")]
+    NameUnknown(Position),
+    /// A text, a line, an atom, the defined blocks, or the items and statements past their limit.
+    #[error("{0}: Limit")]
+    Limit(Position),
+    /// Memory was refused.
+    #[error("no memory")]
+    Memory,
+}
+
+impl From<AllocError> for ScriptFault {
+    ghost use Rattle.std.specs.Prelude.{◌≡◌};
+    ghost use Rattle.script_tokens.specs.declared.fault.ScriptFault.TheVariants.{Memory};
+
+    ghost from_gives = { λ _ e. e ≡ Memory };
+
+    /// Want of memory.
+    fn from(_error: AllocError) -> Self {
+        ScriptFault::Memory
+    }
+}
