@@ -88,39 +88,23 @@ fn short(id: u8, start: u16, switch: bool, table: u16) -> Made {
 
 #[test]
 fn sub_channels(rt: HostRuntime) -> Result<(), Fail> {
-    assert!(rt;
-        goes_as(
-            sub(0, 0, 0, 0, 0),
-            head(1, false),
+    let rows: [(Made, usize, &[u8]); 4] = [
+        (sub(0, 0, 0, 0, 0), 4, &[5, 0x81, 0, 0, 0x80, 0, 0xff, 0]),
+        (
+            sub(63, 1023, 7, 3, 1023),
             4,
-            &[5, 0x81, 0, 0, 0x80, 0, 0xff, 0]
-        )?
-    );
-    let greatest = sub(63, 1023, 7, 3, 1023);
-    assert!(rt;
-        goes_as(
-            greatest,
-            head(1, false),
-            4,
-            &[5, 0x81, 0xff, 0xff, 0xff, 0xff, 0xff, 0]
-        )?
-    );
-    assert!(rt;
-        goes_as(
-            short(0, 0, false, 0),
-            head(1, false),
-            3,
-            &[4, 0x81, 0, 0, 0, 0xff, 0]
-        )?
-    );
-    assert!(rt;
-        goes_as(
+            &[5, 0x81, 0xff, 0xff, 0xff, 0xff, 0xff, 0],
+        ),
+        (short(0, 0, false, 0), 3, &[4, 0x81, 0, 0, 0, 0xff, 0]),
+        (
             short(63, 1023, true, 63),
-            head(1, false),
             3,
-            &[4, 0x81, 0xff, 0xff, 0x7f, 0xff, 0]
-        )?
-    );
+            &[4, 0x81, 0xff, 0xff, 0x7f, 0xff, 0],
+        ),
+    ];
+    for (entry, len, front) in rows {
+        assert!(rt; goes_as(entry, head(1, false), len, front)?);
+    }
     Ok(())
 }
 
@@ -135,28 +119,34 @@ fn service(sid: Sid, rfa: bool, ca_id: u16, components: BoundedVec<ComponentEntr
 
 #[test]
 fn services_without_components(rt: HostRuntime) -> Result<(), Fail> {
-    let least = service(Sid::Short(0), false, 0, BoundedVec::new());
-    assert!(rt; goes_as(least, head(2, false), 3, &[4, 0x82, 0, 0, 0, 0xff, 0])?);
-    let greatest = service(Sid::Short(0xffff), true, 7, BoundedVec::new());
-    assert!(rt;
-        goes_as(
-            greatest,
-            head(2, false),
+    let rows: [(Sid, bool, u16, usize, &[u8]); 4] = [
+        (Sid::Short(0), false, 0, 3, &[4, 0x82, 0, 0, 0, 0xff, 0]),
+        (
+            Sid::Short(0xffff),
+            true,
+            7,
             3,
-            &[4, 0x82, 0xff, 0xff, 0xf0, 0xff, 0]
-        )?
-    );
-    let least = service(Sid::Long(0), false, 0, BoundedVec::new());
-    assert!(rt; goes_as(least, head(2, true), 5, &[6, 0xa2, 0, 0, 0, 0, 0, 0xff, 0])?);
-    let long = service(Sid::Long(0xfedc_ba98), false, 1, BoundedVec::new());
-    assert!(rt;
-        goes_as(
-            long,
-            head(2, true),
+            &[4, 0x82, 0xff, 0xff, 0xf0, 0xff, 0],
+        ),
+        (
+            Sid::Long(0),
+            false,
+            0,
             5,
-            &[6, 0xa2, 0xfe, 0xdc, 0xba, 0x98, 0x10, 0xff, 0]
-        )?
-    );
+            &[6, 0xa2, 0, 0, 0, 0, 0, 0xff, 0],
+        ),
+        (
+            Sid::Long(0xfedc_ba98),
+            false,
+            1,
+            5,
+            &[6, 0xa2, 0xfe, 0xdc, 0xba, 0x98, 0x10, 0xff, 0],
+        ),
+    ];
+    for (sid, rfa, ca_id, len, front) in rows {
+        let entry = service(sid, rfa, ca_id, BoundedVec::new());
+        assert!(rt; goes_as(entry, head(2, len == 5), len, front)?);
+    }
     Ok(())
 }
 

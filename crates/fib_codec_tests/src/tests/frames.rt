@@ -1,6 +1,6 @@
 //! FIBs that are known from outside, built FIG by FIG.
 
-use super::begins;
+use super::{begins, is};
 use fib_codec::{
     Bits, BoundedVec, ComponentEntry, Ensemble, Entry, Fib, FibFrame, Head, Mode, PacketEntry,
     ScId, ScTy, ServiceEntry, Sid, SubEntry, SubId,
@@ -76,19 +76,19 @@ fn put(fib: &mut Fib, head: Head, entry: Made) -> Result<(), &'static str> {
     Ok(())
 }
 
+/// FIG 0/0 of count 0, sub-channel 1 of 96 CU and the service C221 with audio in it.
+const ONE_PROGRAMME: [u8; 32] = [
+    0x05, 0x00, 0xe1, 0xc5, 0x00, 0x00, 0x05, 0x01, 0x04, 0x00, 0x88, 0x60, 0x06, 0x02, 0xc2, 0x21,
+    0x01, 0x3f, 0x06, 0xff, 0, 0, 0, 0, 0, 0, 0, 0, 0, 0, 0x23, 0x69,
+];
+
 #[test]
 fn one_audio_service(rt: HostRuntime) -> Result<(), Fail> {
     let mut fib = Fib::new();
     put(&mut fib, head(false, 0), information(0, 0, None))?;
     put(&mut fib, head(false, 1), sub(1, 0, 2, 96))?;
     put(&mut fib, head(false, 2), audio(1))?;
-    assert_eq!(rt;
-        fib.finish(),
-        [
-            0x05, 0x00, 0xe1, 0xc5, 0x00, 0x00, 0x05, 0x01, 0x04, 0x00, 0x88, 0x60, 0x06, 0x02,
-            0xc2, 0x21, 0x01, 0x3f, 0x06, 0xff, 0, 0, 0, 0, 0, 0, 0, 0, 0, 0, 0x23, 0x69,
-        ]
-    );
+    assert!(rt; is(&fib.finish(), &ONE_PROGRAMME));
     Ok(())
 }
 
@@ -99,15 +99,10 @@ fn ensemble_information_before_the_figs_of_a_fib(rt: HostRuntime) -> Result<(), 
     put(&mut fib, head(false, 2), audio(1))?;
     let mut frame = FibFrame::new(Mode::I);
     frame.join_fib(1, &[0x05, 0x00, 0xe1, 0xc5, 0x00, 0x00], &fib.finish());
-    assert_eq!(rt;
-        frame.fib(1),
-        Some(&[
-            0x05, 0x00, 0xe1, 0xc5, 0x00, 0x00, 0x05, 0x01, 0x04, 0x00, 0x88, 0x60, 0x06, 0x02,
-            0xc2, 0x21, 0x01, 0x3f, 0x06, 0xff, 0, 0, 0, 0, 0, 0, 0, 0, 0, 0, 0x23, 0x69,
-        ])
-    );
-    assert_eq!(rt; frame.fib(0), Some(&[0u8; 32]));
-    assert_eq!(rt; frame.fib(2), Some(&[0u8; 32]));
+    let zeros = [0; 32];
+    for (place, bytes) in [(0, &zeros), (1, &ONE_PROGRAMME), (2, &zeros)] {
+        assert!(rt; is(frame.fib(place).ok_or("a FIB")?, bytes));
+    }
     Ok(())
 }
 
@@ -243,34 +238,46 @@ fn row(first: u8, end: u8) -> Result<BoundedVec<Entry, 8>, &'static str> {
     Ok(entries)
 }
 
+/// Whether a FIB whose only FIG has the sub-channels from one number up to another begins with these bytes, and has these
+/// two before its CRC.
+fn goes_as(first: u8, end: u8, front: &[u8], back: &[u8]) -> Result<bool, &'static str> {
+    let mut fib = Fib::new();
+    if !fib.try_fig(head(false, 1), row(first, end)?.as_slice()) {
+        return Err("a FIG that fits");
+    }
+    let bytes = fib.finish();
+    Ok(begins(&bytes, front) && ends(&bytes, back))
+}
+
+/// Whether these bytes stand before the CRC of a FIB.
+fn ends(fib: &[u8; 32], back: &[u8]) -> bool {
+    let front = 30usize.saturating_sub(back.len());
+    fib.iter()
+        .skip(front)
+        .zip(back)
+        .all(|(byte, wanted)| byte == wanted)
+}
+
 #[test]
-fn thirteen_sub_channels_in_three_fibs(rt: HostRuntime) -> Result<(), Fail> {
-    let mut first = Fib::new();
-    put(&mut first, head(false, 0), information(0, 0, None))?;
-    assert!(rt; first.try_fig(head(false, 1), row(1, 6)?.as_slice()));
-    let bytes = first.finish();
-    assert!(rt;
-        begins(
-            &bytes,
-            &[
-                0x05, 0x00, 0xe1, 0xc5, 0x00, 0x00, 0x15, 0x01, 0x04, 0x00, 0x8c, 0x04
-            ]
-        )
-    );
-    assert_eq!(rt; (bytes[28], bytes[29]), (0xff, 0x00));
-    let mut second = Fib::new();
-    assert!(rt; second.try_fig(head(false, 1), row(6, 13)?.as_slice()));
-    let bytes = second.finish();
-    assert!(rt; begins(&bytes, &[0x1d, 0x01, 0x18, 0x14, 0x8c, 0x04]));
-    assert_eq!(rt; (bytes[28], bytes[29]), (0x8c, 0x04));
-    let mut third = Fib::new();
-    assert!(rt; third.try_fig(head(false, 1), row(13, 14)?.as_slice()));
-    assert!(rt;
-        begins(
-            &third.finish(),
-            &[0x05, 0x01, 0x34, 0x30, 0x8c, 0x04, 0xff, 0]
-        )
-    );
+fn five_sub_channels_behind_ensemble_information(rt: HostRuntime) -> Result<(), Fail> {
+    let mut fib = Fib::new();
+    put(&mut fib, head(false, 0), information(0, 0, None))?;
+    assert!(rt; fib.try_fig(head(false, 1), row(1, 6)?.as_slice()));
+    let bytes = fib.finish();
+    let front = [
+        0x05, 0x00, 0xe1, 0xc5, 0x00, 0x00, 0x15, 0x01, 0x04, 0x00, 0x8c, 0x04,
+    ];
+    assert!(rt; begins(&bytes, &front));
+    assert!(rt; ends(&bytes, &[0xff, 0x00]));
+    Ok(())
+}
+
+#[test]
+fn eight_sub_channels_in_two_fibs(rt: HostRuntime) -> Result<(), Fail> {
+    let front = [0x1d, 0x01, 0x18, 0x14, 0x8c, 0x04];
+    assert!(rt; goes_as(6, 13, &front, &[0x8c, 0x04])?);
+    let front = [0x05, 0x01, 0x34, 0x30, 0x8c, 0x04, 0xff, 0];
+    assert!(rt; goes_as(13, 14, &front, &[0, 0])?);
     Ok(())
 }
 
@@ -280,7 +287,7 @@ fn twelve_components_leave_room_for_the_end_marker(rt: HostRuntime) -> Result<()
     put(&mut fib, head(false, 2), audio(12))?;
     let bytes = fib.finish();
     assert!(rt; begins(&bytes, &[0x1c, 0x02, 0xc2, 0x21, 0x0c, 0x3f, 0x06]));
-    assert_eq!(rt; bytes[29], 0xff);
+    assert!(rt; ends(&bytes, &[0xff]));
     Ok(())
 }
 
