@@ -1,4 +1,5 @@
-use mux_config::{RecordFault, read_config, write_config};
+use mux_config::{Config, Packet, RecordFault, Sub, read_config, write_config};
+use std::alloc::Global;
 use std::test::Fail;
 
 /// Sub-channel 1 at 0, 3-A, 128 kbit/s; service C221 with one sound component.
@@ -20,9 +21,9 @@ const ONE_PACKET: [u8; 24] = [
 fn records_read_and_write_back(rt: HostRuntime) -> Result<(), Fail> {
     let records: [&[u8]; 3] = [&ONE_PROGRAMME, &NOTHING, &ONE_PACKET];
     for bytes in records {
-        let (config, size) = read_config(bytes)?;
+        let (config, size) = read(bytes)?;
         assert_eq!(rt; size, bytes.len());
-        assert_eq!(rt; write_config(rt.alloc(), &config)?.as_slice(), bytes);
+        assert!(rt; written(rt.alloc(), &config)?.as_slice() == bytes);
     }
     Ok(())
 }
@@ -34,22 +35,44 @@ fn bytes_after_a_record_are_left(rt: HostRuntime) -> Result<(), Fail> {
     Ok(())
 }
 
+/// The configuration of a record, and how many bytes the record has.
+fn read(record: &[u8]) -> Result<(Config, usize), Fail> {
+    Ok(read_config(record)?)
+}
+
+/// The record of a configuration.
+fn written(alloc: Global, config: &Config) -> Result<Vec<u8>, Fail> {
+    Ok(write_config(alloc, config)?)
+}
+
+/// How many sub-channels, services and packet components a configuration has.
+fn sizes(config: &Config) -> (usize, usize, usize) {
+    (
+        config.subs().len(),
+        config.services().len(),
+        config.packets().len(),
+    )
+}
+
+/// The identifier, the start address, the protection level and the rate of a sub-channel.
+fn sub_numbers(sub: &Sub) -> (u8, u16, u8, u16) {
+    (sub.id.get(), sub.start, sub.protection.level(), sub.kbits)
+}
+
+/// Whether a packet component has data groups, its type and its address.
+fn packet_numbers(packet: &Packet) -> (bool, u8, u16) {
+    (packet.dg, packet.ty.get(), packet.address)
+}
+
 #[test]
 fn fields_of_a_record(rt: HostRuntime) -> Result<(), Fail> {
-    let (config, _) = read_config(&ONE_PACKET)?;
-    assert_eq!(rt; config.subs().len(), 1);
-    assert_eq!(rt; config.services().len(), 1);
-    assert_eq!(rt; config.packets().len(), 1);
+    let (config, _) = read(&ONE_PACKET)?;
+    assert_eq!(rt; sizes(&config), (1, 1, 1));
     for sub in config.subs() {
-        assert_eq!(rt; sub.id.get(), 5);
-        assert_eq!(rt; sub.start, 0);
-        assert_eq!(rt; sub.protection.level(), 3);
-        assert_eq!(rt; sub.kbits, 64);
+        assert_eq!(rt; sub_numbers(sub), (5, 0, 3, 64));
     }
     for packet in config.packets() {
-        assert!(rt; !packet.dg);
-        assert_eq!(rt; packet.ty.get(), 60);
-        assert_eq!(rt; packet.address, 1);
+        assert_eq!(rt; packet_numbers(packet), (false, 60, 1));
     }
     Ok(())
 }
@@ -158,37 +181,50 @@ fn faults_of_packet_components(rt: HostRuntime) {
     }
 }
 
-#[test]
-fn the_largest_record(rt: HostRuntime) -> Result<(), Fail> {
-    let mut bytes = Vec::new(rt.alloc());
+/// Puts a service of these first bytes with this many components, which begin with these bytes.
+fn put_service(bytes: &mut Vec<u8>, front: &[u8], count: u8, kind: &[u8]) -> Result<(), Fail> {
+    bytes.extend_from_slice(front)?;
+    bytes.push(count)?;
+    for carrier in 0..count {
+        bytes.extend_from_slice(kind)?;
+        bytes.push(carrier)?;
+    }
+    Ok(())
+}
+
+/// Puts 32 services with SIds of 16 bits, and 32 with SIds of 32 bits, each with as many components as it may have.
+fn put_services(bytes: &mut Vec<u8>) -> Result<(), Fail> {
+    for id in 0..32 {
+        put_service(bytes, &[0, 0xC2, id], 12, &[0, 63])?;
+    }
+    for id in 0..32 {
+        put_service(bytes, &[1, 0, 0, 0xC2, id], 11, &[3, 0])?;
+    }
+    Ok(())
+}
+
+/// The record of 64 sub-channels, 64 services and 64 packet components.
+fn largest(alloc: Global) -> Result<Vec<u8>, Fail> {
+    let mut bytes = Vec::new(alloc);
     bytes.extend_from_slice(&[64, 64, 64])?;
-    for id in 0u8..64 {
+    for id in 0..64 {
         bytes.extend_from_slice(&[id, 0, id, 0, 3, 0, 8])?;
     }
-    for id in 0u8..32 {
-        bytes.extend_from_slice(&[0, 0xC2, id, 12])?;
-        for sub in 0u8..12 {
-            bytes.extend_from_slice(&[0, 63, sub])?;
-        }
-    }
-    for id in 0u8..32 {
-        bytes.extend_from_slice(&[1, 0, 0, 0xC2, id, 11])?;
-        for sub in 0u8..11 {
-            bytes.extend_from_slice(&[3, 0, sub])?;
-        }
-    }
-    for id in 0u8..64 {
+    put_services(&mut bytes)?;
+    for id in 0..64 {
         bytes.extend_from_slice(&[0, id, 1, 60, id, 0x03, 0xFF])?;
     }
-    let (config, size) = read_config(&bytes)?;
+    Ok(bytes)
+}
+
+#[test]
+fn the_largest_record(rt: HostRuntime) -> Result<(), Fail> {
+    let bytes = largest(rt.alloc())?;
+    let (config, size) = read(&bytes)?;
     assert_eq!(rt; size, bytes.len());
-    assert_eq!(rt; config.subs().len(), 64);
-    assert_eq!(rt; config.services().len(), 64);
-    assert_eq!(rt; config.packets().len(), 64);
-    assert_eq!(rt;
-        write_config(rt.alloc(), &config)?.as_slice(),
-        bytes.as_slice()
-    );
+    assert_eq!(rt; sizes(&config), (64, 64, 64));
+    let record = written(rt.alloc(), &config)?;
+    assert!(rt; record.as_slice() == bytes.as_slice());
     Ok(())
 }
 
