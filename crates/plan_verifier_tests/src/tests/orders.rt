@@ -1,159 +1,200 @@
 //! Where several causes hold: the first instruction is named, and the first cause in order.
 
-use super::parts::{
-    SERVICE, add_sub, commit_in, drop_sub, move_sub, overlap, rate_sub, repeat, small_subs, test,
-    wait,
-};
-use super::verdicts::{PLAN, label, plain_verdict, programme, verdict};
-use mux_config::{ConfigFault, Edit};
-use plan_code::{Counters, Instr, Label, Plan};
+use super::parts::{Change, Mark, PROGRAMME, RATE_64, SERVICE, Step, overlap, small_subs};
+use super::verdicts::{PLAN, Plain, Row, expect, judge, judge_plain, plain_verdict};
+use mux_config::ConfigFault;
+use plan_code::{Plan, Swap};
 use plan_verifier::Cause;
+use std::alloc::{AllocError, Global};
+use std::process::Abort;
 use std::test::Fail;
+
+const OPENINGS: [Row; 4] = [
+    (
+        &[Mark::Full(0, 0, 1, Swap::Idle, 0, 21)],
+        &[Step::Join],
+        Some((0, Cause::Mismatch)),
+    ),
+    (&[Mark::At(0, 21)], &[Step::Join], Some((0, Cause::Cost))),
+    (
+        &[Mark::At(0, 20)],
+        &[Step::Join],
+        Some((0, Cause::Config(ConfigFault::EmptyService))),
+    ),
+    (
+        &[Mark::Full(0, 2, 2, Swap::Idle, 0, 20)],
+        &[Step::Join],
+        Some((0, Cause::Round)),
+    ),
+];
+
+/// And then the instruction's own.
+const IDLE: [Plain; 1] = [(1, &[Step::Join], Some((0, Cause::JoinIdle)))];
+
+/// The small sub-channels and a service without components.
+fn with_service(alloc: Global) -> Result<Vec<Change>, AllocError> {
+    let mut changes = small_subs(alloc)?;
+    changes.push(Change::AddService(SERVICE))?;
+    Ok(changes)
+}
+
+/// Asserts the verdicts on openings with these configurations and the empty one between them.
+fn judge_openings(
+    rt: &impl Abort,
+    alloc: Global,
+    unsound: &[Change],
+    sound: &[Change],
+) -> Result<(), Fail> {
+    let short = Plan { period: 1, ..PLAN };
+    judge(rt, alloc, short, &[unsound, &[], sound], &OPENINGS)
+}
 
 #[test]
 fn at_the_opening(rt: HostRuntime) -> Result<(), Fail> {
-    let sound = small_subs();
-    let mut edits = small_subs().to_vec(rt.alloc())?;
-    edits.push(Edit::AddService(SERVICE))?;
-    let short = Plan { period: 1, ..PLAN };
-    let rows = [
-        (
-            Label {
-                next: 1,
-                ..label(0, 21)
-            },
-            Cause::Mismatch,
-        ),
-        (label(0, 21), Cause::Cost),
-        (label(0, 20), Cause::Config(ConfigFault::EmptyService)),
-        (
-            Label {
-                cur: 2,
-                next: 2,
-                ..label(0, 20)
-            },
-            Cause::Round,
-        ),
-    ];
-    for (first, cause) in rows {
-        let instrs = [Instr::Join];
-        let found = verdict(rt.alloc(), short, &[&edits, &[], &sound], &[first], &instrs)?;
-        assert_eq!(rt; found, Some((0, cause)));
-    }
-    // and then the instruction's own
-    assert_eq!(rt;
-        plain_verdict(rt.alloc(), &[], 1, &[Instr::Join])?,
-        Some((0, Cause::JoinIdle))
-    );
-    Ok(())
+    judge_plain(&rt, rt.alloc(), &[], &IDLE)?;
+    let unsound = with_service(rt.alloc())?;
+    let sound = small_subs(rt.alloc())?;
+    judge_openings(&rt, rt.alloc(), &unsound, &sound)
 }
+
+const LABELS: [Row; 3] = [
+    (
+        &[Mark::At(0, 1), Mark::Counting(1, 1, 21)],
+        &[Step::Wait(1), Step::Join],
+        Some((1, Cause::Mismatch)),
+    ),
+    (
+        &[Mark::At(0, 1), Mark::At(1, 21)],
+        &[Step::Wait(1), Step::Join],
+        Some((1, Cause::Cost)),
+    ),
+    (
+        &[Mark::At(0, 1), Mark::At(1, 1)],
+        &[Step::Wait(1), Step::Join],
+        Some((1, Cause::JoinIdle)),
+    ),
+];
 
 #[test]
 fn at_a_label(rt: HostRuntime) -> Result<(), Fail> {
-    let counting = Label {
-        counters: Counters(1),
-        ..label(1, 21)
-    };
-    let rows = [
-        (counting, Cause::Mismatch),
-        (label(1, 21), Cause::Cost),
-        (label(1, 1), Cause::JoinIdle),
-    ];
-    for (second, cause) in rows {
-        let labels = [label(0, 1), second];
-        let found = verdict(rt.alloc(), PLAN, &[&[]], &labels, &[wait(1), Instr::Join])?;
-        assert_eq!(rt; found, Some((1, cause)));
-    }
-    Ok(())
+    judge(&rt, rt.alloc(), PLAN, &[&[]], &LABELS)
 }
+
+const JUMPS: [Row; 4] = [
+    (
+        &[Mark::At(0, 1)],
+        &[Step::Loop(0, 9), Step::End],
+        Some((0, Cause::CounterUnset)),
+    ),
+    // the last instruction aims at no label, and would continue
+    (
+        &[Mark::At(0, 1)],
+        &[Step::Test(0, 9)],
+        Some((0, Cause::Target)),
+    ),
+    // the label asks for a counter, and costs more than is left
+    (
+        &[Mark::At(0, 1), Mark::Counting(1, 1, 20)],
+        &[Step::Jump(1), Step::End],
+        Some((0, Cause::Mismatch)),
+    ),
+    (
+        &[Mark::At(0, 1), Mark::At(1, 20)],
+        &[Step::Jump(1), Step::End],
+        Some((0, Cause::Cost)),
+    ),
+];
 
 #[test]
 fn at_a_jump(rt: HostRuntime) -> Result<(), Fail> {
-    let alloc = rt.alloc();
-    let unset = Some((0, Cause::CounterUnset));
-    assert_eq!(rt;
-        plain_verdict(alloc, &[], 1, &[repeat(0, 9), Instr::End])?,
-        unset
-    );
-    // the last instruction aims at no label, and would continue
-    assert_eq!(rt;
-        plain_verdict(alloc, &[], 1, &[test(0, 9)])?,
-        Some((0, Cause::Target))
-    );
-    // the label asks for a counter, and costs more than is left
-    let labels = [
-        label(0, 1),
-        Label {
-            counters: Counters(1),
-            ..label(1, 20)
-        },
-    ];
-    let found = verdict(alloc, PLAN, &[&[]], &labels, &[Instr::Jump(1), Instr::End])?;
-    assert_eq!(rt; found, Some((0, Cause::Mismatch)));
-    let labels = [label(0, 1), label(1, 20)];
-    let found = verdict(alloc, PLAN, &[&[]], &labels, &[Instr::Jump(1), Instr::End])?;
-    assert_eq!(rt; found, Some((0, Cause::Cost)));
-    Ok(())
+    judge(&rt, rt.alloc(), PLAN, &[&[]], &JUMPS)
 }
+
+/// Nothing is new, and both together take 7 pages.
+const NOTHING_NEW: [Plain; 1] = [(
+    2,
+    &[Step::CommitIn(24), Step::End],
+    Some((0, Cause::NoChange)),
+)];
 
 #[test]
 fn at_a_commit(rt: HostRuntime) -> Result<(), Fail> {
-    let alloc = rt.alloc();
     let rows = [
-        (commit_in(23), Cause::Notice),
-        (Instr::CommitAt(1), Cause::Count),
-        (commit_in(24), Cause::Config(overlap())),
-        (Instr::CommitAt(0), Cause::Config(overlap())),
+        (1, Step::CommitIn(23), Cause::Notice),
+        (2, Step::CommitAt(1), Cause::Count),
+        (3, Step::CommitIn(24), Cause::Config(overlap())),
+        (4, Step::CommitAt(0), Cause::Config(overlap())),
     ];
-    for (commit, cause) in rows {
-        let instrs = [
-            Instr::Edit(add_sub(2, 0, 3, 64)),
-            Instr::Edit(move_sub(2, 95)),
-            commit,
-            Instr::End,
-        ];
-        let found = plain_verdict(alloc, &programme(128), 4, &instrs)?;
-        assert_eq!(rt; found, Some((2, cause)));
+    let added = Step::Edit(Change::AddSub(2, 0, 3, 64));
+    let moved = Step::Edit(Change::MoveSub(2, 95));
+    for (number, commit, cause) in rows {
+        let steps = [added, moved, commit, Step::End];
+        let found = plain_verdict(rt.alloc(), PROGRAMME, 4, &steps)?;
+        expect(&rt, number, found, Some((2, cause)));
     }
-    // nothing is new, and both together take 7 pages
-    let edits = small_subs();
-    let instrs = [commit_in(24), Instr::End];
-    let found = plain_verdict(alloc, &edits, 2, &instrs)?;
-    assert_eq!(rt; found, Some((0, Cause::NoChange)));
-    Ok(())
+    let subs = small_subs(rt.alloc())?;
+    judge_plain(&rt, rt.alloc(), &subs, &NOTHING_NEW)
 }
+
+/// Three faulty instructions; and each where no allowance is left for it.
+const FAULTY: [Plain; 6] = [
+    (
+        3,
+        &[RATE_64, Step::CommitIn(24), Step::Edit(Change::DropSub(9))],
+        Some((2, Cause::Pending)),
+    ),
+    (
+        2,
+        &[RATE_64, Step::CommitIn(24), Step::Edit(Change::DropSub(9))],
+        Some((2, Cause::Cost)),
+    ),
+    (
+        3,
+        &[RATE_64, Step::CommitIn(24), Step::CommitIn(1)],
+        Some((2, Cause::Pending)),
+    ),
+    (
+        2,
+        &[RATE_64, Step::CommitIn(24), Step::CommitIn(1)],
+        Some((2, Cause::Cost)),
+    ),
+    (
+        3,
+        &[RATE_64, Step::CommitIn(24), Step::CommitAt(9999)],
+        Some((2, Cause::Pending)),
+    ),
+    (
+        2,
+        &[RATE_64, Step::CommitIn(24), Step::CommitAt(9999)],
+        Some((2, Cause::Cost)),
+    ),
+];
 
 #[test]
 fn during_a_notice(rt: HostRuntime) -> Result<(), Fail> {
-    let pending = Some((2, Cause::Pending));
-    let faulty = [
-        Instr::Edit(drop_sub(9)),
-        commit_in(1),
-        Instr::CommitAt(9999),
-    ];
-    for instr in faulty {
-        let instrs = [Instr::Edit(rate_sub(1, 64)), commit_in(24), instr];
-        let found = plain_verdict(rt.alloc(), &programme(128), 3, &instrs)?;
-        assert_eq!(rt; found, pending);
-        // no allowance is left for it
-        let found = plain_verdict(rt.alloc(), &programme(128), 2, &instrs)?;
-        assert_eq!(rt; found, Some((2, Cause::Cost)));
-    }
-    Ok(())
+    judge_plain(&rt, rt.alloc(), PROGRAMME, &FAULTY)
 }
+
+const SEVERAL: [Row; 3] = [
+    (
+        &[Mark::At(0, 1), Mark::At(9, 1)],
+        &[Step::Wait(1), Step::Join, Step::Jump(9), Step::Loop(0, 0)],
+        Some((1, Cause::JoinIdle)),
+    ),
+    // a label past the last instruction comes after all of them
+    (
+        &[Mark::At(0, 1), Mark::At(9, 1)],
+        &[Step::Wait(1), Step::Jump(9), Step::End],
+        Some((2, Cause::Table)),
+    ),
+    (
+        &[Mark::At(0, 1), Mark::At(9, 1)],
+        &[Step::Wait(1), Step::Jump(9)],
+        Some((9, Cause::Table)),
+    ),
+];
 
 #[test]
 fn the_first_instruction_of_several(rt: HostRuntime) -> Result<(), Fail> {
-    let instrs = [wait(1), Instr::Join, Instr::Jump(9), repeat(0, 0)];
-    let labels = [label(0, 1), label(9, 1)];
-    let found = verdict(rt.alloc(), PLAN, &[&[]], &labels, &instrs)?;
-    assert_eq!(rt; found, Some((1, Cause::JoinIdle)));
-    // a label past the last instruction comes after all of them
-    let instrs = [wait(1), Instr::Jump(9), Instr::End];
-    let found = verdict(rt.alloc(), PLAN, &[&[]], &labels, &instrs)?;
-    assert_eq!(rt; found, Some((2, Cause::Table)));
-    let instrs = [wait(1), Instr::Jump(9)];
-    let found = verdict(rt.alloc(), PLAN, &[&[]], &labels, &instrs)?;
-    assert_eq!(rt; found, Some((9, Cause::Table)));
-    Ok(())
+    judge(&rt, rt.alloc(), PLAN, &[&[]], &SEVERAL)
 }

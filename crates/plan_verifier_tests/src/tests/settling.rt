@@ -1,181 +1,252 @@
 //! Settling, and waiting for contacts and hours during a notice.
 
-use super::parts::{commit_in, rate_sub, test, until, wait, wait_contact};
-use super::verdicts::{PLAN, Verdict, label, plain_verdict, programme, verdict};
-use plan_code::{Counters, Instr, Label, Swap};
+use super::parts::{CLOSED, Change, LOWERED, Mark, PROGRAMME, RATE_64, RATE_96, Step};
+use super::verdicts::{PLAN, Plain, Row, judge, judge_plain};
+use plan_code::Swap;
 use plan_verifier::Cause;
-use std::alloc::Global;
 use std::test::Fail;
 
+const COMMIT: Step = Step::CommitIn(24);
+
 /// A programme is lowered and, after a contact, and what stands here, raised again.
-fn raised_after(alloc: Global, between: Instr) -> Result<Verdict, Fail> {
-    let instrs = [
-        Instr::Edit(rate_sub(1, 64)),
-        commit_in(24),
-        wait_contact(3, true),
-        between,
-        Instr::Edit(rate_sub(1, 96)),
-        commit_in(24),
-        Instr::Settle,
-        Instr::End,
-    ];
-    plain_verdict(alloc, &programme(128), 3, &instrs)
-}
+const RAISED_AFTER: [Plain; 5] = [
+    (
+        3,
+        &[
+            RATE_64,
+            COMMIT,
+            CLOSED,
+            Step::Settle,
+            RATE_96,
+            COMMIT,
+            Step::Settle,
+            Step::End,
+        ],
+        None,
+    ),
+    (
+        3,
+        &[
+            RATE_64,
+            COMMIT,
+            CLOSED,
+            Step::Join,
+            RATE_96,
+            COMMIT,
+            Step::Settle,
+            Step::End,
+        ],
+        Some((3, Cause::JoinIdle)),
+    ),
+    (
+        3,
+        &[
+            RATE_64,
+            COMMIT,
+            CLOSED,
+            Step::Wait(26),
+            RATE_96,
+            COMMIT,
+            Step::Settle,
+            Step::End,
+        ],
+        None,
+    ),
+    (
+        3,
+        &[
+            RATE_64,
+            COMMIT,
+            CLOSED,
+            Step::Wait(25),
+            RATE_96,
+            COMMIT,
+            Step::Settle,
+            Step::End,
+        ],
+        Some((4, Cause::Pending)),
+    ),
+    // without anything between
+    (
+        3,
+        &[
+            RATE_64,
+            COMMIT,
+            CLOSED,
+            RATE_96,
+            COMMIT,
+            Step::Settle,
+            Step::End,
+        ],
+        Some((3, Cause::Pending)),
+    ),
+];
+
+const COMMITTED_AGAIN: [Plain; 2] = [
+    (
+        3,
+        &[
+            RATE_64,
+            COMMIT,
+            CLOSED,
+            COMMIT,
+            RATE_96,
+            COMMIT,
+            Step::Settle,
+            Step::End,
+        ],
+        Some((3, Cause::Pending)),
+    ),
+    (
+        3,
+        &[
+            RATE_64,
+            COMMIT,
+            CLOSED,
+            Step::CommitAt(0),
+            RATE_96,
+            COMMIT,
+            Step::Settle,
+            Step::End,
+        ],
+        Some((3, Cause::Pending)),
+    ),
+];
+
+const ALONE: [Plain; 6] = [
+    (2, &[Step::Settle, Step::End], None),
+    (1, &[Step::Settle, Step::End], Some((1, Cause::Cost))),
+    // a round of which nothing suspends
+    (1, &[Step::Settle, Step::Jump(0)], Some((1, Cause::Cost))),
+    (2, &[Step::Settle, Step::Jump(0)], Some((1, Cause::Cost))),
+    (3, &[Step::Settle, Step::Jump(0)], Some((1, Cause::Cost))),
+    (20, &[Step::Settle, Step::Jump(0)], Some((1, Cause::Cost))),
+];
 
 #[test]
 fn a_contact_during_a_notice(rt: HostRuntime) -> Result<(), Fail> {
-    let alloc = rt.alloc();
-    assert_eq!(rt; raised_after(alloc, Instr::Settle)?, None);
-    assert_eq!(rt;
-        raised_after(alloc, Instr::Join)?,
-        Some((3, Cause::JoinIdle))
-    );
-    assert_eq!(rt; raised_after(alloc, wait(26))?, None);
-    assert_eq!(rt; raised_after(alloc, wait(25))?, Some((4, Cause::Pending)));
-    // without anything between
-    let instrs = [
-        Instr::Edit(rate_sub(1, 64)),
-        commit_in(24),
-        wait_contact(3, true),
-        Instr::Edit(rate_sub(1, 96)),
-        commit_in(24),
-        Instr::Settle,
-        Instr::End,
-    ];
-    let found = plain_verdict(alloc, &programme(128), 3, &instrs)?;
-    assert_eq!(rt; found, Some((3, Cause::Pending)));
-    Ok(())
+    judge_plain(&rt, rt.alloc(), PROGRAMME, &RAISED_AFTER)
 }
 
 #[test]
 fn a_commit_where_a_swap_is_perhaps_pending(rt: HostRuntime) -> Result<(), Fail> {
-    let pending = Some((3, Cause::Pending));
-    assert_eq!(rt; raised_after(rt.alloc(), commit_in(24))?, pending);
-    assert_eq!(rt; raised_after(rt.alloc(), Instr::CommitAt(0))?, pending);
-    Ok(())
+    judge_plain(&rt, rt.alloc(), PROGRAMME, &COMMITTED_AGAIN)
 }
 
 #[test]
 fn settling_alone(rt: HostRuntime) -> Result<(), Fail> {
-    let instrs = [Instr::Settle, Instr::End];
-    assert_eq!(rt; plain_verdict(rt.alloc(), &[], 2, &instrs)?, None);
-    assert_eq!(rt;
-        plain_verdict(rt.alloc(), &[], 1, &instrs)?,
-        Some((1, Cause::Cost))
-    );
-    // a round of which nothing suspends
-    let instrs = [Instr::Settle, Instr::Jump(0)];
-    let cost = Some((1, Cause::Cost));
-    for given in [1, 2, 3, 20] {
-        assert_eq!(rt; plain_verdict(rt.alloc(), &[], given, &instrs)?, cost);
-    }
-    Ok(())
+    judge_plain(&rt, rt.alloc(), &[], &ALONE)
 }
 
-/// A label in the two configurations of a programme that is lowered.
-fn lowering(pc: u16, pending: Swap, cost: u8) -> Label {
-    Label {
-        pc,
-        cur: 0,
-        next: 1,
-        pending,
-        counters: Counters(0),
-        cost,
-    }
-}
+/// The two configurations of a programme that is lowered.
+const LOWERING: [&[Change]; 2] = [PROGRAMME, LOWERED];
 
-/// What the verifier says of a code that lowers a programme, with one label more than the first.
-fn lowered(alloc: Global, second: Label, instrs: &[Instr]) -> Result<Verdict, Fail> {
-    let labels = [label(0, 3), second];
-    verdict(
-        alloc,
-        PLAN,
-        &[&programme(128), &programme(64)],
-        &labels,
-        instrs,
-    )
-}
+const TO_A_LOOP: &[Step] = &[RATE_64, COMMIT, CLOSED, Step::Jump(2)];
+
+const HEADS: [Row; 4] = [
+    (
+        &[
+            Mark::At(0, 3),
+            Mark::Full(2, 0, 1, Swap::Within(24, 27), 0, 1),
+        ],
+        TO_A_LOOP,
+        Some((3, Cause::Mismatch)),
+    ),
+    (
+        &[
+            Mark::At(0, 3),
+            Mark::Full(2, 0, 1, Swap::Within(1, 27), 0, 1),
+        ],
+        TO_A_LOOP,
+        Some((3, Cause::Mismatch)),
+    ),
+    (
+        &[Mark::At(0, 3), Mark::Full(2, 0, 1, Swap::Perhaps(27), 0, 1)],
+        TO_A_LOOP,
+        None,
+    ),
+    (
+        &[Mark::At(0, 3), Mark::Full(2, 0, 1, Swap::Perhaps(26), 0, 1)],
+        TO_A_LOOP,
+        Some((2, Cause::Mismatch)),
+    ),
+];
 
 #[test]
 fn the_head_of_a_loop(rt: HostRuntime) -> Result<(), Fail> {
-    let instrs = [
-        Instr::Edit(rate_sub(1, 64)),
-        commit_in(24),
-        wait_contact(3, true),
-        Instr::Jump(2),
-    ];
-    let alloc = rt.alloc();
-    let mismatch = Some((3, Cause::Mismatch));
-    let within = lowering(2, Swap::Within(24, 27), 1);
-    assert_eq!(rt; lowered(alloc, within, &instrs)?, mismatch);
-    let wide = lowering(2, Swap::Within(1, 27), 1);
-    assert_eq!(rt; lowered(alloc, wide, &instrs)?, mismatch);
-    let perhaps = lowering(2, Swap::Perhaps(27), 1);
-    assert_eq!(rt; lowered(alloc, perhaps, &instrs)?, None);
-    let soon = lowering(2, Swap::Perhaps(26), 1);
-    assert_eq!(rt; lowered(alloc, soon, &instrs)?, Some((2, Cause::Mismatch)));
-    Ok(())
+    judge(&rt, rt.alloc(), PLAN, &LOWERING, &HEADS)
 }
+
+const TO_A_BRANCH: &[Step] = &[
+    RATE_64,
+    COMMIT,
+    Step::Until(3_300_000),
+    Step::Test(1, 5),
+    Step::Wait(1),
+    Step::Settle,
+    Step::End,
+];
+
+const BRANCHES: [Row; 4] = [
+    (
+        &[Mark::At(0, 3), Mark::Full(5, 0, 1, Swap::Perhaps(26), 0, 2)],
+        TO_A_BRANCH,
+        None,
+    ),
+    (
+        &[Mark::At(0, 3), Mark::Full(5, 0, 1, Swap::Perhaps(25), 0, 2)],
+        TO_A_BRANCH,
+        Some((3, Cause::Mismatch)),
+    ),
+    (
+        &[Mark::At(0, 3), Mark::Full(5, 0, 1, Swap::Perhaps(26), 0, 1)],
+        TO_A_BRANCH,
+        Some((6, Cause::Cost)),
+    ),
+    (
+        &[Mark::At(0, 3), Mark::Full(5, 1, 1, Swap::Idle, 0, 2)],
+        TO_A_BRANCH,
+        Some((3, Cause::Mismatch)),
+    ),
+];
 
 #[test]
 fn an_hour_and_a_branch(rt: HostRuntime) -> Result<(), Fail> {
-    let instrs = [
-        Instr::Edit(rate_sub(1, 64)),
-        commit_in(24),
-        until(3_300_000),
-        test(1, 5),
-        wait(1),
-        Instr::Settle,
-        Instr::End,
-    ];
-    let alloc = rt.alloc();
-    let perhaps = lowering(5, Swap::Perhaps(26), 2);
-    assert_eq!(rt; lowered(alloc, perhaps, &instrs)?, None);
-    let soon = lowering(5, Swap::Perhaps(25), 2);
-    assert_eq!(rt; lowered(alloc, soon, &instrs)?, Some((3, Cause::Mismatch)));
-    let cheap = lowering(5, Swap::Perhaps(26), 1);
-    assert_eq!(rt; lowered(alloc, cheap, &instrs)?, Some((6, Cause::Cost)));
-    let swapped = Label {
-        cur: 1,
-        pending: Swap::Idle,
-        ..perhaps
-    };
-    assert_eq!(rt;
-        lowered(alloc, swapped, &instrs)?,
-        Some((3, Cause::Mismatch))
-    );
-    Ok(())
+    judge(&rt, rt.alloc(), PLAN, &LOWERING, &BRANCHES)
 }
+
+const ON_ONE_WAY: [Row; 2] = [
+    (
+        &[Mark::At(0, 3), Mark::Full(5, 0, 1, Swap::Perhaps(26), 0, 2)],
+        &[
+            RATE_64,
+            COMMIT,
+            CLOSED,
+            Step::Test(1, 5),
+            Step::Settle,
+            Step::Settle,
+            Step::End,
+        ],
+        None,
+    ),
+    // another edit on that way: the next configuration is not the label's
+    (
+        &[Mark::At(0, 3), Mark::Full(6, 0, 1, Swap::Perhaps(26), 0, 2)],
+        &[
+            RATE_64,
+            COMMIT,
+            CLOSED,
+            Step::Test(1, 6),
+            Step::Settle,
+            RATE_96,
+            Step::Settle,
+            Step::End,
+        ],
+        Some((6, Cause::Mismatch)),
+    ),
+];
 
 #[test]
 fn a_swap_that_was_made_on_one_way(rt: HostRuntime) -> Result<(), Fail> {
-    let instrs = [
-        Instr::Edit(rate_sub(1, 64)),
-        commit_in(24),
-        wait_contact(3, true),
-        test(1, 5),
-        Instr::Settle,
-        Instr::Settle,
-        Instr::End,
-    ];
-    let alloc = rt.alloc();
-    let perhaps = lowering(5, Swap::Perhaps(26), 2);
-    assert_eq!(rt; lowered(alloc, perhaps, &instrs)?, None);
-    // another edit on that way: the next configuration is not the label's
-    let edited = [
-        Instr::Edit(rate_sub(1, 64)),
-        commit_in(24),
-        wait_contact(3, true),
-        test(1, 6),
-        Instr::Settle,
-        Instr::Edit(rate_sub(1, 96)),
-        Instr::Settle,
-        Instr::End,
-    ];
-    let perhaps = lowering(6, Swap::Perhaps(26), 2);
-    assert_eq!(rt;
-        lowered(alloc, perhaps, &edited)?,
-        Some((6, Cause::Mismatch))
-    );
-    Ok(())
+    judge(&rt, rt.alloc(), PLAN, &LOWERING, &ON_ONE_WAY)
 }
