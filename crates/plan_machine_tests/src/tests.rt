@@ -4,5 +4,6 @@
 mod control;
 mod driver;
 mod fixtures;
+mod seen;
 mod swaps;
 mod waits;

@@ -6,6 +6,7 @@ mod listening;
 mod modes;
 mod pages;
 mod parts;
+mod seen;
 mod settling;
 mod sinks;
 mod starts;

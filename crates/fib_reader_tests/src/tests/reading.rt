@@ -177,7 +177,7 @@ fn sub_under(header: u8, second: u8) -> [u8; 7] {
     [header, second, 0x04, 0x00, 0x88, 0x60, 0xFF]
 }
 
-/// The FIG that follows so many others.
+/// The FIG that follows this many others.
 fn fig_after(fib: &[u8; 32], others: u32) -> Option<Fig<'_>> {
     let mut left = others;
     for fig in check(fib).ok()? {

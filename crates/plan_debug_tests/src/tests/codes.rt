@@ -3,7 +3,7 @@
 use super::parts::{SERVICE, add_audio, add_sub, commit_in, rate_sub, wait_contact};
 use mux_config::{Config, Edit, Store};
 use plan_code::{Code, Contacts, Counters, Instr, Label, Line, Mode, Plan, Swap};
-use plan_debug::Debugger;
+use plan_debug::{Announcement, Command, Debugger, Report};
 use plan_player::{Player, Start};
 use plan_verifier::{Verified, verify};
 use std::alloc::Global;
@@ -18,33 +18,33 @@ pub const PLAN: Plan = Plan {
     budget: 20,
 };
 
-/// The configuration that edits make of nothing.
-fn config_of(edits: &[Edit]) -> Result<Config, Fail> {
+/// The label of the first instruction.
+const LABEL: Label = Label {
+    pc: 0,
+    cur: 0,
+    next: 0,
+    pending: Swap::Idle,
+    counters: Counters(0),
+    cost: 3,
+};
+
+/// Makes an edit.
+fn apply(config: &mut Config, edit: Edit) -> Result<(), Fail> {
+    edit.apply(config)?;
+    Ok(())
+}
+
+/// The configuration of a programme of 128 kbit/s.
+fn programme() -> Result<Config, Fail> {
     let mut config = Config::empty();
-    for edit in edits {
-        edit.apply(&mut config)?;
-    }
+    apply(&mut config, add_sub(1, 0, 3, 128))?;
+    apply(&mut config, Edit::AddService(SERVICE))?;
+    apply(&mut config, add_audio(SERVICE, 1))?;
     Ok(config)
 }
 
-/// The typed code of these instructions, each in the line given with it, from a programme of 128 kbit/s on.
-fn typed(alloc: Global, instrs: &[(u16, Instr)]) -> Result<Verified, Fail> {
-    let programme = [
-        add_sub(1, 0, 3, 128),
-        Edit::AddService(SERVICE),
-        add_audio(SERVICE, 1),
-    ];
-    let mut configs = Vec::new(alloc);
-    configs.push(config_of(&programme)?)?;
-    let mut table = Vec::new(alloc);
-    table.push(Label {
-        pc: 0,
-        cur: 0,
-        next: 0,
-        pending: Swap::Idle,
-        counters: Counters(0),
-        cost: 3,
-    })?;
+/// These instructions, each in the line given with it.
+fn lines_of(alloc: Global, instrs: &[(u16, Instr)]) -> Result<Vec<Line>, Fail> {
     let mut lines = Vec::new(alloc);
     for (number, instr) in instrs {
         lines.push(Line {
@@ -52,9 +52,35 @@ fn typed(alloc: Global, instrs: &[(u16, Instr)]) -> Result<Verified, Fail> {
             instr: *instr,
         })?;
     }
-    let code = Code::new(PLAN, configs, table, lines).ok_or("a code")?;
-    let verified = verify::<Config>(code).ok().ok_or("a typed code")?;
-    Ok(verified)
+    Ok(lines)
+}
+
+/// The table of that configuration alone.
+fn configs(alloc: Global) -> Result<Vec<Config>, Fail> {
+    let mut configs = Vec::new(alloc);
+    configs.push(programme()?)?;
+    Ok(configs)
+}
+
+/// The table of that label alone.
+fn labels(alloc: Global) -> Result<Vec<Label>, Fail> {
+    let mut labels = Vec::new(alloc);
+    labels.push(LABEL)?;
+    Ok(labels)
+}
+
+/// The code of these instructions, each in the line given with it, from a programme of 128 kbit/s on.
+fn code_of(alloc: Global, instrs: &[(u16, Instr)]) -> Result<Code, Fail> {
+    let configs = configs(alloc)?;
+    let labels = labels(alloc)?;
+    let lines = lines_of(alloc, instrs)?;
+    Ok(Code::new(PLAN, configs, labels, lines).ok_or("a code")?)
+}
+
+/// The typed code of these instructions, each in the line given with it, from a programme of 128 kbit/s on.
+fn typed(alloc: Global, instrs: &[(u16, Instr)]) -> Result<Verified, Fail> {
+    let code = code_of(alloc, instrs)?;
+    Ok(verify::<Config>(code).ok().ok_or("a typed code")?)
 }
 
 /// Lowers the rate of a programme as long as contact 3 is closed, in the lines 8 to 16 of a script.
@@ -87,15 +113,45 @@ pub fn to_and_fro(alloc: Global) -> Result<Verified, Fail> {
     typed(alloc, &instrs)
 }
 
-/// A debugger that starts at CIF count 0 with all contacts open.
-pub fn debugger(alloc: Global, code: &Verified) -> Result<Debugger<'_, Config>, Fail> {
+/// A player that starts at CIF count 0 with all contacts open.
+fn player(code: &Verified) -> Result<Player<'_, Config>, Fail> {
     let start = Start {
         eid: 0xE1C5,
         count: 0,
         day: 0,
         contacts: Contacts(0),
     };
-    let player: Player<Config> = Player::new(code, start)?;
-    let debugger = Debugger::new(alloc, player).ok().ok_or("memory")?;
-    Ok(debugger)
+    Ok(Player::new(code, start)?)
+}
+
+/// A debugger of that player.
+pub fn debugger(alloc: Global, code: &Verified) -> Result<Debugger<'_, Config>, Fail> {
+    let player = player(code)?;
+    Ok(Debugger::new(alloc, player).ok().ok_or("memory")?)
+}
+
+/// What a debugger reports of a command.
+pub fn ask(debugger: &mut Debugger<'_, Config>, command: Command) -> Report {
+    debugger.command(command)
+}
+
+/// Gives a debugger these commands, one after another: the report of the last one.
+pub fn lead(debugger: &mut Debugger<'_, Config>, commands: &[Command]) -> Option<Report> {
+    let mut last = None;
+    for command in commands {
+        last = Some(ask(debugger, *command));
+    }
+    last
+}
+
+/// What a debugger has noted at this place after these commands.
+pub fn noted_after(
+    alloc: Global,
+    code: &Verified,
+    commands: &[Command],
+    place: usize,
+) -> Result<Option<Announcement>, Fail> {
+    let mut debugger = debugger(alloc, code)?;
+    let _report = lead(&mut debugger, commands);
+    Ok(debugger.announcement(place))
 }

@@ -1,40 +1,58 @@
 //! More announcements than are kept.
 
-use super::codes::{debugger, to_and_fro};
-use plan_debug::{Announcement, Command};
+use super::codes::{noted_after, to_and_fro};
+use plan_debug::Command;
+use std::alloc::Global;
 use std::test::Fail;
 
-/// The count and the occurrence of an announcement.
-fn told(announcement: Option<Announcement>) -> Option<(u16, u8)> {
-    announcement.map(|a| (a.count, a.occurrence))
+/// The count and the occurrence of the announcement at this place after these commands.
+fn told_after(
+    alloc: Global,
+    commands: &[Command],
+    place: usize,
+) -> Result<Option<(u16, u8)>, Fail> {
+    let code = to_and_fro(alloc)?;
+    match noted_after(alloc, &code, commands, place)? {
+        Some(announcement) => Ok(Some((announcement.count, announcement.occurrence))),
+        None => Ok(None),
+    }
 }
 
 #[test]
 fn the_last_64_are_kept(rt: HostRuntime) -> Result<(), Fail> {
-    let code = to_and_fro(rt.alloc())?;
-    let mut debugger = debugger(rt.alloc(), &code)?;
-    let _sent = debugger.command(Command::Run(253));
-    assert_eq!(rt; told(debugger.announcement(0)), Some((0, 24)));
-    assert_eq!(rt; told(debugger.announcement(6)), Some((24, 48)));
-    assert_eq!(rt; told(debugger.announcement(63)), Some((252, 14)));
-    assert_eq!(rt; debugger.announcement(64), None);
-    let _five_more = debugger.command(Command::Run(20));
-    assert_eq!(rt; told(debugger.announcement(0)), Some((20, 24)));
-    let _the_70th = debugger.command(Command::Run(4));
-    assert_eq!(rt; told(debugger.announcement(0)), Some((24, 48)));
-    assert_eq!(rt; told(debugger.announcement(63)), Some((276, 38)));
-    assert_eq!(rt; debugger.announcement(64), None);
+    for (place, wanted) in [
+        (0, Some((0, 24))),
+        (6, Some((24, 48))),
+        (63, Some((252, 14))),
+        (64, None),
+    ] {
+        let told = told_after(rt.alloc(), &[Command::Run(253)], place)?;
+        assert_eq!(rt; told, wanted);
+    }
+    Ok(())
+}
+
+#[test]
+fn five_more_take_the_place_of_the_first_five(rt: HostRuntime) -> Result<(), Fail> {
+    let five_more = [Command::Run(253), Command::Run(20)];
+    assert_eq!(rt; told_after(rt.alloc(), &five_more, 0)?, Some((20, 24)));
+    Ok(())
+}
+
+#[test]
+fn the_70th_takes_the_place_of_the_6th(rt: HostRuntime) -> Result<(), Fail> {
+    let the_70th = [Command::Run(253), Command::Run(20), Command::Run(4)];
+    for (place, wanted) in [(0, Some((24, 48))), (63, Some((276, 38))), (64, None)] {
+        assert_eq!(rt; told_after(rt.alloc(), &the_70th, place)?, wanted);
+    }
     Ok(())
 }
 
 #[test]
 fn frames_that_show_nothing_note_nothing(rt: HostRuntime) -> Result<(), Fail> {
-    let code = to_and_fro(rt.alloc())?;
-    let mut debugger = debugger(rt.alloc(), &code)?;
-    let _four = debugger.command(Command::Run(4));
-    let _show = debugger.command(Command::Show);
-    let _break = debugger.command(Command::Break(5));
-    assert_eq!(rt; told(debugger.announcement(0)), Some((0, 24)));
-    assert_eq!(rt; debugger.announcement(1), None);
+    let commands = [Command::Run(4), Command::Show, Command::Break(5)];
+    for (place, wanted) in [(0, Some((0, 24))), (1, None)] {
+        assert_eq!(rt; told_after(rt.alloc(), &commands, place)?, wanted);
+    }
     Ok(())
 }

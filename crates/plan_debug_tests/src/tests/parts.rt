@@ -2,7 +2,7 @@
 
 use mux_config::{Component, Edit, NewSub, ScTy, Sid, StartAddress, SubId};
 use mux_eep::{EepSet, Protection};
-use plan_code::{ContactId, CounterId, DayFrame, Delay, Frames, Instr, Times};
+use plan_code::{ContactId, Delay, Instr};
 
 /// The service identifier C221.
 pub const SERVICE: Sid = Sid::Short(0xC221);
@@ -18,15 +18,6 @@ pub fn add_sub(id: u8, start: u16, level: u8, kbits: u16) -> Edit {
         Some(start) => Edit::AddSub(NewSub::from_parts(sub_id(id), start, protection, kbits)),
         None => drop_sub(id),
     }
-}
-
-/// Adds sub-channels of 4 CU, one beside the other.
-pub fn small_subs() -> [Edit; 64] {
-    let mut edits = [Edit::AddService(SERVICE); 64];
-    for id in 0u8..64 {
-        edits[usize::from(id)] = add_sub(id, u16::from(id) * 4, 4, 8);
-    }
-    edits
 }
 
 pub fn drop_sub(id: u8) -> Edit {
@@ -49,21 +40,6 @@ pub fn add_audio(sid: Sid, sub: u8) -> Edit {
     Edit::AddComponent { sid, component }
 }
 
-pub fn wait(frames: u16) -> Instr {
-    match Frames::new(frames) {
-        Some(frames) => Instr::Wait(frames),
-        None => Instr::End,
-    }
-}
-
-/// Waits for a frame of the day.
-pub fn until(frame: u32) -> Instr {
-    match DayFrame::new(frame) {
-        Some(frame) => Instr::Until(frame),
-        None => Instr::End,
-    }
-}
-
 /// Contact 3.
 pub fn third() -> ContactId {
     match ContactId::new(3) {
@@ -83,20 +59,6 @@ pub fn wait_contact(closed: bool) -> Instr {
 pub fn commit_in(delay: u16) -> Instr {
     match Delay::new(delay) {
         Some(delay) => Instr::CommitIn(delay),
-        None => Instr::End,
-    }
-}
-
-pub fn set(counter: u8, times: u16) -> Instr {
-    match (CounterId::new(counter), Times::new(times)) {
-        (Some(counter), Some(times)) => Instr::Set { counter, times },
-        (_, _) => Instr::End,
-    }
-}
-
-pub fn repeat(counter: u8, target: u16) -> Instr {
-    match CounterId::new(counter) {
-        Some(counter) => Instr::Loop { counter, target },
         None => Instr::End,
     }
 }

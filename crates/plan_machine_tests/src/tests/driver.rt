@@ -99,6 +99,20 @@ fn set<S: Store>(code: &Verified, machine: &mut Machine<S>, contact: ContactId, 
     machine.set_contact(contact, closed);
 }
 
+/// Whether instructions were carried out in a frame, a swap was made or a notice began.
+fn is_busy(shown: &Shown) -> bool {
+    shown.swapped || shown.begun || shown.steps > 0
+}
+
+/// The FIG 0/0 of a frame, as it is compared.
+fn header_of(sent: &Ensemble) -> Header {
+    Header {
+        count: sent.count(),
+        change: sent.change(),
+        occurrence: sent.occurrence(),
+    }
+}
+
 /// A typed code and a machine in a state that it comes to.
 #[derive(Drop)]
 pub struct Driver<'a, S: Store> {
@@ -139,11 +153,13 @@ impl<'a, S: Store> Driver<'a, S> {
         frame(self.code, &mut self.machine)
     }
 
-    /// As many frames as there are places: the steps of each.
-    pub fn steps(&mut self, steps: &mut [u8]) {
-        for place in 0..steps.len() {
-            steps[place] = self.frame().0.steps;
+    /// As many frames as there are members: whether each has this many steps.
+    pub fn has_steps(&mut self, wanted: &[u8]) -> bool {
+        let mut same = true;
+        for steps in wanted {
+            same = self.frame().0.steps == *steps && same;
         }
+        same
     }
 
     /// As many frames: those in which instructions were carried out, a swap was made or a notice began.
@@ -151,7 +167,7 @@ impl<'a, S: Store> Driver<'a, S> {
         let mut busy = Vec::new(alloc);
         for _ in 0..count {
             let shown = self.frame().0;
-            if shown.swapped || shown.begun || shown.steps > 0 {
+            if is_busy(&shown) {
                 busy.push(shown)?;
             }
         }
@@ -163,11 +179,7 @@ impl<'a, S: Store> Driver<'a, S> {
         let mut headers = Vec::new(alloc);
         for _ in 0..count {
             if let Some(sent) = self.frame().1 {
-                headers.push(Header {
-                    count: sent.count(),
-                    change: sent.change(),
-                    occurrence: sent.occurrence(),
-                })?;
+                headers.push(header_of(&sent))?;
             }
         }
         Ok(headers)

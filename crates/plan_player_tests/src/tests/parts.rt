@@ -11,22 +11,27 @@ fn sub_id(id: u8) -> SubId {
     SubId::new(id).unwrap_or_default()
 }
 
+/// Equal error protection of a level in set A.
+fn protection(level: u8) -> Protection {
+    Protection::new(EepSet::A, level).unwrap_or_default()
+}
+
 /// Adds a sub-channel of equal error protection in set A.
 pub fn add_sub(id: u8, start: u16, level: u8, kbits: u16) -> Edit {
-    let protection = Protection::new(EepSet::A, level).unwrap_or_default();
     match StartAddress::new(start) {
-        Some(start) => Edit::AddSub(NewSub::from_parts(sub_id(id), start, protection, kbits)),
+        Some(start) => Edit::AddSub(NewSub::from_parts(
+            sub_id(id),
+            start,
+            protection(level),
+            kbits,
+        )),
         None => drop_sub(id),
     }
 }
 
-/// Adds sub-channels of 4 CU, one beside the other.
-pub fn small_subs() -> [Edit; 64] {
-    let mut edits = [Edit::AddService(SERVICE); 64];
-    for id in 0u8..64 {
-        edits[usize::from(id)] = add_sub(id, u16::from(id) * 4, 4, 8);
-    }
-    edits
+/// Adds the sub-channel of this identifier among sub-channels of 4 CU that stand one beside the other.
+pub fn small_sub(id: u8) -> Edit {
+    add_sub(id, u16::from(id) * 4, 4, 8)
 }
 
 pub fn drop_sub(id: u8) -> Edit {
@@ -40,13 +45,23 @@ pub fn rate_sub(id: u8, kbits: u16) -> Instr {
     })
 }
 
+/// Adds a service.
+pub fn add_service(sid: Sid) -> Edit {
+    Edit::AddService(sid)
+}
+
 /// Adds audio of type 63 in a sub-channel to a service.
 pub fn add_audio(sid: Sid, sub: u8) -> Edit {
     let component = Component::Sound {
-        ty: ScTy::new(63).unwrap_or_default(),
+        ty: sound(),
         sub: sub_id(sub),
     };
     Edit::AddComponent { sid, component }
+}
+
+/// The audio type 63.
+fn sound() -> ScTy {
+    ScTy::new(63).unwrap_or_default()
 }
 
 pub fn wait(frames: u16) -> Instr {

@@ -1,84 +1,95 @@
 //! Scripts at the limits of codes and of carousels.
 
-use super::fixtures::{HEAD, PROGRAMME, code_of, is_accepted, refusal_of};
+use super::fixtures::{HEAD, PROGRAMME, answers};
+use super::seen::sizes_of;
 use std::alloc::Global;
 use std::test::Fail;
 
+/// Appends these lines this many times.
+fn append(text: &mut String, lines: &str, times: u16) -> Result<(), Fail> {
+    for _time in 0..times {
+        text.push_str(lines)?;
+    }
+    Ok(())
+}
+
 /// This many repeats, one inside another.
-fn nested(alloc: Global, depth: u8) -> Result<String, Fail> {
+fn nested(alloc: Global, depth: u16) -> Result<String, Fail> {
     let mut text = String::from_str(alloc, "begin\n")?;
-    for _repeat in 0..depth {
-        text.push_str("repeat 2 {\n")?;
-    }
-    text.push_str("wait 1\n")?;
-    for _repeat in 0..depth {
-        text.push_str("}\n")?;
-    }
+    append(&mut text, "repeat 2 {\n", depth)?;
+    append(&mut text, "wait 1\n", 1)?;
+    append(&mut text, "}\n", depth)?;
     Ok(text)
 }
 
 #[test]
 fn nested_repeats(rt: HostRuntime) -> Result<(), Fail> {
-    assert!(rt; is_accepted(rt.alloc(), HEAD, nested(rt.alloc(), 8)?.as_str())?);
-    let line = refusal_of(rt.alloc(), HEAD, nested(rt.alloc(), 9)?.as_str())?;
-    assert!(rt; line.as_str() == "refused: Limit");
+    for (depth, line) in [(8, ""), (9, "refused: Limit")] {
+        let body = nested(rt.alloc(), depth)?;
+        assert!(rt; answers(rt.alloc(), HEAD, body.as_str(), line)?);
+    }
     Ok(())
+}
+
+/// Appends a block that applies the one before it twice.
+fn append_block(alloc: Global, text: &mut String, number: u8) -> Result<(), Fail> {
+    let before = number.saturating_sub(1);
+    let block = format!(in alloc; "define b{number} {{\napply b{before}\napply b{before}\n}}\n")?;
+    text.push_str(block.as_str())?;
+    Ok(())
+}
+
+/// An empty block, and 63 that each apply the one before it twice; the last one is applied.
+fn doubled_blocks(alloc: Global) -> Result<String, Fail> {
+    let mut text = String::from_str(alloc, "define b0 {\n}\n")?;
+    for number in 1u8..64 {
+        append_block(alloc, &mut text, number)?;
+    }
+    text.push_str("begin\napply b63\n")?;
+    Ok(text)
 }
 
 #[test]
 fn a_block_without_an_instruction_is_not_walked_again(rt: HostRuntime) -> Result<(), Fail> {
-    let mut text = String::from_str(rt.alloc(), "define b0 {\n}\n")?;
-    for number in 1u8..64 {
-        let before = number - 1;
-        let block = format!(in rt.alloc();
-            "define b{number} {{\napply b{before}\napply b{before}\n}}\n"
-        )?;
-        text.push_str(block.as_str())?;
-    }
-    text.push_str("begin\napply b63\n")?;
-    let code = code_of(rt.alloc(), HEAD, text.as_str())??;
-    assert_eq!(rt; code.lines().len(), 1);
-    assert_eq!(rt; code.labels().len(), 1);
-    assert_eq!(rt; code.configs().len(), 1);
+    let text = doubled_blocks(rt.alloc())?;
+    assert_eq!(rt; sizes_of(rt.alloc(), HEAD, text.as_str())?, (1, 1, 1));
     Ok(())
 }
 
-/// This many waits, one after another.
-fn waits(alloc: Global, count: u16) -> Result<String, Fail> {
+/// A script of these lines this many times.
+fn many(alloc: Global, lines: &str, times: u16) -> Result<String, Fail> {
     let mut text = String::from_str(alloc, "begin\n")?;
-    for _wait in 0..count {
-        text.push_str("wait 1\n")?;
-    }
+    append(&mut text, lines, times)?;
     Ok(text)
+}
+
+/// How many configurations, labels and instructions these lines this many times are.
+fn sizes_of_many(alloc: Global, lines: &str, times: u16) -> Result<(usize, usize, usize), Fail> {
+    let text = many(alloc, lines, times)?;
+    sizes_of(alloc, HEAD, text.as_str())
+}
+
+/// Whether these lines this many times are past a limit.
+fn are_past_a_limit(alloc: Global, lines: &str, times: u16) -> Result<bool, Fail> {
+    let text = many(alloc, lines, times)?;
+    answers(alloc, HEAD, text.as_str(), "refused: Limit")
 }
 
 #[test]
 fn instructions(rt: HostRuntime) -> Result<(), Fail> {
-    let code = code_of(rt.alloc(), HEAD, waits(rt.alloc(), 4095)?.as_str())??;
-    assert_eq!(rt; code.lines().len(), 4096);
-    let line = refusal_of(rt.alloc(), HEAD, waits(rt.alloc(), 4096)?.as_str())?;
-    assert!(rt; line.as_str() == "refused: Limit");
+    let most = sizes_of_many(rt.alloc(), "wait 1\n", 4095)?;
+    assert_eq!(rt; most, (1, 1, 4096));
+    assert!(rt; are_past_a_limit(rt.alloc(), "wait 1\n", 4096)?);
     Ok(())
-}
-
-/// This many tests of a contact, at each of whose ends a label stands.
-fn tests_of_a_contact(alloc: Global, count: u16) -> Result<String, Fail> {
-    let mut text = String::from_str(alloc, "begin\n")?;
-    for _test in 0..count {
-        text.push_str("if contact 1 { }\nwait 1\n")?;
-    }
-    Ok(text)
 }
 
 #[test]
 fn labels(rt: HostRuntime) -> Result<(), Fail> {
-    let most = tests_of_a_contact(rt.alloc(), 1023)?;
-    let code = code_of(rt.alloc(), HEAD, most.as_str())??;
-    assert_eq!(rt; code.labels().len(), 1024);
-    assert_eq!(rt; code.lines().len(), 2047);
-    let more = tests_of_a_contact(rt.alloc(), 1024)?;
-    let line = refusal_of(rt.alloc(), HEAD, more.as_str())?;
-    assert!(rt; line.as_str() == "refused: Limit");
+    // at the end of each test of a contact a label stands
+    let test = "if contact 1 { }\nwait 1\n";
+    let most = sizes_of_many(rt.alloc(), test, 1023)?;
+    assert_eq!(rt; most, (1, 1024, 2047));
+    assert!(rt; are_past_a_limit(rt.alloc(), test, 1024)?);
     Ok(())
 }
 
@@ -87,22 +98,31 @@ fn moves(alloc: Global, count: u16) -> Result<String, Fail> {
     let mut text = String::new(alloc);
     for turn in 0u16..count {
         let place = turn.saturating_add(1);
-        let change = format!(in alloc; "move sub 1 at {place}\ncommit in 24\njoin\n")?;
+        let change = format!(in alloc;
+            "move sub 1 at {place}\ncommit in 24\njoin\nif contact 1 {{ }}\nwait 1\n"
+        )?;
         text.push_str(change.as_str())?;
-        text.push_str("if contact 1 { }\nwait 1\n")?;
     }
     Ok(text)
 }
 
+/// How many configurations and labels this many moves are.
+fn sizes_of_moves(alloc: Global, count: u16) -> Result<(usize, usize), Fail> {
+    let text = moves(alloc, count)?;
+    let (configs, labels, _lines) = sizes_of(alloc, PROGRAMME, text.as_str())?;
+    Ok((configs, labels))
+}
+
+/// Whether this many moves are past a limit.
+fn are_too_many_moves(alloc: Global, count: u16) -> Result<bool, Fail> {
+    let text = moves(alloc, count)?;
+    answers(alloc, PROGRAMME, text.as_str(), "refused: Limit")
+}
+
 #[test]
 fn configurations(rt: HostRuntime) -> Result<(), Fail> {
-    let most = moves(rt.alloc(), 255)?;
-    let code = code_of(rt.alloc(), PROGRAMME, most.as_str())??;
-    assert_eq!(rt; code.configs().len(), 256);
-    assert_eq!(rt; code.labels().len(), 256);
-    let more = moves(rt.alloc(), 256)?;
-    let line = refusal_of(rt.alloc(), PROGRAMME, more.as_str())?;
-    assert!(rt; line.as_str() == "refused: Limit");
+    assert_eq!(rt; sizes_of_moves(rt.alloc(), 255)?, (256, 256));
+    assert!(rt; are_too_many_moves(rt.alloc(), 256)?);
     Ok(())
 }
 
@@ -110,41 +130,34 @@ fn configurations(rt: HostRuntime) -> Result<(), Fail> {
 fn sub_channels(alloc: Global) -> Result<String, Fail> {
     let mut text = String::new(alloc);
     for id in 0u16..64 {
-        let start = 4 * id;
+        let start = id.saturating_mul(4);
         text.push_str(format!(in alloc; "sub {id} at {start} eep 4-A 8\n")?.as_str())?;
     }
     Ok(text)
 }
 
+/// The opening of an ensemble with the sub-channels 0 to 63.
+fn opening(alloc: Global, declared: &str) -> Result<String, Fail> {
+    let subs = sub_channels(alloc)?;
+    let items = subs.as_str();
+    Ok(format!(in alloc; "ensemble E1C5 {declared} budget 20\n{items}")?)
+}
+
 #[test]
 fn pages_within_the_period_and_the_notice(rt: HostRuntime) -> Result<(), Fail> {
-    let subs = sub_channels(rt.alloc())?;
-    let items = subs.as_str();
+    let idle = "begin\n";
+    let change = "begin\ndrop sub 0\ncommit in 24\n";
     for (declared, body, line) in [
-        ("period 4 notice 24", "", ""),
-        ("period 3 notice 24", "", "refused line 66: Round"),
-        ("mode 3 period 3 notice 24", "", ""),
-        ("mode 3 period 2 notice 24", "", "refused line 66: Round"),
-        ("period 7 notice 21", "drop sub 0\ncommit in 24\n", ""),
-        (
-            "period 6 notice 24",
-            "drop sub 0\ncommit in 24\n",
-            "refused line 68: Round",
-        ),
-        (
-            "period 7 notice 20",
-            "drop sub 0\ncommit in 24\n",
-            "refused line 68: Round",
-        ),
+        ("period 4 notice 24", idle, ""),
+        ("period 3 notice 24", idle, "refused line 66: Round"),
+        ("mode 3 period 3 notice 24", idle, ""),
+        ("mode 3 period 2 notice 24", idle, "refused line 66: Round"),
+        ("period 7 notice 21", change, ""),
+        ("period 6 notice 24", change, "refused line 68: Round"),
+        ("period 7 notice 20", change, "refused line 68: Round"),
     ] {
-        let head = format!(in rt.alloc(); "ensemble E1C5 {declared} budget 20\n{items}")?;
-        let rest = format!(in rt.alloc(); "begin\n{body}")?;
-        if line.is_empty() {
-            assert!(rt; is_accepted(rt.alloc(), head.as_str(), rest.as_str())?);
-        } else {
-            let given = refusal_of(rt.alloc(), head.as_str(), rest.as_str())?;
-            assert!(rt; given.as_str() == line);
-        }
+        let head = opening(rt.alloc(), declared)?;
+        assert!(rt; answers(rt.alloc(), head.as_str(), body, line)?);
     }
     Ok(())
 }
@@ -161,28 +174,39 @@ fn components(alloc: Global, sid: &str, count: u16) -> Result<String, Fail> {
 
 #[test]
 fn components_of_a_service(rt: HostRuntime) -> Result<(), Fail> {
-    let subs = sub_channels(rt.alloc())?;
-    let items = subs.as_str();
-    let head = format!(in rt.alloc(); "ensemble E1C5 period 60 notice 24 budget 20\n{items}")?;
-    for (sid, most) in [("C221", 12u16), ("E1C20001", 11u16)] {
-        let right = components(rt.alloc(), sid, most)?;
-        assert!(rt; is_accepted(rt.alloc(), head.as_str(), right.as_str())?);
-        let wrong = components(rt.alloc(), sid, most + 1)?;
-        let line = refusal_of(rt.alloc(), head.as_str(), wrong.as_str())?;
-        let wanted = format!(in rt.alloc(); "refused line {}: Edit TooManyComponents", 67 + most)?;
-        assert!(rt; line.as_str() == wanted.as_str());
+    let head = opening(rt.alloc(), "period 60 notice 24")?;
+    for (sid, count, line) in [
+        ("C221", 12, ""),
+        ("C221", 13, "refused line 79: Edit TooManyComponents"),
+        ("E1C20001", 11, ""),
+        ("E1C20001", 12, "refused line 78: Edit TooManyComponents"),
+    ] {
+        let body = components(rt.alloc(), sid, count)?;
+        assert!(rt; answers(rt.alloc(), head.as_str(), body.as_str(), line)?);
     }
     Ok(())
 }
 
-#[test]
-fn a_sixty_fifth_service(rt: HostRuntime) -> Result<(), Fail> {
-    let mut text = String::new(rt.alloc());
+/// A script of the services C210 to C274.
+fn services(alloc: Global) -> Result<String, Fail> {
+    let mut text = String::new(alloc);
     for number in 10u16..75 {
-        text.push_str(format!(in rt.alloc(); "service C2{number}\n")?.as_str())?;
+        text.push_str(format!(in alloc; "service C2{number}\n")?.as_str())?;
     }
     text.push_str("begin\n")?;
-    let line = refusal_of(rt.alloc(), HEAD, text.as_str())?;
-    assert!(rt; line.as_str() == "refused line 66: Edit TableFull");
+    Ok(text)
+}
+
+#[test]
+fn a_sixty_fifth_service(rt: HostRuntime) -> Result<(), Fail> {
+    let text = services(rt.alloc())?;
+    assert!(rt;
+        answers(
+            rt.alloc(),
+            HEAD,
+            text.as_str(),
+            "refused line 66: Edit TableFull"
+        )?
+    );
     Ok(())
 }

@@ -1,6 +1,8 @@
 //! The example scripts of docs/examples.
 
-use script_front::{parse, print};
+use super::fixtures::{is_printed, printed_of};
+use super::seen::{item_line, lines_of, sizes_of};
+use std::alloc::Global;
 use std::test::Fail;
 
 /// `regional_opt_out.plan` without its comment.
@@ -75,9 +77,7 @@ forever {
 #[test]
 fn examples_are_printed_as_they_are_written(rt: HostRuntime) -> Result<(), Fail> {
     for text in [REGIONAL, PART_TIME, NIGHT_RATE] {
-        let script = parse(rt.alloc(), text)?;
-        let printed = print(rt.alloc(), &script)?;
-        assert!(rt; printed.as_str() == text);
+        assert!(rt; is_printed(rt.alloc(), "", text, text)?);
     }
     Ok(())
 }
@@ -87,15 +87,17 @@ const CONTACT_RATE: &str = "ensemble E1C5\nperiod 4 notice 24 budget 20\nsub 1 a
 service C221\naudio 63 sub 1 in C221\nbegin\nforever {\nwait contact 3 closed\nrate sub 1 96
 commit in 24\njoin\nwait contact 3 open\nrate sub 1 128\ncommit in 24\njoin\n}\n";
 
+/// Whether what is printed of a text is printed as it stands.
+fn is_printed_again(alloc: Global, text: &str) -> Result<bool, Fail> {
+    let first = printed_of(alloc, "", text)?;
+    is_printed(alloc, "", first.as_str(), first.as_str())
+}
+
 #[test]
 fn lines_of_an_example(rt: HostRuntime) -> Result<(), Fail> {
-    let script = parse(rt.alloc(), CONTACT_RATE)?;
-    assert!(rt; script.items().len() == 3);
-    assert!(rt; script.items()[2].line == 5);
-    assert!(rt; script.begin_line() == 6);
-    assert!(rt; script.last_line() == 16);
-    let printed = print(rt.alloc(), &script)?;
-    let again = parse(rt.alloc(), printed.as_str())?;
-    assert!(rt; print(rt.alloc(), &again)?.as_str() == printed.as_str());
+    assert_eq!(rt; sizes_of(rt.alloc(), "", CONTACT_RATE)?, (3, 0, 1));
+    assert_eq!(rt; lines_of(rt.alloc(), "", CONTACT_RATE)?, (6, 16));
+    assert_eq!(rt; item_line(rt.alloc(), CONTACT_RATE, 2)?, Some(5));
+    assert!(rt; is_printed_again(rt.alloc(), CONTACT_RATE)?);
     Ok(())
 }

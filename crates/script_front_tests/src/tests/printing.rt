@@ -1,27 +1,20 @@
 //! Trees that are printed, and read again.
 
-use super::fixtures::{HEAD, headed, printed_after};
-use script_front::{parse, print};
+use super::fixtures::{HEAD, is_printed};
 use std::test::Fail;
 
 #[test]
 fn a_short_script(rt: HostRuntime) -> Result<(), Fail> {
-    let text = printed_after(rt.alloc(), "begin repeat 5{wait 1}")?;
-    assert!(rt;
-        text.as_str()
-            == "ensemble E1C5\nperiod 4 notice 24 budget 20\nbegin\nrepeat 5 {\n  wait 1\n}\n"
-    );
+    let wanted = "ensemble E1C5\nperiod 4 notice 24 budget 20\nbegin\nrepeat 5 {\n  wait 1\n}\n";
+    assert!(rt; is_printed(rt.alloc(), HEAD, "begin repeat 5{wait 1}", wanted)?);
     Ok(())
 }
 
 #[test]
 fn modes_are_printed(rt: HostRuntime) -> Result<(), Fail> {
-    let script = parse(
-        rt.alloc(),
-        "ensemble 00C5 mode 4 period 60 notice 248 budget 255 begin",
-    )?;
-    let text = print(rt.alloc(), &script)?;
-    assert!(rt; text.as_str() == "ensemble 00C5 mode 4\nperiod 60 notice 248 budget 255\nbegin\n");
+    let text = "ensemble 00C5 mode 4 period 60 notice 248 budget 255 begin";
+    let wanted = "ensemble 00C5 mode 4\nperiod 60 notice 248 budget 255\nbegin\n";
+    assert!(rt; is_printed(rt.alloc(), "", text, wanted)?);
     Ok(())
 }
 
@@ -83,25 +76,31 @@ end
 
 #[test]
 fn every_statement(rt: HostRuntime) -> Result<(), Fail> {
-    let script = parse(rt.alloc(), EVERY)?;
-    let text = print(rt.alloc(), &script)?;
-    assert!(rt; text.as_str() == EVERY);
+    assert!(rt; is_printed(rt.alloc(), "", EVERY, EVERY)?);
     Ok(())
 }
 
+/// What is printed of a script, however its blanks and comments stand.
+const PLAIN: &str = "ensemble E1C5
+period 4 notice 24 budget 20
+begin
+if contact 1 {
+  wait 1
+} else {
+  join
+}
+end
+";
+
 #[test]
 fn blanks_and_comments_do_not_matter(rt: HostRuntime) -> Result<(), Fail> {
-    let plain = printed_after(
-        rt.alloc(),
-        "begin if contact 1 { wait 1 } else { join } end",
-    )?;
     for rest in [
+        "begin if contact 1 { wait 1 } else { join } end",
         "begin  if  contact\t1{wait 1}else{join}end",
         "begin;if;contact;1;{;wait;1;};else;{;join;};end;",
         "begin # a\nif # b {\ncontact#c\n1{wait#}\r\n1}else{join}end#",
     ] {
-        let other = printed_after(rt.alloc(), rest)?;
-        assert!(rt; other.as_str() == plain.as_str());
+        assert!(rt; is_printed(rt.alloc(), HEAD, rest, PLAIN)?);
     }
     Ok(())
 }

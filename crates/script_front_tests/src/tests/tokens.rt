@@ -1,53 +1,81 @@
 //! Texts and their tokens.
 
-use super::fixtures::{at, headed};
-use script_front::{ScriptFault, Token, lex};
+use super::fixtures::{HEAD, is_shown, text_of};
+use script_front::{Token, lex};
+use std::alloc::Global;
 use std::test::Fail;
+
+/// How many tokens a text has.
+fn count_of(alloc: Global, text: &str) -> Result<usize, Fail> {
+    Ok(lex(alloc, text)?.len())
+}
+
+/// The start, the end, the line and the column of a token.
+fn place_of(token: &Token) -> (usize, usize, usize, usize) {
+    (
+        token.start,
+        token.end,
+        token.position.line,
+        token.position.column,
+    )
+}
+
+/// The start, the end, the line and the column of the token of this place.
+fn token_of(
+    alloc: Global,
+    text: &str,
+    place: usize,
+) -> Result<Option<(usize, usize, usize, usize)>, Fail> {
+    match lex(alloc, text)?.get(place) {
+        Some(token) => Ok(Some(place_of(token))),
+        None => Ok(None),
+    }
+}
+
+/// Whether a text has no tokens for a fault that is printed so.
+fn is_no_text(alloc: Global, text: &str, printed: &str) -> Result<bool, Fail> {
+    match lex(alloc, text) {
+        Ok(_tokens) => Ok(false),
+        Err(fault) => is_shown(alloc, fault, printed),
+    }
+}
 
 #[test]
 fn fifteen_tokens(rt: HostRuntime) -> Result<(), Fail> {
     let text = "ensemble E1C5 period 4 notice 24 budget 20 begin repeat 5{wait 1}";
-    let tokens = lex(rt.alloc(), text)?;
-    assert!(rt; tokens.len() == 15);
-    assert!(rt;
-        tokens[11]
-            == Token {
-                start: 57,
-                end: 58,
-                position: at(1, 58)
-            }
-    );
-    assert!(rt;
-        tokens[12]
-            == Token {
-                start: 58,
-                end: 62,
-                position: at(1, 59)
-            }
-    );
+    assert_eq!(rt; count_of(rt.alloc(), text)?, 15);
+    for (place, wanted) in [(11, (57, 58, 1, 58)), (12, (58, 62, 1, 59))] {
+        assert_eq!(rt; token_of(rt.alloc(), text, place)?, Some(wanted));
+    }
     Ok(())
 }
 
 #[test]
 fn blanks_and_comments_between_tokens(rt: HostRuntime) -> Result<(), Fail> {
-    let tokens = lex(rt.alloc(), "a;;b\t{\r\n# no {token}\n\n  c:d-e_F#")?;
-    assert!(rt; tokens.len() == 4);
-    assert!(rt; tokens[1].start == 3);
-    assert!(rt; tokens[2].position == at(1, 6));
-    assert!(rt; tokens[3].position == at(4, 3));
-    assert!(rt; tokens[3].end - tokens[3].start == 7);
+    let text = "a;;b\t{\r\n# no {token}\n\n  c:d-e_F#";
+    for (place, wanted) in [
+        (0, Some((0, 1, 1, 1))),
+        (1, Some((3, 4, 1, 4))),
+        (2, Some((5, 6, 1, 6))),
+        (3, Some((24, 31, 4, 3))),
+        (4, None),
+    ] {
+        assert_eq!(rt; token_of(rt.alloc(), text, place)?, wanted);
+    }
     Ok(())
 }
 
 #[test]
 fn wrong_bytes(rt: HostRuntime) -> Result<(), Fail> {
     for text in ["wait, 1", "wait. 1", "wait\u{e9}", "wait\u{0}"] {
-        match lex(rt.alloc(), text) {
-            Err(fault) => assert!(rt; fault == ScriptFault::Byte(at(1, 5))),
-            Ok(_tokens) => assert!(rt; false),
-        }
+        assert!(rt; is_no_text(rt.alloc(), text, "1:5: Byte")?);
     }
-    let text = headed(rt.alloc(), "begin # \u{e9}")?;
-    assert!(rt; lex(rt.alloc(), text.as_str())?.len() == 9);
+    Ok(())
+}
+
+#[test]
+fn any_bytes_in_a_comment(rt: HostRuntime) -> Result<(), Fail> {
+    let text = text_of(rt.alloc(), HEAD, "begin # \u{e9}")?;
+    assert_eq!(rt; count_of(rt.alloc(), text.as_str())?, 9);
     Ok(())
 }
