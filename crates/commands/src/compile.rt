@@ -1,13 +1,12 @@
 //! `dabplan compile`: a script compiled into a code file.
 
-ghost use Rattle.std.specs.Prelude.{◌≡◌, ◌++◌, IfOk, OnOk, length, codes};
-ghost use Rattle.std.specs.Fmt.{decimal};
+ghost use Rattle.std.specs.Prelude.{IfOk, OnOk};
 ghost use Rattle.std.specs.Io.KnownBytes.{Appends};
 ghost use Rattle.commands.specs.Compiled.{IsCompiled, counts_line};
 
 use crate::play::text_of;
 use command_line::CompileRequest;
-use console::exit::{Failure, Status};
+use console::exit::{Failure, Status, create_file, read_file};
 use console::files::Files;
 use console::output::write_out;
 use plan_code::encode;
@@ -77,9 +76,7 @@ pub fn show_compile<'a, F: Files, W: Write>(
     files: &mut F,
     out: &mut W,
 ) -> Result<Status, Failure<'a>> {
-    let bytes = files
-        .read(alloc, request.script)
-        .map_err(|fault| Failure::of_file(fault, request.script))?;
+    let bytes = read_file(alloc, files, request.script)?;
     let text = text_of(bytes.as_slice(), request.script)?;
     let compiled = match compile_text(alloc, text) {
         Ok(compiled) => compiled,
@@ -89,9 +86,7 @@ pub fn show_compile<'a, F: Files, W: Write>(
             return Ok(Status::Refused);
         }
     };
-    let mut file = files
-        .create(request.out)
-        .map_err(|fault| Failure::of_output(fault, request.out))?;
+    let mut file = create_file(files, request.out)?;
     let (_taken, written) = write_out(compiled.file.as_slice(), &mut file);
     if written.is_err() {
         return Err(Failure::Create(request.out));

@@ -1,18 +1,16 @@
 //! `dabplan debug`: a plan code led by the commands of a file.
 
-ghost use Rattle.std.specs.Prelude.{◌≡◌, ℕ, List, ◌++◌, OnOk, IfErr, codes};
+ghost use Rattle.std.specs.Prelude.{ℕ, List, OnOk, IfErr};
 ghost use Rattle.std.specs.List.{flat_map};
-ghost use Rattle.std.specs.Fmt.{decimal};
 ghost use Rattle.std.specs.Io.KnownBytes.{Appends};
 ghost use Rattle.plan_player.specs.Playing.{Playing};
 ghost use Rattle.plan_events.specs.declared.command.Command.{Command};
 ghost use Rattle.plan_playback.specs.Playback.{asked};
-ghost use Rattle.plan_debug.specs.Commands.{Debugging};
-ghost use Rattle.commands.specs.Transcript.{remaining_text, place_text, swap_text, break_line, report_lines, announcement_line, shown_lines, Transcript, IsSession, Prints, IsDebugFault, IsUnprinted};
+ghost use Rattle.commands.specs.Transcript.{place_text, swap_text, break_line, report_lines, announcement_line, shown_lines, Transcript, IsSession, Prints, IsDebugFault, IsUnprinted};
 
 use crate::play::text_of;
 use command_line::{DebugRequest, StartOptions};
-use console::exit::{Failure, Status};
+use console::exit::{Failure, Status, read_file};
 use console::files::Files;
 use mux_tables::Tables;
 use plan_code::CodeFault;
@@ -49,12 +47,8 @@ pub fn show_debug<'a, F: Files, W: Write>(
     files: &mut F,
     out: &mut W,
 ) -> Result<Status, Failure<'a>> {
-    let code = files
-        .read(alloc, request.code)
-        .map_err(|fault| Failure::of_file(fault, request.code))?;
-    let text = files
-        .read(alloc, request.commands)
-        .map_err(|fault| Failure::of_file(fault, request.commands))?;
+    let code = read_file(alloc, files, request.code)?;
+    let text = read_file(alloc, files, request.commands)?;
     let commands = text_of(text.as_slice(), request.commands)?;
     match debug(alloc, code.as_slice(), commands, request.start, out) {
         Ok(()) => Ok(Status::Done),

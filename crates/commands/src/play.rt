@@ -1,7 +1,7 @@
 //! `dabplan play`: a plan code played over events, its frames written to a file.
 
 use command_line::PlayRequest;
-use console::exit::{Failure, Status};
+use console::exit::{Failure, Status, create_file, read_file};
 use console::files::Files;
 use plan_code::CodeFault;
 use plan_events::EventFault;
@@ -21,16 +21,10 @@ pub fn show_play<'a, F: Files, W: Write>(
     files: &mut F,
     out: &mut W,
 ) -> Result<Status, Failure<'a>> {
-    let code = files
-        .read(alloc, request.code)
-        .map_err(|fault| Failure::of_file(fault, request.code))?;
-    let text = files
-        .read(alloc, request.events)
-        .map_err(|fault| Failure::of_file(fault, request.events))?;
+    let code = read_file(alloc, files, request.code)?;
+    let text = read_file(alloc, files, request.events)?;
     let events = text_of(text.as_slice(), request.events)?;
-    let file = files
-        .create(request.out)
-        .map_err(|fault| Failure::of_output(fault, request.out))?;
+    let file = create_file(files, request.out)?;
     let (ended, _file) = run_into(
         alloc,
         code.as_slice(),

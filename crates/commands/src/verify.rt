@@ -1,6 +1,6 @@
 //! `dabplan verify`: whether the plan code in a file is accepted.
 
-use console::exit::{Failure, Status};
+use console::exit::{Failure, Status, read_file};
 use console::files::Files;
 use plan_code::CodeFault;
 use plan_playback::{RunFault, typed_code};
@@ -14,9 +14,7 @@ pub fn show_verdict<'a, F: Files, W: Write>(
     files: &mut F,
     out: &mut W,
 ) -> Result<Status, Failure<'a>> {
-    let file = files
-        .read(alloc, path)
-        .map_err(|fault| Failure::of_file(fault, path))?;
+    let file = read_file(alloc, files, path)?;
     match typed_code(alloc, file.as_slice()) {
         Ok(_verified) => {
             writeln!(out, "accepted")?;

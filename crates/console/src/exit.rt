@@ -1,6 +1,7 @@
 //! How a command ends.
 
-use crate::files::FileFault;
+use crate::files::{FileFault, Files};
+use std::alloc::Global;
 use std::io;
 use thiserror::Error;
 
@@ -54,4 +55,22 @@ impl From<io::Error> for Failure<'_> {
     fn from(_error: io::Error) -> Self {
         Failure::Output
     }
+}
+
+/// All bytes of the file of this path, or why the command ends without them.
+pub fn read_file<'a, F: Files>(
+    alloc: Global,
+    files: &mut F,
+    path: &'a str,
+) -> Result<Vec<u8>, Failure<'a>> {
+    files
+        .read(alloc, path)
+        .map_err(|fault| Failure::of_file(fault, path))
+}
+
+/// The file of this path, empty, to be written, or why the command ends without it.
+pub fn create_file<'a, F: Files>(files: &mut F, path: &'a str) -> Result<F::Out, Failure<'a>> {
+    files
+        .create(path)
+        .map_err(|fault| Failure::of_output(fault, path))
 }

@@ -1,7 +1,7 @@
 //! Hexadecimal digits, upper case.
 
-ghost use Rattle.std.specs.Prelude.{◌≡◌, ◌<◌, ◌^◌, ℕ, List, length, IfSome, IfNone, slice_index};
-ghost use Rattle.console.specs.Digits.{digit_of, digits_of_word, digits_of_long, digits_of_bytes};
+ghost use Rattle.std.specs.Prelude.{◌≡◌, ◌<◌, ◌^◌, ℕ, IfSome, IfNone};
+ghost use Rattle.console.specs.Digits.{digit_of, digits_of_word, digits_of_bytes};
 
 use arrayvec::ArrayVec;
 

@@ -3,7 +3,8 @@ use Rattle.std.proofs.Common.{◌≡◌, ℕ, ◌+◌, ◌*◌, ◌≤◌, ◌==
 use Rattle.fib_codec.specs.declared.modes.Mode.{Mode}
 use Rattle.std.proofs.lemmas.List.{length-append, take_at, drop_at, drop_all, drop-drop}
 use Rattle.std.proofs.lemmas.List.Elements.{Contains-append_cases, Contains-append_left, Contains-append_right}
-use Rattle.mux_config.specs.Configuration.{Each, Configuration, IsConfiguration}
+use Rattle.mux_config.specs.Configuration.{Configuration, IsConfiguration}
+use Rattle.std.specs.List.{AllByRecursion}
 use Rattle.mux_entries.specs.Entries.{EnsembleInformation}
 use Rattle.mux_entries.specs.Facts.{Marked, marked}
 use Rattle.mux_entries.specs.declared.entry.Entry.TheVariants.{Ensemble as EnsembleOf}
@@ -31,7 +32,7 @@ use Rattle.fib_carousel.proofs.Sendable.{each_append, sendable_page_set}
 use Rattle.fib_carousel.proofs.Sent.{written_figs, fib_fits, fib_room}
 
 -- the FIGs of marked entries say just these entries
-joined_says : (m : Marked) (fs : List Written) → Each IsOurs fs → marked_of (joined m fs) ≡ m ∷ marked_of fs
+joined_says : (m : Marked) (fs : List Written) → AllByRecursion IsOurs fs → marked_of (joined m fs) ≡ m ∷ marked_of fs
 joined_says m [] ours = refl
 joined_says m (f ∷ fs) ours = by (same_head (head_of m) f.head) refl
   where
@@ -46,15 +47,15 @@ joined_says m (f ∷ fs) ours = by (same_head (head_of m) f.head) refl
         let whole : marked_of (written_of (head_of m) (m.entry ∷ []) ∷ f ∷ fs) ≡ m ∷ marked_of (f ∷ fs) = refl in
         rw e whole
 
-ours_joined : (m : Marked) (fs : List Written) → Each IsOurs fs → Each IsOurs (joined m fs)
+ours_joined : (m : Marked) (fs : List Written) → AllByRecursion IsOurs fs → AllByRecursion IsOurs (joined m fs)
 ours_joined m [] ours = (refl, tt)
 ours_joined m (f ∷ fs) ours = by (same_head (head_of m) f.head) refl
   where
-    by : (b : Bool) → same_head (head_of m) f.head ≡ b → Each IsOurs (joined m (f ∷ fs))
-    by true e = let all : Each IsOurs (written_of f.head (m.entry ∷ f.entries) ∷ fs) = (ours.0, ours.1) in rw e all
-    by false e = let all : Each IsOurs (written_of (head_of m) (m.entry ∷ []) ∷ f ∷ fs) = (refl, ours) in rw e all
+    by : (b : Bool) → same_head (head_of m) f.head ≡ b → AllByRecursion IsOurs (joined m (f ∷ fs))
+    by true e = let all : AllByRecursion IsOurs (written_of f.head (m.entry ∷ f.entries) ∷ fs) = (ours.0, ours.1) in rw e all
+    by false e = let all : AllByRecursion IsOurs (written_of (head_of m) (m.entry ∷ []) ∷ f ∷ fs) = (refl, ours) in rw e all
 
-ours_figs : (ms : List Marked) → Each IsOurs (figs_of ms)
+ours_figs : (ms : List Marked) → AllByRecursion IsOurs (figs_of ms)
 ours_figs [] = tt
 ours_figs (m ∷ ms) = ours_joined m (figs_of ms) (ours_figs ms)
 
@@ -73,11 +74,11 @@ sendable_where test (m ∷ ms) (n ∷ ns) h = by (test n) (sendable_where test m
     by false again = again
 
 -- FIG 0/0 where it is given
-ensemble_written : (o : Option EnsembleInformation) → IfSome o IsEnsembleInformation → Each IsWritten (ensemble_figs o)
+ensemble_written : (o : Option EnsembleInformation) → IfSome o IsEnsembleInformation → AllByRecursion IsWritten (ensemble_figs o)
 ensemble_written None h = tt
 ensemble_written (Some e) h = (record { formed = record { some = omega arith; under = (refl, tt); alone = λ z. refl }; within = (h, tt) }, tt)
 
-ensemble_ours : (o : Option EnsembleInformation) → Each IsOurs (ensemble_figs o)
+ensemble_ours : (o : Option EnsembleInformation) → AllByRecursion IsOurs (ensemble_figs o)
 ensemble_ours None = tt
 ensemble_ours (Some e) = (refl, tt)
 
@@ -95,8 +96,8 @@ ensemble_low (Some e) = occurrence_low e.occurrence
 
 -- the FIGs of a FIB of a page
 pub record Fits (figs : List Written) : Type 0 where
-  pub written : Each IsWritten figs
-  pub ours : Each IsOurs figs
+  pub written : AllByRecursion IsWritten figs
+  pub ours : AllByRecursion IsOurs figs
   pub short : length (figs_bytes figs) ≤ 30
 
 length-figs_bytes : (xs ys : List Written) → length (figs_bytes (xs ++ ys)) ≡ length (figs_bytes xs) + length (figs_bytes ys)
@@ -116,11 +117,11 @@ fits_in mode o n ms h first =
     }
 
 -- the FIBs of a page
-each_of : {A B : Type 0} (P : B → Type 0) (f : A → B) → ((x : A) → P (f x)) → (xs : List A) → Each P (map f xs)
+each_of : {A B : Type 0} (P : B → Type 0) (f : A → B) → ((x : A) → P (f x)) → (xs : List A) → AllByRecursion P (map f xs)
 each_of P f h [] = tt
 each_of P f h (x ∷ xs) = (h x, each_of P f h xs)
 
-pub page_fits : (mode : Mode) (o : Option EnsembleInformation) (k : ℕ) (ms : List Marked) → IsPageable o ms → Each Fits (page_figs mode o k ms)
+pub page_fits : (mode : Mode) (o : Option EnsembleInformation) (k : ℕ) (ms : List Marked) → IsPageable o ms → AllByRecursion Fits (page_figs mode o k ms)
 page_fits mode o k ms h =
     let plain : IsPageable None ms = record { entries = h.entries; ensemble_within = tt } in
     let first : Fits (ensemble_figs o ++ figs_of (fib_entries mode (first_fib mode k) ms)) = fits_in mode o (first_fib mode k) ms h (λ _. first_of_page mode k) in
@@ -133,7 +134,7 @@ length-fib_bytes figs f =
     ∙ omega (arith, length-filled (figs_bytes figs) f.short)
 
 -- FIBs one after another
-are_fibs : (all : List (List Written)) → Each Fits all → AreFibs all (flat_map fib_bytes all)
+are_fibs : (all : List (List Written)) → AllByRecursion Fits all → AreFibs all (flat_map fib_bytes all)
 are_fibs [] f = refl
 are_fibs (figs ∷ rest) f =
     let long = length-fib_bytes figs f.0 in (
@@ -141,7 +142,7 @@ are_fibs (figs ∷ rest) f =
       subst (λ (bytes : List ℕ). AreFibs rest bytes) (sym (drop_at (fib_bytes figs) (flat_map fib_bytes rest) 32 long)) (are_fibs rest f.1),
     )
 
-length-fibs : (all : List (List Written)) → Each Fits all → length (flat_map fib_bytes all) ≡ 32 * length all
+length-fibs : (all : List (List Written)) → AllByRecursion Fits all → length (flat_map fib_bytes all) ≡ 32 * length all
 length-fibs [] f = refl
 length-fibs (figs ∷ rest) f =
     length-append (fib_bytes figs) (flat_map fib_bytes rest)
@@ -193,7 +194,7 @@ fib_later figs rest place f =
 abbrev StandsIn : List ℕ → Marked → Type 0
 StandsIn bytes m = (place : ℕ) × IsInFib (fib_at bytes place) m
 
-row_heard : (all : List (List Written)) (m : Marked) → Each Fits all → (place : ℕ) → IsInFib (fib_at (flat_map fib_bytes all) place) m → Contains (flat_map marked_of all) m
+row_heard : (all : List (List Written)) (m : Marked) → AllByRecursion Fits all → (place : ℕ) → IsInFib (fib_at (flat_map fib_bytes all) place) m → Contains (flat_map marked_of all) m
 row_heard [] m f place h = absurd (nothing_said m (subst (λ (bytes : List ℕ). IsInFib bytes m) (ap (λ xs. take 32 xs) (drop_all (32 * place) [] (omega arith))) h))
 row_heard (figs ∷ rest) m f zero h =
     Contains-append_left (marked_of figs) (flat_map marked_of rest) m
@@ -202,7 +203,7 @@ row_heard (figs ∷ rest) m f (suc place) h =
     Contains-append_right (marked_of figs) (flat_map marked_of rest) m
     (row_heard rest m f.1 place (subst (λ (bytes : List ℕ). IsInFib bytes m) (fib_later figs (flat_map fib_bytes rest) place f.0) h))
 
-row_sent : (all : List (List Written)) (m : Marked) → Each Fits all → Contains (flat_map marked_of all) m → StandsIn (flat_map fib_bytes all) m
+row_sent : (all : List (List Written)) (m : Marked) → AllByRecursion Fits all → Contains (flat_map marked_of all) m → StandsIn (flat_map fib_bytes all) m
 row_sent [] m f h = absurd (omega (arith, h.1))
 row_sent (figs ∷ rest) m f h =
     elim (Contains-append_cases (marked_of figs) (flat_map marked_of rest) m h) [
@@ -246,7 +247,7 @@ of_page mode o k ms m h inside =
     row_sent (page_figs mode o k ms) m (page_fits mode o k ms h) (subst (λ (xs : List Marked). Contains xs m) (sym (page_says mode o k ms)) inside)
 
 -- entries of a page are of FIG 0/1 to 0/3, and ensemble information is not
-each_contains : {A : Type 0} (P : A → Type 0) (xs : List A) (x : A) → Each P xs → Contains xs x → P x
+each_contains : {A : Type 0} (P : A → Type 0) (xs : List A) (x : A) → AllByRecursion P xs → Contains xs x → P x
 each_contains P [] x h inside = absurd (omega (arith, inside.1))
 each_contains P (y ∷ xs) x h (zero, lt, is) = subst P is h.0
 each_contains P (y ∷ xs) x h (suc i, lt, is) = each_contains P xs x h.1 (i, omega (arith, lt), is)

@@ -7,7 +7,8 @@ use Rattle.fib_carousel.specs.Most.{most_alone, most_together}
 use Rattle.std.proofs.lemmas.Bool.{ne_eqb, cases_lt}
 use Rattle.std.proofs.Math.Nat.{mul-le-mul_left}
 use Rattle.std.proofs.lemmas.List.{length-map, map-append}
-use Rattle.mux_config.specs.Configuration.{Configuration, IsConfiguration, IsPlaced, IsService, IsAddressed, Each}
+use Rattle.mux_config.specs.Configuration.{Configuration, IsConfiguration, IsPlaced, IsService, IsAddressed}
+use Rattle.std.specs.List.{AllByRecursion}
 use Rattle.mux_entries.specs.Facts.{Marked, marked, facts_of, sub_entry, service_entry, packet_entry, sub_entries, service_entries}
 use Rattle.mux_entries.specs.declared.entry.Entry.{Entry}
 use Rattle.mux_types.specs.declared.parts.Sub.{Sub}
@@ -262,7 +263,7 @@ abbrev behind : (mode : Mode) → PackState → List Marked → PackState
 behind mode p [] = p
 behind mode p (m ∷ ms) = behind mode (placed mode m p) ms
 
-comes_all : (mode : Mode) (a b s f i : ℕ) (h : Head) (ms : List Marked) (q : PackState) → Holds mode a b s → Each (IsOfKind a b s h) ms → Comes mode a b s f i h q → Comes mode a b s f (i + length ms) h (behind mode q ms)
+comes_all : (mode : Mode) (a b s f i : ℕ) (h : Head) (ms : List Marked) (q : PackState) → Holds mode a b s → AllByRecursion (IsOfKind a b s h) ms → Comes mode a b s f i h q → Comes mode a b s f (i + length ms) h (behind mode q ms)
 comes_all mode a b s f i h [] q holds kinds comes = let same : i + 0 ≡ i = omega arith in subst (λ n. Comes mode a b s f n h q) (sym same) comes
 comes_all mode a b s f i h (m ∷ ms) q holds kinds comes =
     let same : i + suc (length ms) ≡ suc i + length ms = omega arith in
@@ -389,7 +390,7 @@ holds_by mode a b s first other n some_left =
     ]
 
 -- a phase of at most 64 entries of a kind
-phase : (mode : Mode) (a b s k : ℕ) (h : Head) (ms : List Marked) (p : PackState) → Holds mode a b s → Suffices mode a b k p.fib → Each (IsOfKind a b s h) ms → length ms ≤ 64 → (behind mode p ms).fib ≤ p.fib + k
+phase : (mode : Mode) (a b s k : ℕ) (h : Head) (ms : List Marked) (p : PackState) → Holds mode a b s → Suffices mode a b k p.fib → AllByRecursion (IsOfKind a b s h) ms → length ms ≤ 64 → (behind mode p ms).fib ≤ p.fib + k
 phase mode a b s k h ms p holds enough kinds few =
     comes_within mode a b s p.fib (0 + length ms) k h (behind mode p ms) (comes_all mode a b s p.fib 0 h ms p holds kinds (inl refl)) (omega (arith, few)) enough
 
@@ -407,7 +408,7 @@ length-marked next f xs = length-map (map f xs) (marked next) ∙ length-map xs 
 subs_phase : (mode : Mode) (c : Configuration) (next : Bool) (p : PackState) → IsConfiguration c → (behind mode p (map (marked next) (map sub_entry c.subs))).fib ≤ p.fib + subs_most mode
 subs_phase mode c next p h =
     let kind : (s : Sub) → IsPlaced s → IsOfKind 5 7 4 (head_ext next 1) (marked next (sub_entry s)) = λ s _. (omega arith, inl refl) in
-    let kinds : Each (IsOfKind 5 7 4 (head_ext next 1)) (map (marked next) (map sub_entry c.subs)) =
+    let kinds : AllByRecursion (IsOfKind 5 7 4 (head_ext next 1)) (map (marked next) (map sub_entry c.subs)) =
     each_map (marked next) (λ e. IsOfKind 5 7 4 (head_ext next 1) (marked next e)) (IsOfKind 5 7 4 (head_ext next 1)) (map sub_entry c.subs) (λ e k. k)
     (each_map sub_entry IsPlaced (λ e. IsOfKind 5 7 4 (head_ext next 1) (marked next e)) c.subs kind h.subs_placed) in
     phase mode 5 7 4 (subs_most mode) (head_ext next 1) (map (marked next) (map sub_entry c.subs)) p (holds_by mode 5 7 4 (inl (omega arith)) (omega arith)) (subs_enough mode p.fib) kinds
@@ -417,7 +418,7 @@ services_phase : (mode : Mode) (c : Configuration) (next : Bool) (p : PackState)
 services_phase mode c next p k enough h =
     let Kind : Entry → Type 0 = λ e. IsOfKind 0 1 27 (head_ext next 2) (marked next e) in
     let kind : (s : Service) → IsService s → Kind (service_entry s) = λ s k. (service_size s k, inr (omega arith, omega arith)) in
-    let kinds : Each (IsOfKind 0 1 27 (head_ext next 2)) (map (marked next) (map service_entry c.services)) =
+    let kinds : AllByRecursion (IsOfKind 0 1 27 (head_ext next 2)) (map (marked next) (map service_entry c.services)) =
     each_map (marked next) Kind (IsOfKind 0 1 27 (head_ext next 2)) (map service_entry c.services) (λ e k. k)
     (each_map service_entry IsService Kind c.services kind h.services_formed) in
     phase mode 0 1 27 k (head_ext next 2) (map (marked next) (map service_entry c.services)) p (holds_by mode 0 1 27 (inr refl) (omega arith)) enough kinds
@@ -427,7 +428,7 @@ packets_phase : (mode : Mode) (c : Configuration) (next : Bool) (p : PackState) 
 packets_phase mode c next p h =
     let Kind : Entry → Type 0 = λ e. IsOfKind 4 5 5 (head_ext next 3) (marked next e) in
     let kind : (k : Packet) → IsAddressed k → Kind (packet_entry k) = λ k _. (omega arith, inl refl) in
-    let kinds : Each (IsOfKind 4 5 5 (head_ext next 3)) (map (marked next) (map packet_entry c.packets)) =
+    let kinds : AllByRecursion (IsOfKind 4 5 5 (head_ext next 3)) (map (marked next) (map packet_entry c.packets)) =
     each_map (marked next) Kind (IsOfKind 4 5 5 (head_ext next 3)) (map packet_entry c.packets) (λ e k. k)
     (each_map packet_entry IsAddressed Kind c.packets kind h.packets_addressed) in
     phase mode 4 5 5 14 (head_ext next 3) (map (marked next) (map packet_entry c.packets)) p (holds_by mode 4 5 5 (inl (omega arith)) (omega arith)) (packets_enough mode p.fib) kinds

@@ -1,7 +1,7 @@
 -- The entries of a FIB sent as FIGs.
 use Rattle.std.proofs.Common.{◌≡◌, ℕ, ◌+◌, ◌<◌, ◌≤◌, Bool, true, false, List, [], ◌∷◌, Option, Some, None, IsSome, ◌%◌, refl, ap, subst, inl, inr, arith, eq-eqb}
 use Rattle.fib_codec.specs.declared.modes.Mode.{Mode}
-use Rattle.mux_config.specs.Configuration.{Each}
+use Rattle.std.specs.List.{AllByRecursion}
 use Rattle.mux_entries.specs.Entries.{EnsembleInformation}
 use Rattle.mux_entries.specs.Facts.{Marked}
 use Rattle.mux_entries.specs.declared.entry.Entry.{Entry}
@@ -49,11 +49,11 @@ written_one m h = record {
   within = (h.within, tt);
 }
 
-written_joined : (m : Marked) (fs : List Written) → IsSendable m → Each IsWritten fs → Each IsWritten (joined m fs)
+written_joined : (m : Marked) (fs : List Written) → IsSendable m → AllByRecursion IsWritten fs → AllByRecursion IsWritten (joined m fs)
 written_joined m [] h w = (written_one m h, tt)
 written_joined m (f ∷ fs) h w = by (same_head (head_of m) f.head) refl
   where
-    by : (b : Bool) → same_head (head_of m) f.head ≡ b → Each IsWritten (joined m (f ∷ fs))
+    by : (b : Bool) → same_head (head_of m) f.head ≡ b → AllByRecursion IsWritten (joined m (f ∷ fs))
     by true e =
         let same : head_of m ≡ f.head = same_head_is (head_of m) f.head e in
         let under : IsUnder f.head m.entry = subst (λ (g : Head). IsUnder g m.entry) same (under_own m) in
@@ -62,13 +62,13 @@ written_joined m (f ∷ fs) h w = by (same_head (head_of m) f.head) refl
           formed = record { some = omega arith; under = (under, w.0.formed.under); alone = λ z. absurd (omega (arith, z, ext, h.organization)) };
           within = (h.within, w.0.within);
         } in
-        let all : Each IsWritten (written_of f.head (m.entry ∷ f.entries) ∷ fs) = (first, w.1) in
+        let all : AllByRecursion IsWritten (written_of f.head (m.entry ∷ f.entries) ∷ fs) = (first, w.1) in
         rw e all
     by false e =
-        let all : Each IsWritten (written_of (head_of m) (m.entry ∷ []) ∷ f ∷ fs) = (written_one m h, w) in
+        let all : AllByRecursion IsWritten (written_of (head_of m) (m.entry ∷ []) ∷ f ∷ fs) = (written_one m h, w) in
         rw e all
 
-pub written_figs : (ms : List Marked) → AreSendable ms → Each IsWritten (figs_of ms)
+pub written_figs : (ms : List Marked) → AreSendable ms → AllByRecursion IsWritten (figs_of ms)
 written_figs [] h = tt
 written_figs (m ∷ ms) h = written_joined m (figs_of ms) h.0 (written_figs ms h.1)
 

@@ -1,6 +1,7 @@
 -- What a receiver finds in the bytes of a page.
 use Rattle.std.specs.Prelude.{◌≡◌, ℕ, ◌*◌, ◌≤◌, ◌↔◌, Bool, false, List, length, Option, Some, IfSome, Contains}
-use Rattle.mux_config.specs.Configuration.{Configuration, IsConfiguration, Each}
+use Rattle.mux_config.specs.Configuration.{Configuration, IsConfiguration}
+use Rattle.std.specs.List.{AllByRecursion}
 use Rattle.mux_entries.specs.Entries.{EnsembleInformation}
 use Rattle.mux_entries.specs.Facts.{Marked}
 use Rattle.fib_codec.specs.Modes.{fib_count}
@@ -19,7 +20,7 @@ pub record IsSendable (m : Marked) : Type 0 where
   pub small : size_of m ≤ 28
 
 abbrev pub AreSendable : List Marked → Type 0
-AreSendable ms = Each IsSendable ms
+AreSendable ms = AllByRecursion IsSendable ms
 
 -- what pages need: entries that they can carry, and ensemble information within its bits
 pub record IsPageable (ensemble : Option EnsembleInformation) (ms : List Marked) : Type 0 where

@@ -2,7 +2,7 @@
 -- division is the packing.
 use Rattle.std.specs.Prelude.{◌≡◌, ℕ, ◌+◌, ◌/◌, ◌%◌, ◌≤◌, ◌==◌, Bool, true, false, ◌&&◌, List, [], ◌∷◌, length, slice_index, Option, Some, None, if◌then◌else◌}
 use Rattle.mux_entries.specs.Facts.{Marked}
-use Rattle.mux_config.specs.Configuration.{Each}
+use Rattle.std.specs.List.{AllByRecursion}
 use Rattle.fib_codec.specs.Modes.{fib_count}
 use Rattle.fib_codec.specs.Spelling.{head_of, entry_size}
 use Rattle.fib_codec.specs.declared.modes.Mode.{Mode}
@@ -65,7 +65,7 @@ pub record IsPacking (mode : Mode) (es : List Marked) (ns : List ℕ) : Type 0 w
 
 -- every entry fits a FIB that is no page's first: the others have no division at all
 abbrev pub AreSmall : List Marked → Type 0
-AreSmall es = Each (λ e. size_of e ≤ 28) es
+AreSmall es = AllByRecursion (λ e. size_of e ≤ 28) es
 
 -- how many pages the numbers take: 1 where there are no entries
 abbrev pub last_number : ℕ → List ℕ → ℕ

@@ -1,6 +1,6 @@
 //! The entries that wait to be packed, and the division of them by the packing's rule.
 
-ghost use Rattle.std.specs.Prelude.{◌≡◌, ℕ, ◌+◌, ◌-◌, ◌<◌, ◌≤◌, ◌^◌, List, length, slice_get, Some};
+ghost use Rattle.std.specs.Prelude.{◌≡◌, ◌+◌, ◌-◌, ◌<◌, ◌≤◌, List, length, slice_get, Some};
 ghost use Rattle.mux_entries.specs.Facts.{Marked};
 ghost use Rattle.fib_carousel.specs.Pages.{rounds};
 

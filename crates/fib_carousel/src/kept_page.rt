@@ -9,7 +9,7 @@ ghost use Rattle.fib_carousel.specs.Bytes.{ensemble_figs, page_bytes};
 ghost use Rattle.fib_carousel.specs.Kept.{IsKept};
 
 use byteorder::{BigEndian, ByteOrder};
-use fib_codec::FibFrame;
+use fib_codec::{FibFrame, fig0_0};
 use mux_config::Ensemble;
 
 /// A page made once by a cursor, to be sent in several frames: in each with a FIG 0/0 of its own or without one. Only
@@ -28,9 +28,8 @@ fn put_first(ensemble: Ensemble, plain: &[u8; 32], frame: &mut FibFrame)
 {
     let mut eid = [0u8; 2];
     BigEndian::write_u16(&mut eid, ensemble.eid());
-    let count = ensemble.count();
-    let high = ensemble.change() * 64 + u8::from(ensemble.al()) * 32 + (count / 250) as u8;
-    let low = (count % 250) as u8;
+    let high = fig0_0::third_byte(ensemble);
+    let low = fig0_0::fourth_byte(ensemble);
     match ensemble.occurrence() {
         None => frame.join_fib(0, &[5, 0, eid[0], eid[1], high, low], plain),
         Some(swap) => frame.join_fib(0, &[6, 0, eid[0], eid[1], high, low, swap], plain),

@@ -62,7 +62,7 @@ impl Cursor {
         self.page
     }
 
-    /// Goes on behind the page that was packed: to the page after it, and after the last to page 0.
+    /// Moves behind the page that was packed: to the page after it, and after the last to page 0.
     fn advance<L: EntryList>(&mut self, list: &L, mode: Mode)
         requires within { self.old.page < rounds mode (L.entries list.now) }
         requires before { let next = first_fib mode self.old.page + fib_count mode in

@@ -1,6 +1,6 @@
 //! The entries of the pages: those of the current configuration, and those of the next one where it is given.
 
-ghost use Rattle.std.specs.Prelude.{◌≡◌, ◌+◌, ◌<◌, ◌≤◌, ◌++◌, Bool, true, false, length, Option, Some, slice_get, option_map};
+ghost use Rattle.std.specs.Prelude.{◌≡◌, ◌+◌, ◌<◌, ◌≤◌, ◌++◌, Bool, true, false, length, Option, Some, slice_get};
 ghost use Rattle.std.specs.Option.{option_copied};
 ghost use Rattle.mux_entries.specs.Facts.{marked, facts_of};
 ghost use Rattle.fib_carousel.specs.Pages.{page_set_of};

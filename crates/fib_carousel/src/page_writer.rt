@@ -1,6 +1,6 @@
 //! The entries of a FIB put into FIGs, and the FIBs of a page written one after another.
 
-ghost use Rattle.std.specs.Prelude.{◌≡◌, [], take, ◌+◌, ◌-◌, ◌*◌, ◌%◌, ◌<◌, ◌≤◌, ◌++◌, List, length, IsSome, IfSome, Option, None};
+ghost use Rattle.std.specs.Prelude.{◌≡◌, [], take, ◌+◌, ◌-◌, ◌*◌, ◌%◌, ◌<◌, ◌≤◌, ◌++◌, length, IsSome, IfSome, Option, None};
 ghost use Rattle.fib_codec.specs.Modes.{fib_count};
 ghost use Rattle.fib_codec.specs.Spelling.{figs_bytes, fib_bytes};
 ghost use Rattle.fib_codec.specs.Ranges.{IsEnsembleInformation};

@@ -3,7 +3,7 @@ use Rattle.std.proofs.Common.{◌≡◌, ◌≢◌, inl, inr, ℕ, zero, suc, �
 use Rattle.std.specs.Prelude.{flat_map, IsSome}
 use Rattle.std.proofs.lemmas.List.{length-replicate}
 use Rattle.std.proofs.lemmas.Bool.{and_from, and_left, and_right, cases_lt, cond-true, cond-false, cond_both, ltb-true, ltb-false}
-use Rattle.mux_types.specs.Configuration.{Each}
+use Rattle.std.specs.List.{AllByRecursion}
 use Rattle.mux_entries.specs.Entries.{EnsembleInformation}
 use Rattle.mux_types.specs.declared.numbers.Sid.{Sid}
 use Rattle.mux_types.specs.declared.numbers.Sid.TheVariants.{Short, Long}
@@ -89,7 +89,7 @@ entry_is head (ServiceOf s) under h =
 entry_is head (PacketOf p) under h = packet_is p h ∙ ap (λ k. entry_len k head.long (packet_bytes p)) (sym under)
 
 -- ---- each FIG is one in the grammar
-entries_are : (head : Head) (es : List Entry) → Each (IsUnder head) es → Each IsWithin es
+entries_are : (head : Head) (es : List Entry) → AllByRecursion (IsUnder head) es → AllByRecursion IsWithin es
     → AreEntries head.ext head.long (entries_bytes es) (map entry_bytes es)
 entries_are head [] under within = refl
 entries_are head (e ∷ es) under within =
@@ -102,7 +102,7 @@ counted_alone head (ShortOf s) under h zero_ext = absurd (omega arith)
 counted_alone head (ServiceOf s) under h zero_ext = absurd (omega (arith, under.0))
 counted_alone head (PacketOf p) under h zero_ext = absurd (omega arith)
 
-one_alone : (head : Head) (es : List Entry) → Each (IsUnder head) es → Each IsWithin es → length es ≡ 1 → head.ext ≡ 0
+one_alone : (head : Head) (es : List Entry) → AllByRecursion (IsUnder head) es → AllByRecursion IsWithin es → length es ≡ 1 → head.ext ≡ 0
     → (e : List ℕ) × (map entry_bytes es ≡ e ∷ []) × IsCounted e
 one_alone head [] under within one zero_ext = absurd (omega arith)
 one_alone head (e ∷ []) under within one zero_ext = (entry_bytes e, refl, counted_alone head e under.0 within.0 zero_ext)
@@ -165,7 +165,7 @@ fig_is_by true w other h short =
 pub fig_is : (w : Written) → IsWritten w → length (fig_bytes w.head w.entries) ≤ 30 → IsFig (fig_bytes w.head w.entries) (fig_of w)
 fig_is w h short = fig_is_by w.head.oe w refl h (omega arith)
 
-figs_are : (figs : List Written) (tail : List ℕ) → Each IsWritten figs → length (figs_bytes figs) ≤ 30 → AreFigs tail []
+figs_are : (figs : List Written) (tail : List ℕ) → AllByRecursion IsWritten figs → length (figs_bytes figs) ≤ 30 → AreFigs tail []
     → AreFigs (figs_bytes figs ++ tail) (map fig_of figs)
 figs_are [] tail written short ends = ends
 figs_are (w ∷ ws) tail written short ends =
@@ -187,7 +187,7 @@ length-filled bytes h =
     cond_both (ltb (length bytes) 30) (bytes ++ marker) bytes (λ xs. length xs ≡ 30)
     (λ lt. omega (arith, ltb-true _ _ lt, rest, whole)) (λ ge. omega (arith, ltb-false _ _ ge))
 
-filled_figs : (figs : List Written) → Each IsWritten figs → length (figs_bytes figs) ≤ 30
+filled_figs : (figs : List Written) → AllByRecursion IsWritten figs → length (figs_bytes figs) ≤ 30
     → AreFigs (filled (figs_bytes figs)) (map fig_of figs)
 filled_figs figs written short =
     let bytes = figs_bytes figs in
@@ -202,7 +202,7 @@ filled_figs figs written short =
     ]
 
 -- ---- the whole FIB
-pub fib_is : (figs : List Written) → Each IsWritten figs → length (figs_bytes figs) ≤ 30
+pub fib_is : (figs : List Written) → AllByRecursion IsWritten figs → length (figs_bytes figs) ≤ 30
     → IsFib (checked (filled (figs_bytes figs))) (map fig_of figs)
 fib_is figs written short =
     let bytes = filled (figs_bytes figs) in
@@ -232,11 +232,11 @@ open_by : (oe : Bool) (w : Written) → oe ≡ false
 open_by false w ours = tt
 open_by true w ours = cc
 
-are_open : (figs : List Written) → Each IsOurs figs → Each IsOpen (map fig_of figs)
+are_open : (figs : List Written) → AllByRecursion IsOurs figs → AllByRecursion IsOpen (map fig_of figs)
 are_open [] ours = tt
 are_open (w ∷ ws) ours = (open_by w.head.oe w ours.0, are_open ws ours.1)
 
-pub valid_is : (figs : List Written) → Each IsWritten figs → length (figs_bytes figs) ≤ 30 → Each IsOurs figs
+pub valid_is : (figs : List Written) → AllByRecursion IsWritten figs → length (figs_bytes figs) ≤ 30 → AllByRecursion IsOurs figs
     → IsValid (checked (filled (figs_bytes figs))) (map fig_of figs)
 valid_is figs written short ours =
     let bytes = filled (figs_bytes figs) in

@@ -2,7 +2,7 @@
 use Rattle.std.proofs.Common.{◌≡◌, ℕ, zero, suc, drop, ◌+◌, ◌-◌, ◌*◌, ◌≤◌, cond, Option, Some, None, is_some, List, [], ◌∷◌, ◌++◌, length, get_or, take, refl, sym, ◌∙◌, ap, subst, arith, length-append, append_assoc, append-nil, ◌<◌}
 use Rattle.std.specs.Prelude.{flat_map}
 use Rattle.std.proofs.lemmas.List.{take_more, length-take-le, take_all, take-append-drop}
-use Rattle.mux_types.specs.Configuration.{Each}
+use Rattle.std.specs.List.{AllByRecursion}
 use Rattle.mux_types.specs.declared.numbers.Sid.{Sid}
 use Rattle.mux_types.specs.declared.numbers.Sid.TheVariants.{Short, Long}
 use Rattle.mux_entries.specs.declared.entry.Entry.{Entry}
@@ -40,9 +40,9 @@ entry_length (ServiceOf s) =
 entry_length (PacketOf p) = omega (arith, ca_org_len p.ca_org)
 
 -- ---- steps of loops that append
-pub Each-append : {T : Type 0} (P : T → Type 0) (xs ys : List T) → Each P xs → Each P ys → Each P (xs ++ ys)
-Each-append P [] ys h k = k
-Each-append P (x ∷ xs) ys h k = (h.0, Each-append P xs ys h.1 k)
+pub AllByRecursion-append : {T : Type 0} (P : T → Type 0) (xs ys : List T) → AllByRecursion P xs → AllByRecursion P ys → AllByRecursion P (xs ++ ys)
+AllByRecursion-append P [] ys h k = k
+AllByRecursion-append P (x ∷ xs) ys h k = (h.0, AllByRecursion-append P xs ys h.1 k)
 
 pub flat_map-append : {X A : Type 0} (f : X → List A) (xs ys : List X) → flat_map f (xs ++ ys) ≡ flat_map f xs ++ flat_map f ys
 flat_map-append f [] ys = refl
@@ -59,10 +59,10 @@ spelled_more f old xs i d h =
     ∙ sym (flat_map-append f (take i xs) (get_or xs i d ∷ []))
     ∙ ap (flat_map f) (sym (take_more xs i d h)))
 
-pub Each-more : {T : Type 0} (P : T → Type 0) (xs : List T) (i : ℕ) (d : T) → i < length xs → Each P (take i xs) → P (get_or xs i d)
-    → Each P (take (i + 1) xs)
-Each-more {T} P xs i d h before here =
-    subst (λ (ys : List T). Each P ys) (sym (take_more xs i d h)) (Each-append P (take i xs) (get_or xs i d ∷ []) before (here, tt))
+pub AllByRecursion-more : {T : Type 0} (P : T → Type 0) (xs : List T) (i : ℕ) (d : T) → i < length xs → AllByRecursion P (take i xs) → P (get_or xs i d)
+    → AllByRecursion P (take (i + 1) xs)
+AllByRecursion-more {T} P xs i d h before here =
+    subst (λ (ys : List T). AllByRecursion P ys) (sym (take_more xs i d h)) (AllByRecursion-append P (take i xs) (get_or xs i d ∷ []) before (here, tt))
 
 -- room for one more component, where there was room for all of them
 pub component_fits : (now old : List ℕ) (cs : List ComponentEntry) (i : ℕ) → length old + 2 * length cs ≤ 30 → i < length cs
@@ -74,13 +74,13 @@ component_fits now old cs i room h written =
     omega (arith, long, taken, components_len (take i cs))
 
 -- ---- entries of one FIG
-pub Each-at : {T : Type 0} (P : T → Type 0) (xs : List T) (i : ℕ) (d : T) → Each P xs → i < length xs → P (get_or xs i d)
-Each-at P [] i d h lt = absurd (omega arith)
-Each-at P (x ∷ xs) zero d h lt = h.0
-Each-at P (x ∷ xs) (suc i) d h lt = Each-at P xs i d h.1 (omega arith)
+pub AllByRecursion-at : {T : Type 0} (P : T → Type 0) (xs : List T) (i : ℕ) (d : T) → AllByRecursion P xs → i < length xs → P (get_or xs i d)
+AllByRecursion-at P [] i d h lt = absurd (omega arith)
+AllByRecursion-at P (x ∷ xs) zero d h lt = h.0
+AllByRecursion-at P (x ∷ xs) (suc i) d h lt = AllByRecursion-at P xs i d h.1 (omega arith)
 
-pub Each-all : {T : Type 0} (P : T → Type 0) (xs : List T) (i : ℕ) → length xs ≤ i → Each P (take i xs) → Each P xs
-Each-all {T} P xs i h each = subst (λ (ys : List T). Each P ys) (take_all i xs h) each
+pub AllByRecursion-all : {T : Type 0} (P : T → Type 0) (xs : List T) (i : ℕ) → length xs ≤ i → AllByRecursion P (take i xs) → AllByRecursion P xs
+AllByRecursion-all {T} P xs i h each = subst (λ (ys : List T). AllByRecursion P ys) (take_all i xs h) each
 
 pub entries_more : (xs : List Entry) (i : ℕ) (d : Entry) → i < length xs
     → length (entries_bytes (take (i + 1) xs)) ≡ length (entries_bytes (take i xs)) + entry_size (get_or xs i d)
@@ -120,7 +120,7 @@ under_small head (ShortOf s) h = omega arith
 under_small head (ServiceOf s) h = omega (arith, h.0)
 under_small head (PacketOf p) h = omega arith
 
-some_small : (head : Head) (xs : List Entry) → 0 < length xs → Each (IsUnder head) xs → head.ext < 4
+some_small : (head : Head) (xs : List Entry) → 0 < length xs → AllByRecursion (IsUnder head) xs → head.ext < 4
 some_small head [] h each = absurd (omega arith)
 some_small head (x ∷ xs) h each = under_small head x each.0
 

@@ -2,7 +2,7 @@
 use Rattle.std.proofs.Common.{◌≡◌, ◌⊎◌, inl, inr, ℕ, zero, suc, ◌<◌, ◌↔◌, Bool, true, false, cond, List, [], ◌∷◌, map, refl, sym, ◌∙◌, subst, arith}
 use Rattle.std.specs.Prelude.{Contains}
 use Rattle.std.proofs.lemmas.List.Elements.{Contains-append_left, Contains-append_right, Contains-append_cases}
-use Rattle.mux_types.specs.Configuration.{Each}
+use Rattle.std.specs.List.{AllByRecursion}
 use Rattle.mux_entries.specs.Facts.{Marked, marked}
 use Rattle.mux_entries.specs.declared.entry.Entry.{Entry}
 use Rattle.mux_entries.specs.declared.entry.Entry.TheVariants.{Ensemble as EnsembleOf, Sub as SubOf, Short as ShortOf, Service as ServiceOf, Packet as PacketOf}
@@ -87,7 +87,7 @@ said_written head e m small under within said =
     λ i. record { next = next i; entry = entry i }
 
 -- ---- one FIG
-said_in_list : (head : Head) (es : List Entry) (bytes : List ℕ) (m : Marked) → head.ext < 4 → Each (IsUnder head) es → Each IsWithin es
+said_in_list : (head : Head) (es : List Entry) (bytes : List ℕ) (m : Marked) → head.ext < 4 → AllByRecursion (IsUnder head) es → AllByRecursion IsWithin es
     → Contains (map entry_bytes es) bytes → IsSaid (head_byte head) bytes m → Contains (map (marked head.next) es) m
 said_in_list head [] bytes m small under within in_list said = absurd (contains_none bytes in_list)
 said_in_list head (e ∷ es) bytes m small under within in_list said =
@@ -106,7 +106,7 @@ moved_later : (head : Head) (e : Entry) (es : List Entry) (m : Marked)
     → (bytes : List ℕ) × Contains (map entry_bytes (e ∷ es)) bytes × IsSaid (head_byte head) bytes m
 moved_later head e es m (bytes, in_list, said) = (bytes, contains_later (entry_bytes e) (map entry_bytes es) bytes in_list, said)
 
-list_said : (head : Head) (es : List Entry) (m : Marked) → head.ext < 4 → Each (IsUnder head) es → Each IsWithin es
+list_said : (head : Head) (es : List Entry) (m : Marked) → head.ext < 4 → AllByRecursion (IsUnder head) es → AllByRecursion IsWithin es
     → Contains (map (marked head.next) es) m → (bytes : List ℕ) × Contains (map entry_bytes es) bytes × IsSaid (head_byte head) bytes m
 list_said head [] m small under within in_list = absurd (contains_none m in_list)
 list_said head (e ∷ es) m small under within in_list =
@@ -130,7 +130,7 @@ fig_says false w m h =
     )
 
 -- ---- all FIGs
-figs_say : (figs : List Written) (fig : Fig) (m : Marked) → Each IsWritten figs → Contains (map fig_of figs) fig → IsInFig fig m
+figs_say : (figs : List Written) (fig : Fig) (m : Marked) → AllByRecursion IsWritten figs → Contains (map fig_of figs) fig → IsInFig fig m
     → Contains (marked_of figs) m
 figs_say [] fig m written in_list said = absurd (contains_none fig in_list)
 figs_say (w ∷ ws) fig m written in_list said =
@@ -144,7 +144,7 @@ fig_later : (w : Written) (ws : List Written) (m : Marked) → (fig : Fig) × Co
     → (fig : Fig) × Contains (map fig_of (w ∷ ws)) fig × IsInFig fig m
 fig_later w ws m (fig, in_list, said) = (fig, contains_later (fig_of w) (map fig_of ws) fig in_list, said)
 
-figs_said : (figs : List Written) (m : Marked) → Each IsWritten figs → Contains (marked_of figs) m
+figs_said : (figs : List Written) (m : Marked) → AllByRecursion IsWritten figs → Contains (marked_of figs) m
     → (fig : Fig) × Contains (map fig_of figs) fig × IsInFig fig m
 figs_said [] m written in_list = absurd (contains_none m in_list)
 figs_said (w ∷ ws) m written in_list =

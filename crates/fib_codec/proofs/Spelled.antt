@@ -1,7 +1,8 @@
 -- Bytes that are an entry in the grammar are spelled by an entry.
 use Rattle.std.proofs.Common.{◌≡◌, ◌⊎◌, inl, inr, ℕ, zero, suc, ◌+◌, ◌*◌, ◌/◌, ◌%◌, ◌<◌, Bool, true, false, cond, eqb, Option, Some, None, List, [], ◌∷◌, ◌++◌, length, refl, sym, ◌∙◌, ap, ap₂, arith, eqb-true}
 use Rattle.std.specs.Prelude.{is_some, IfSome}
-use Rattle.mux_types.specs.Configuration.{Each, IsSid}
+use Rattle.mux_types.specs.Configuration.{IsSid}
+use Rattle.std.specs.List.{AllByRecursion}
 use Rattle.mux_types.specs.declared.numbers.Sid.{Sid}
 use Rattle.mux_types.specs.declared.numbers.Sid.TheVariants.{Short, Long}
 use Rattle.mux_entries.specs.declared.entry.Entry.TheVariants.{Ensemble as EnsembleOf, Sub as SubOf, Short as ShortOf, Service as ServiceOf, Packet as PacketOf}
@@ -81,7 +82,7 @@ counted a b c d o p q r s high =
     ap₂ (λ xs x. xs ++ x ∷ (c % 32 * 250 + d) % 250 ∷ occurrence_bytes o) (word_bytes (a * 256 + b) a b refl p q) flags
     ∙ ap (λ x. a ∷ b ∷ c ∷ x ∷ occurrence_bytes o) number.2
 
-ensemble_spelled : (head : Head) (bytes : List ℕ) → head.ext ≡ 0 → Each IsByte bytes → length bytes ≡ ensemble_len bytes → IsCounted bytes
+ensemble_spelled : (head : Head) (bytes : List ℕ) → head.ext ≡ 0 → AllByRecursion IsByte bytes → length bytes ≡ ensemble_len bytes → IsCounted bytes
     → IsSpelled head bytes
 ensemble_spelled head [] e all whole count = absurd (omega arith)
 ensemble_spelled head (a ∷ []) e all whole count = absurd (omega arith)
@@ -164,7 +165,7 @@ not_long c p h = elim (one_of_four (c / 128) (omega arith)) [
   | inr (inr (inr three)) ↦ absurd (omega (arith, three))
 ]
 
-sub_spelled : (head : Head) (bytes : List ℕ) → head.ext ≡ 1 → Each IsByte bytes → length bytes ≡ sub_len bytes → IsSpelled head bytes
+sub_spelled : (head : Head) (bytes : List ℕ) → head.ext ≡ 1 → AllByRecursion IsByte bytes → length bytes ≡ sub_len bytes → IsSpelled head bytes
 sub_spelled head [] e all whole = absurd (omega arith)
 sub_spelled head (a ∷ []) e all whole = absurd (omega arith)
 sub_spelled head (a ∷ b ∷ []) e all whole = absurd (omega arith)
@@ -227,9 +228,9 @@ component_spelled high low p q =
 
 -- two bytes a component
 abbrev AreComponentsOf : ℕ → List ℕ → List ComponentEntry → Type 0
-AreComponentsOf n bytes cs = (length cs ≡ n) × Each IsComponentEntry cs × (components_bytes cs ≡ bytes)
+AreComponentsOf n bytes cs = (length cs ≡ n) × AllByRecursion IsComponentEntry cs × (components_bytes cs ≡ bytes)
 
-components_spelled : (n : ℕ) (bytes : List ℕ) → Each IsByte bytes → length bytes ≡ 2 * n → (cs : List ComponentEntry) × AreComponentsOf n bytes cs
+components_spelled : (n : ℕ) (bytes : List ℕ) → AllByRecursion IsByte bytes → length bytes ≡ 2 * n → (cs : List ComponentEntry) × AreComponentsOf n bytes cs
 components_spelled zero [] all whole = ([], (refl, tt, refl))
 components_spelled zero (b ∷ bytes) all whole = absurd (omega arith)
 components_spelled (suc n) [] all whole = absurd (omega arith)
@@ -248,7 +249,7 @@ count_byte f h =
     ap (λ x. x * 128 + f / 16 % 8 * 16 + f % 16) rfa ∙ whole
 
 service_from : (head : Head) (sid : Sid) (front : List ℕ) (f : ℕ) (bytes : List ℕ) → head.ext ≡ 2 → head.long ≡ is_long_sid sid
-    → IsSid sid → sid_bytes sid ≡ front → f < 256 → Each IsByte bytes → length bytes ≡ 2 * (f % 16) → IsSpelled head (front ++ f ∷ bytes)
+    → IsSid sid → sid_bytes sid ≡ front → f < 256 → AllByRecursion IsByte bytes → length bytes ≡ 2 * (f % 16) → IsSpelled head (front ++ f ∷ bytes)
 service_from head sid front f bytes e long small same byte all whole =
     let parts = components_spelled (f % 16) bytes all whole in
     let entry : ServiceEntry = record { sid = sid; rfa = eqb (f / 128) 1; ca_id = f / 16 % 8; components = parts.0 } in
@@ -257,7 +258,7 @@ service_from head sid front f bytes e long small same byte all whole =
     ap (λ n. bit_of (eqb (f / 128) 1) * 128 + f / 16 % 8 * 16 + n) parts.1.0 ∙ count_byte f byte in
     (ServiceOf entry, (e, long), within, ap₂ (λ xs ys. xs ++ ys) same (ap₂ (λ x ys. x ∷ ys) flags parts.1.2))
 
-service_spelled : (head : Head) (long : Bool) (bytes : List ℕ) → head.long ≡ long → head.ext ≡ 2 → Each IsByte bytes
+service_spelled : (head : Head) (long : Bool) (bytes : List ℕ) → head.long ≡ long → head.ext ≡ 2 → AllByRecursion IsByte bytes
     → length bytes ≡ service_len long bytes → IsSpelled head bytes
 service_spelled head false [] l e all whole = absurd (omega arith)
 service_spelled head false (a ∷ []) l e all whole = absurd (omega arith)
@@ -311,7 +312,7 @@ even_byte b h = elim (two_ways (b % 2) (omega arith)) [
   | inr one ↦ (let yes : eqb (b % 2) 1 ≡ true = ap (λ n. eqb n 1) one in absurd cc)
 ]
 
-packet_spelled : (head : Head) (bytes : List ℕ) → head.ext ≡ 3 → Each IsByte bytes → length bytes ≡ packet_len bytes → IsSpelled head bytes
+packet_spelled : (head : Head) (bytes : List ℕ) → head.ext ≡ 3 → AllByRecursion IsByte bytes → length bytes ≡ packet_len bytes → IsSpelled head bytes
 packet_spelled head [] e all whole = absurd (omega arith)
 packet_spelled head (a ∷ []) e all whole = absurd (omega arith)
 packet_spelled head (a ∷ b ∷ []) e all whole =
@@ -344,7 +345,7 @@ packet_spelled head (a ∷ b ∷ c ∷ f ∷ g ∷ h ∷ i ∷ j ∷ more) e all
     ]
 
 -- ---- every entry
-pub entry_spelled : (head : Head) (bytes : List ℕ) → head.ext < 4 → Each IsByte bytes → IsEntry head.ext head.long bytes
+pub entry_spelled : (head : Head) (bytes : List ℕ) → head.ext < 4 → AllByRecursion IsByte bytes → IsEntry head.ext head.long bytes
     → (head.ext ≡ 0 → IsCounted bytes) → IsSpelled head bytes
 entry_spelled head bytes small all whole count =
     let length_at = λ (x : ℕ). entry_len x head.long bytes in

@@ -1,7 +1,8 @@
 -- An entry is told by its spelling.
 use Rattle.std.proofs.Common.{◌≡◌, ℕ, ◌+◌, ◌*◌, ◌/◌, ◌%◌, ◌<◌, Bool, true, false, Option, Some, None, is_some, List, [], ◌∷◌, ◌++◌, length, refl, ap, ap₂, arith}
 use Rattle.std.specs.Prelude.{IfSome}
-use Rattle.mux_types.specs.Configuration.{Each, IsSid}
+use Rattle.mux_types.specs.Configuration.{IsSid}
+use Rattle.std.specs.List.{AllByRecursion}
 use Rattle.mux_entries.specs.Entries.{EnsembleInformation}
 use Rattle.mux_types.specs.declared.numbers.Sid.{Sid}
 use Rattle.mux_types.specs.declared.numbers.Sid.TheVariants.{Short, Long}
@@ -150,7 +151,7 @@ component_below (Stream ty sub p c) h = omega (arith, h.0, h.1, bit_small p, bit
 component_below (Other b) h = omega arith
 component_below (Packet id p c) h = omega (arith, bit_small p, bit_small c)
 
-components_told : (cs ds : List ComponentEntry) → Each IsComponentEntry cs → Each IsComponentEntry ds → components_bytes cs ≡ components_bytes ds → cs ≡ ds
+components_told : (cs ds : List ComponentEntry) → AllByRecursion IsComponentEntry cs → AllByRecursion IsComponentEntry ds → components_bytes cs ≡ components_bytes ds → cs ≡ ds
 components_told [] [] h k same = refl
 components_told [] (d ∷ ds) h k same = cc
 components_told (c ∷ cs) [] h k same = cc

@@ -1,7 +1,7 @@
 -- Which FIGs the 32 bytes of a FIB hold, for reader and writer alike (EN 300 401 clauses 5.2.1, 5.2.2, 6.2.1,
 -- 6.3.1, 6.3.2 and 6.4). FIGs of other types or extensions, and those of other ensembles, aren't looked into.
 use Rattle.std.specs.Prelude.{◌≡◌, ◌≢◌, ℕ, ◌+◌, ◌*◌, ◌/◌, ◌%◌, ◌<◌, ◌≤◌, ◌==◌, ◌&&◌, nat_lt, Bool, true, false, if◌then◌else◌, ◌⊎◌, List, [], ◌∷◌, ◌++◌, length, map, flat_map, take, get_or}
-use Rattle.mux_types.specs.Configuration.{Each}
+use Rattle.std.specs.List.{AllByRecursion}
 use Rattle.fib_codec.specs.Crc.{IsChecked}
 use Rattle.fib_codec.specs.Spelling.{Written, IsWritten, IsUnder, entry_bytes, head_byte, fig_bytes, figs_bytes, fib_bytes, filled}
 use Rattle.fib_codec.specs.declared.head.Head.{Head}
@@ -99,7 +99,7 @@ IsOpen (Other bytes) = ⊥
 -- filled by the end marker and zeros
 pub record IsValid (bytes : List ℕ) (figs : List Fig) : Type 0 where
   pub fib : IsFib bytes figs
-  pub looked_into : Each IsOpen figs
+  pub looked_into : AllByRecursion IsOpen figs
   pub rest_filled : take 30 bytes ≡ filled (flat_map fig_spelled figs)
 
 -- a FIG that is written, in the grammar: one of another ensemble isn't looked into
@@ -112,12 +112,12 @@ IsOurs w = w.head.oe ≡ false
 -- a FIB with these data bytes holds exactly the FIGs that they are the bytes of, in order
 abbrev pub HoldsFigsOf : List ℕ → List ℕ → Type 0
 HoldsFigsOf bytes fib =
-    (figs : List Written) → Each IsWritten figs → bytes ≡ figs_bytes figs → IsFib fib (map fig_of figs)
+    (figs : List Written) → AllByRecursion IsWritten figs → bytes ≡ figs_bytes figs → IsFib fib (map fig_of figs)
 
 -- and it is the valid one, where each of them is of this ensemble
 abbrev pub IsValidOf : List ℕ → List ℕ → Type 0
 IsValidOf bytes fib =
-    (figs : List Written) → Each IsWritten figs → bytes ≡ figs_bytes figs → Each IsOurs figs
+    (figs : List Written) → AllByRecursion IsWritten figs → bytes ≡ figs_bytes figs → AllByRecursion IsOurs figs
     → IsValid fib (map fig_of figs)
 
 -- 32 bytes hold at most one list of FIGs
@@ -132,9 +132,9 @@ SpellingIsEntry =
 -- a FIB that is written holds its FIGs, and is valid where each of them is of this ensemble
 abbrev pub WrittenIsFib : Type 0
 WrittenIsFib =
-    (figs : List Written) → Each IsWritten figs → length (figs_bytes figs) ≤ 30 → IsFib (fib_bytes figs) (map fig_of figs)
+    (figs : List Written) → AllByRecursion IsWritten figs → length (figs_bytes figs) ≤ 30 → IsFib (fib_bytes figs) (map fig_of figs)
 
 abbrev pub WrittenIsValid : Type 0
 WrittenIsValid =
-    (figs : List Written) → Each IsWritten figs → length (figs_bytes figs) ≤ 30 → Each IsOurs figs
+    (figs : List Written) → AllByRecursion IsWritten figs → length (figs_bytes figs) ≤ 30 → AllByRecursion IsOurs figs
     → IsValid (fib_bytes figs) (map fig_of figs)

@@ -1,7 +1,7 @@
 -- Which entries a receiver hears in FIBs, by the grammar alone (EN 300 401 clauses 5.2.2.1, 6.2.1, 6.3.1, 6.3.2
 -- and 6.4).
 use Rattle.std.specs.Prelude.{◌≡◌, ℕ, ◌*◌, ◌%◌, ◌≤◌, ◌↔◌, Bool, if◌then◌else◌, List, [], map, flat_map, take, drop, Contains}
-use Rattle.mux_types.specs.Configuration.{Each}
+use Rattle.std.specs.List.{AllByRecursion}
 use Rattle.mux_entries.specs.Entries.{EnsembleInformation}
 use Rattle.mux_entries.specs.Facts.{Marked, marked}
 use Rattle.mux_entries.specs.declared.entry.Entry.TheVariants.{Ensemble as EnsembleOf}
@@ -57,5 +57,5 @@ marked_of figs = flat_map marked_by figs
 -- in a FIB that holds written FIGs stand exactly their marked entries
 abbrev pub HeardIsWritten : Type 0
 HeardIsWritten =
-    (bytes : List ℕ) (figs : List Written) → Each IsWritten figs → IsFib bytes (map fig_of figs)
+    (bytes : List ℕ) (figs : List Written) → AllByRecursion IsWritten figs → IsFib bytes (map fig_of figs)
     → (m : Marked) → IsInFib bytes m ↔ Contains (marked_of figs) m

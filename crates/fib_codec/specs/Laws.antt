@@ -1,6 +1,6 @@
 -- What holds of the grammar's bytes: an entry by the grammar is spelled by an entry, and a FIB has 32 bytes.
 use Rattle.std.specs.Prelude.{◌≡◌, ℕ, ◌<◌, List, length}
-use Rattle.mux_types.specs.Configuration.{Each}
+use Rattle.std.specs.List.{AllByRecursion}
 use Rattle.mux_entries.specs.declared.entry.Entry.{Entry}
 use Rattle.fib_codec.specs.declared.head.Head.{Head}
 use Rattle.fib_codec.specs.Grammar.{Fig, IsEntry, IsCounted, IsFib}
@@ -17,7 +17,7 @@ IsSpelled head bytes = (e : Entry) × IsUnder head e × IsWithin e × (entry_byt
 -- bytes that are an entry in the grammar are spelled by one; ensemble information where its CIF count is one
 abbrev pub EntryIsSpelled : Type 0
 EntryIsSpelled =
-    (head : Head) (bytes : List ℕ) → head.ext < 4 → Each IsByte bytes → IsEntry head.ext head.long bytes
+    (head : Head) (bytes : List ℕ) → head.ext < 4 → AllByRecursion IsByte bytes → IsEntry head.ext head.long bytes
     → (head.ext ≡ 0 → IsCounted bytes) → IsSpelled head bytes
 
 -- a FIB has 32 bytes

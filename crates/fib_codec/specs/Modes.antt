@@ -1,5 +1,6 @@
 -- Transmission modes (EN 300 401 clauses 5.1 and 6.4).
 use Rattle.std.specs.Prelude.{◌≡◌, ℕ, ◌+◌, ◌-◌, ◌*◌, ◌%◌, ◌≤◌, ◌++◌, List, length, take, drop, replicate}
+use Rattle.mux_entries.specs.declared.limits.TheConstants.{COUNTS}
 use Rattle.fib_codec.specs.declared.modes.Mode.{Mode}
 use Rattle.fib_codec.specs.declared.modes.Mode.TheVariants.{I, II, III, IV}
 
@@ -25,7 +26,7 @@ IsFrameSize size = (mode : Mode) × (size ≡ 32 * fib_count mode)
 -- the CIF count has whole steps in a turn, and three steps are no longer than the shortest notice, 12 frames
 abbrev pub StepsDivide : Type 0
 StepsDivide =
-    (mode : Mode) → (5000 % count_step mode ≡ 0) × (1 ≤ count_step mode) × (3 * count_step mode ≤ 12)
+    (mode : Mode) → (COUNTS % count_step mode ≡ 0) × (1 ≤ count_step mode) × (3 * count_step mode ≤ 12)
 
 -- a frame of this size at the front of 128 bytes, and zeros behind it
 pub record IsInFrame (size : ℕ) (bytes : List ℕ) : Type 0 where

@@ -1,7 +1,9 @@
 -- Entries whose fields are within their bits, which is so for each entry of a program.
 use Rattle.std.specs.Prelude.{◌<◌, ◌≤◌, ◌↔◌, IsSome, IfSome, length}
 use Rattle.mux_entries.specs.Entries.{EnsembleInformation}
-use Rattle.mux_types.specs.Configuration.{Each, IsSid}
+use Rattle.mux_types.specs.Configuration.{IsSid}
+use Rattle.std.specs.List.{AllByRecursion}
+use Rattle.mux_entries.specs.declared.limits.TheConstants.{COUNTS}
 use Rattle.mux_entries.specs.declared.entry.Entry.{Entry}
 use Rattle.mux_entries.specs.declared.entry.Entry.TheVariants.{Ensemble as EnsembleOf, Sub as SubOf, Short as ShortOf, Service as ServiceOf, Packet as PacketOf}
 use Rattle.mux_entries.specs.declared.entry.SubEntry.{SubEntry}
@@ -16,7 +18,7 @@ use Rattle.mux_entries.specs.declared.entry.ComponentEntry.TheVariants.{Sound, S
 pub record IsEnsembleInformation (e : EnsembleInformation) : Type 0 where
   pub eid : e.eid < 65536
   pub change : e.change < 4
-  pub count : e.count < 5000
+  pub count : e.count < COUNTS
   pub flagged : IsSome e.occurrence ↔ (0 < e.change)
   pub occurrence : IfSome e.occurrence (λ low. low < 256)
 
@@ -42,7 +44,7 @@ pub record IsServiceEntry (s : ServiceEntry) : Type 0 where
   pub sid : IsSid s.sid
   pub ca_id : s.ca_id < 8
   pub few : length s.components ≤ 15
-  pub components : Each IsComponentEntry s.components
+  pub components : AllByRecursion IsComponentEntry s.components
 
 pub record IsPacketEntry (p : PacketEntry) : Type 0 where
   pub scid : p.scid < 4096

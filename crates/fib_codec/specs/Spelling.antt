@@ -4,7 +4,7 @@
 use Rattle.std.specs.Prelude.{◌≡◌, ℕ, ◌+◌, ◌-◌, ◌*◌, ◌/◌, ◌%◌, ◌<◌, ◌≤◌, Bool, true, false, if◌then◌else◌, nat_lt, is_some, Option, Some, None, List, [], ◌∷◌, ◌++◌, length, flat_map, replicate}
 use Rattle.byteorder.specs.Endian.{big_bytes}
 use Rattle.mux_entries.specs.Entries.{EnsembleInformation}
-use Rattle.mux_types.specs.Configuration.{Each}
+use Rattle.std.specs.List.{AllByRecursion}
 use Rattle.mux_entries.specs.Facts.{Marked}
 use Rattle.mux_types.specs.declared.numbers.Sid.{Sid}
 use Rattle.mux_types.specs.declared.numbers.Sid.TheVariants.{Short, Long}
@@ -136,7 +136,7 @@ IsUnder head (PacketOf p) = head.ext ≡ 3
 -- a FIG with entries that belong together: at least one, all under the head, and FIG 0/0 has one alone
 pub record IsFormed (head : Head) (entries : List Entry) : Type 0 where
   pub some : 0 < length entries
-  pub under : Each (IsUnder head) entries
+  pub under : AllByRecursion (IsUnder head) entries
   pub alone : head.ext ≡ 0 → length entries ≡ 1
 
 -- a FIG of a FIB that is being written
@@ -147,7 +147,7 @@ pub record Written : Type 0 where
 -- as it comes from a program, whose entries are within their bits
 pub record IsWritten (fig : Written) : Type 0 where
   pub formed : IsFormed fig.head fig.entries
-  pub within : Each IsWithin fig.entries
+  pub within : AllByRecursion IsWithin fig.entries
 
 abbrev pub figs_bytes : List Written → List ℕ
 figs_bytes figs = flat_map (λ (fig : Written). fig_bytes fig.head fig.entries) figs

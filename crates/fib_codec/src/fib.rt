@@ -1,15 +1,15 @@
 //! A FIB that is being written.
 
-ghost use Rattle.std.specs.Prelude.{◌≡◌, ◌+◌, ◌*◌, ◌≤◌, ◌<◌, ◌↔◌, ◌++◌, ◌∷◌, [], length, IsTrue, IsFalse, MatchOption, List, map, take, slice_index_or, slice_set};
-ghost use Rattle.mux_types.specs.Configuration.{Each};
+ghost use Rattle.std.specs.Prelude.{◌≡◌, ◌+◌, ◌*◌, ◌≤◌, ◌<◌, ◌↔◌, ◌++◌, ◌∷◌, [], length, IsTrue, IsFalse, MatchOption, List, take, slice_index_or, slice_set};
+ghost use Rattle.std.specs.List.{AllByRecursion};
 ghost use Rattle.fib_codec.specs.Ranges.{IsWithin};
 ghost use Rattle.byteorder.specs.Endian.{big_bytes};
-ghost use Rattle.fib_codec.specs.Spelling.{head_byte as byte_of_head, bit_of, sid_size, sid_bytes, component_word, sub_bytes, packet_bytes, entry_bytes, entry_size, entries_bytes, fig_bytes, IsUnder, IsFormed, FitsFig, Written, IsWritten, figs_bytes, filled, checked};
+ghost use Rattle.fib_codec.specs.Spelling.{head_byte, bit_of, sid_size, sid_bytes, component_word, sub_bytes, packet_bytes, entry_bytes, entry_size, entries_bytes, fig_bytes, IsUnder, IsFormed, FitsFig, IsWritten, filled, checked};
 ghost use Rattle.fib_codec.specs.Grammar.{HoldsFigsOf, IsValidOf};
 
 use crate::data::Data;
 use crate::entry_writer::{entry_len, put_entry};
-use crate::head::Head;
+use crate::head::{self, Head};
 use crate::{fig0_1, fig0_2, fig0_3};
 use mux_entries::{ComponentEntry, Entry, PacketEntry, SubEntry};
 use mux_types::{Bits, Sid};
@@ -49,7 +49,7 @@ fn is_under(head: Head, entry: &Entry) -> bool
 }
 
 fn are_under(head: Head, entries: &[Entry]) -> bool
-    ensures { IsTrue result ↔ Each (IsUnder head) entries.now }
+    ensures { IsTrue result ↔ AllByRecursion (IsUnder head) entries.now }
 {
     for entry in entries {
         if !is_under(head, entry) {
@@ -90,18 +90,10 @@ fn len_within(entries: &[Entry], room: usize) -> Option<usize>
     Some(len)
 }
 
-/// The second byte of a FIG of type 0.
-fn head_byte(head: Head) -> u8
-    requires { head.ext < 32 }
-    ensures { result ≡ byte_of_head head }
-{
-    u8::from(head.next) * 128 + u8::from(head.oe) * 64 + u8::from(head.long) * 32 + head.ext
-}
-
 fn put_entries(out: &mut Data, entries: &[Entry])
     requires { length out.old + length (entries_bytes entries.now) ≤ 30 }
     ensures written { out.new ≡ out.old ++ entries_bytes entries.now }
-    ensures within { Each IsWithin entries.now }
+    ensures within { AllByRecursion IsWithin entries.now }
 {
     for entry in entries {
         put_entry(out, entry);
@@ -150,9 +142,9 @@ impl Fib {
     pub fn begin_fig(&mut self, head: Head, len: usize)
         requires ext { head.ext < 32 }
         requires room { length self.old + 2 + len ≤ 30 }
-        ensures { self.new ≡ self.old ++ (1 + len) ∷ byte_of_head head ∷ [] }
+        ensures { self.new ≡ self.old ++ (1 + len) ∷ head_byte head ∷ [] }
     {
-        self.bytes.push_two(1 + len as u8, head_byte(head));
+        self.bytes.push_two(1 + len as u8, head::encode(head));
     }
 
     /// Makes the FIG that begins at a place of the data bytes this many bytes longer: those of an entry that the caller

@@ -4,10 +4,10 @@
 //! occurrence change 8. That `encode` and `decode` agree is the contract of `decode`: what it gives is encoded as
 //! these bytes, and is the only one that is.
 
-ghost use Rattle.std.specs.Prelude.{◌≡◌, ◌+◌, ◌*◌, ◌≤◌, ◌++◌, if◌then◌else◌, length, get_or};
+ghost use Rattle.std.specs.Prelude.{◌≡◌, ◌+◌, ◌*◌, ◌/◌, ◌%◌, ◌≤◌, ◌++◌, if◌then◌else◌, length, get_or};
 ghost use Rattle.fib_codec.specs.Grammar.{ensemble_len, IsCounted};
 ghost use Rattle.fib_codec.specs.Ranges.{IsEnsembleInformation};
-ghost use Rattle.fib_codec.specs.Spelling.{ensemble_bytes};
+ghost use Rattle.fib_codec.specs.Spelling.{bit_of, ensemble_bytes};
 ghost use Rattle.mux_entries.specs.Entries.{EnsembleInformation};
 
 use crate::bytes::{byte_at, u16_at, u16_of};
@@ -53,6 +53,22 @@ pub fn eid_at(bytes: &[u8]) -> u16
     u16_at(bytes, 0)
 }
 
+/// The third byte of the entry: the change flags, Al, and the high part of the CIF count.
+pub fn third_byte(ensemble: Ensemble) -> u8
+    ensures { result ≡ ensemble.change * 64 + bit_of ensemble.al * 32 + ensemble.count / 250 }
+{
+    let high = (ensemble.count() / COUNT_LOW_RANGE) as u8;
+    let al = (u8::from(ensemble.al()) << AL_SHIFT) | high;
+    (ensemble.change() << CHANGE_SHIFT) | al
+}
+
+/// The fourth byte of the entry: the low part of the CIF count.
+pub fn fourth_byte(ensemble: Ensemble) -> u8
+    ensures { result ≡ ensemble.count % 250 }
+{
+    (ensemble.count() % COUNT_LOW_RANGE) as u8
+}
+
 /// Appends the entry.
 pub(crate) fn encode(out: &mut Data, ensemble: Ensemble)
     requires { length out.old + length (ensemble_bytes ensemble) ≤ 30 }
@@ -60,11 +76,8 @@ pub(crate) fn encode(out: &mut Data, ensemble: Ensemble)
     ensures within { IsEnsembleInformation ensemble }
 {
     out.push_u16(ensemble.eid());
-    let count = ensemble.count();
-    let high = (count / COUNT_LOW_RANGE) as u8;
-    let al = (u8::from(ensemble.al()) << AL_SHIFT) | high;
-    out.push((ensemble.change() << CHANGE_SHIFT) | al);
-    out.push((count % COUNT_LOW_RANGE) as u8);
+    out.push(third_byte(ensemble));
+    out.push(fourth_byte(ensemble));
     match ensemble.occurrence() {
         Some(low) => out.push(low),
         None => {}

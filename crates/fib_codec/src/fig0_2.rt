@@ -9,7 +9,8 @@ ghost use Rattle.byteorder.specs.Endian.{big_bytes};
 ghost use Rattle.fib_codec.specs.Grammar.{service_len};
 ghost use Rattle.fib_codec.specs.Ranges.{IsComponentEntry, IsServiceEntry};
 ghost use Rattle.fib_codec.specs.Spelling.{bit_of, sid_size, sid_bytes, is_long_sid, component_word, components_bytes, service_bytes};
-ghost use Rattle.mux_types.specs.Configuration.{Each, IsSid};
+ghost use Rattle.mux_types.specs.Configuration.{IsSid};
+ghost use Rattle.std.specs.List.{AllByRecursion};
 ghost use Rattle.mux_entries.specs.declared.entry.ServiceEntry.{ServiceEntry as Entry};
 
 use crate::bytes::{byte_at, u16_at, u16_of, u32_of};
@@ -179,7 +180,7 @@ pub(crate) fn encode_component(out: &mut Data, component: ComponentEntry)
 fn encode_components(out: &mut Data, components: &[ComponentEntry])
     requires { length out.old + 2 * length components.now ≤ 30 }
     ensures written { out.new ≡ out.old ++ components_bytes components.now }
-    ensures within { Each IsComponentEntry components.now }
+    ensures within { AllByRecursion IsComponentEntry components.now }
 {
     for component in components {
         encode_component(out, *component);
@@ -237,7 +238,7 @@ fn decode_components(components: &mut BoundedVec<ComponentEntry, 15>, bytes: &[u
     requires even { length bytes.now % 2 ≡ 0 }
     ensures spelled { bytes.now ≡ components_bytes components.new }
     ensures count { length bytes.now ≡ 2 * length components.new }
-    ensures within { Each IsComponentEntry components.new }
+    ensures within { AllByRecursion IsComponentEntry components.new }
 {
     let mut rest = bytes;
     while rest.len() >= COMPONENT_LEN {

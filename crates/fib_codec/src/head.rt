@@ -1,4 +1,20 @@
-//! The head that the entries of one FIG share.
+//! The head that the entries of one FIG share (EN 300 401 clause 5.2.2.1): the layout of the second byte of a FIG of
+//! type 0, C/N 1, OE 1, P/D 1, extension 5.
+
+ghost use Rattle.std.specs.Prelude.{◌≡◌, ◌<◌, ◌%◌};
+ghost use Rattle.fib_codec.specs.Grammar.{is_next, is_open, is_long};
+ghost use Rattle.fib_codec.specs.Spelling.{head_byte};
+
+const NEXT_SHIFT: u32 = 7;
+
+const OE_SHIFT: u32 = 6;
+
+const LONG_SHIFT: u32 = 5;
+
+const EXT_MASK: u8 = 0x1f;
+
+/// The extensions that are looked into are those below this one: FIG 0/0 to 0/3.
+const FIRST_OTHER_EXT: u8 = 4;
 
 /// The second byte of a FIG of type 0 (EN 300 401 clause 5.2.2.1): what holds of all entries in it.
 #[derive(Clone, Copy, Debug, PartialEq, Eq)]
@@ -11,4 +27,45 @@ pub struct Head {
     pub long: bool,
     /// The extension, 0 to 31.
     pub ext: u8,
+}
+
+/// The second byte of a FIG with this head.
+pub(crate) fn encode(head: Head) -> u8
+    requires { head.ext < 32 }
+    ensures { result ≡ head_byte head }
+{
+    let long = (u8::from(head.long) << LONG_SHIFT) | head.ext;
+    let oe = (u8::from(head.oe) << OE_SHIFT) | long;
+    (u8::from(head.next) << NEXT_SHIFT) | oe
+}
+
+/// The C/N flag of this second byte.
+pub fn next_of(second: u8) -> bool
+    ensures { result ≡ is_next second }
+{
+    second >> NEXT_SHIFT == 1
+}
+
+/// Whether this second byte says OE 0 and an extension from 0 to 3.
+pub fn is_open_of(second: u8) -> bool
+    ensures { result ≡ is_open second }
+{
+    if (second >> OE_SHIFT) & 1 == 1 {
+        return false;
+    }
+    second & EXT_MASK < FIRST_OTHER_EXT
+}
+
+/// The P/D flag of this second byte.
+pub fn is_long_of(second: u8) -> bool
+    ensures { result ≡ is_long second }
+{
+    (second >> LONG_SHIFT) & 1 == 1
+}
+
+/// The extension of this second byte, 0 to 31.
+pub fn ext_of(second: u8) -> u8
+    ensures { result ≡ second % 32 }
+{
+    second & EXT_MASK
 }

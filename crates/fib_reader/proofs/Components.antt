@@ -1,7 +1,7 @@
 -- The components of a service, read back from their entries.
 use Rattle.std.proofs.Common.{◌≡◌, ◌≢◌, ℕ, zero, suc, ◌<◌, ◌==◌, ◌++◌, Bool, true, false, List, [], ◌∷◌, length, map, take, get_or, refl, ap, sym, ◌∙◌, arith}
 use Rattle.std.specs.Prelude.{◌||◌}
-use Rattle.std.specs.List.{list_any}
+use Rattle.std.specs.List.{list_any, AllByRecursion}
 use Rattle.std.proofs.lemmas.List.{take-map, length-map, get_or-map}
 use Rattle.std.proofs.lemmas.Bool.{eqb-true, eq-eqb, ne_eqb}
 use Rattle.mux_types.specs.declared.parts.Component.{Component}
@@ -10,7 +10,7 @@ use Rattle.mux_types.specs.declared.parts.Carrier.{Carrier}
 use Rattle.mux_types.specs.declared.parts.Carrier.TheVariants.{Sub as BySub, Packet as ByPacket}
 use Rattle.mux_entries.specs.declared.entry.ComponentEntry.{ComponentEntry}
 use Rattle.mux_entries.specs.declared.entry.ComponentEntry.TheVariants.{Sound as SoundOf, Stream as StreamOf, Other, Packet as PacketsOf}
-use Rattle.mux_config.specs.Configuration.{Each, AreDifferent, carrier_of, IsComponent}
+use Rattle.mux_config.specs.Configuration.{AreDifferent, carrier_of, IsComponent}
 use Rattle.mux_config.specs.Sameness.{names, is_same_carrier}
 use Rattle.mux_entries.specs.Facts.{component_entry, component_entries}
 
@@ -28,11 +28,11 @@ component_entries-more (x ∷ xs) c =
     ap (λ t. component_entry true x ∷ t) (entries_more xs c)
     ∙ ap (λ b. component_entry true x ∷ (map (component_entry false) xs ++ component_entry b c ∷ [])) (sym other)
 
-each_more : (P : Component → Type 0) (cs : List Component) (c : Component) → Each P cs → P c → Each P (cs ++ c ∷ [])
+each_more : (P : Component → Type 0) (cs : List Component) (c : Component) → AllByRecursion P cs → P c → AllByRecursion P (cs ++ c ∷ [])
 each_more P [] c all one = (one, tt)
 each_more P (x ∷ xs) c all one = (all.0, each_more P xs c all.1 one)
 
-pub members_more : (cs : List Component) (c : Component) → Each IsComponent cs → IsComponent c → Each IsComponent (cs ++ c ∷ [])
+pub members_more : (cs : List Component) (c : Component) → AllByRecursion IsComponent cs → IsComponent c → AllByRecursion IsComponent (cs ++ c ∷ [])
 members_more cs c all one = each_more IsComponent cs c all one
 
 same_carrier : (a b : Carrier) → a ≡ b → is_same_carrier a b ≡ true
@@ -63,7 +63,7 @@ different_more (x ∷ xs) c all unnamed =
     )
 
 -- a carrier that is named before its place is named twice
-named_at : (a : Component) (xs : List Component) (j : ℕ) (d : Component) → Each (λ y. carrier_of a ≢ carrier_of y) xs → j < length xs
+named_at : (a : Component) (xs : List Component) (j : ℕ) (d : Component) → AllByRecursion (λ y. carrier_of a ≢ carrier_of y) xs → j < length xs
     → carrier_of a ≢ carrier_of (get_or xs j d)
 named_at a [] j d all inside = absurd (omega arith)
 named_at a (x ∷ xs) zero d all inside = all.0

@@ -4,7 +4,7 @@ use Rattle.std.specs.Prelude.{◌&&◌}
 use Rattle.std.proofs.lemmas.Bool.{ltb-false, ltb-true, cases_lt, eq-eqb, ne_eqb, eqb-true, eqb-false}
 use Rattle.std.proofs.lemmas.List.{take-append-drop, length-take-le, length-append, append-nil}
 use Rattle.std.proofs.Math.Seq.{take-append_seam, drop-append_seam}
-use Rattle.mux_config.specs.Configuration.{Each}
+use Rattle.std.specs.List.{AllByRecursion}
 use Rattle.fib_codec.specs.Grammar.{Fig, Open, Other, entry_len, ensemble_len, sub_len, packet_len, AreEntries, IsCounted, IsBody, IsOther, IsFig, AreFigs, is_open, is_long, fig_spelled}
 use Rattle.fib_reader.specs.FirstFault.{entries_fault, ensemble_fault, body_fault, entry_at_fault, fig_fault, figs_fault, or_else}
 use Rattle.fib_reader.specs.declared.fault.FibFault.{FibFault}
@@ -237,28 +237,28 @@ sound_at :
     (b : Bool) (n place h : ℕ) (bs : List ℕ) → (h == 255) ≡ b
     → cond b None (or_else (fig_fault place h bs) (figs_fault n (place + 1 + h % 32) (drop (h % 32) bs))) ≡ None
     → (figs_fault n (place + 1 + h % 32) (drop (h % 32) bs) ≡ None
-    → Each IsWholeFig (pieces_of (drop (h % 32) bs)) × AreFigs (drop (h % 32) bs) (figs_of_bytes (drop (h % 32) bs)))
-    → Each IsWholeFig (pieces_of (h ∷ bs)) × AreFigs (h ∷ bs) (figs_of_bytes (h ∷ bs))
+    → AllByRecursion IsWholeFig (pieces_of (drop (h % 32) bs)) × AreFigs (drop (h % 32) bs) (figs_of_bytes (drop (h % 32) bs)))
+    → AllByRecursion IsWholeFig (pieces_of (h ∷ bs)) × AreFigs (h ∷ bs) (figs_of_bytes (h ∷ bs))
 sound_at true n place h bs is none more =
     let marker : h ≡ 255 = eqb-true h 255 is in
-    subst (λ (ps : List (List ℕ)). Each IsWholeFig ps × AreFigs (h ∷ bs) (map fig_of_bytes ps)) (sym (pieces_at_marker h bs marker))
+    subst (λ (ps : List (List ℕ)). AllByRecursion IsWholeFig ps × AreFigs (h ∷ bs) (map fig_of_bytes ps)) (sym (pieces_at_marker h bs marker))
     (tt, inr (bs, ap (λ x. x ∷ bs) marker))
 sound_at false n place h bs is none more =
     let no_marker : h ≢ 255 = eqb-false h 255 is in
     let both = no_first (fig_fault place h bs) _ none in
     let one = sound_fig place h bs no_marker both.0 in
     let rest = more both.1 in
-    subst (λ (ps : List (List ℕ)). Each IsWholeFig ps × AreFigs (h ∷ bs) (map fig_of_bytes ps)) (sym (first_piece h bs no_marker)) (
+    subst (λ (ps : List (List ℕ)). AllByRecursion IsWholeFig ps × AreFigs (h ∷ bs) (map fig_of_bytes ps)) (sym (first_piece h bs no_marker)) (
       (one.1, rest.0),
       (h ∷ take (h % 32) bs, drop (h % 32) bs, ap (λ x. h ∷ x) (sym (take-append-drop (h % 32) bs)), one.1, rest.1),
     )
 
 pub sound_figs :
     (n place : ℕ) (bytes : List ℕ) → length bytes ≤ n → figs_fault n place bytes ≡ None
-    → Each IsWholeFig (pieces_of bytes) × AreFigs bytes (figs_of_bytes bytes)
+    → AllByRecursion IsWholeFig (pieces_of bytes) × AreFigs bytes (figs_of_bytes bytes)
 unfolding figs_fault
 sound_figs n place [] enough none =
-    subst (λ (ps : List (List ℕ)). Each IsWholeFig ps × AreFigs [] (map fig_of_bytes ps)) (sym no_pieces) (tt, inl refl)
+    subst (λ (ps : List (List ℕ)). AllByRecursion IsWholeFig ps × AreFigs [] (map fig_of_bytes ps)) (sym no_pieces) (tt, inl refl)
 sound_figs zero place (h ∷ bs) enough none = absurd (omega arith)
 sound_figs (suc n) place (h ∷ bs) enough none =
     let fewer : length (drop (h % 32) bs) ≡ length bs - h % 32 = length-drop (h % 32) bs in
@@ -419,7 +419,7 @@ entry_len-flag ext long bytes =
 
 raw_each :
     (ext : ℕ) (long : Bool) (bytes : List ℕ) (es : List (List ℕ)) → ext < 4 → AreEntries ext long bytes es
-    → (ext ≡ 0 → Each IsCounted es) → AreRaw (map (raw_of ext long) es)
+    → (ext ≡ 0 → AllByRecursion IsCounted es) → AreRaw (map (raw_of ext long) es)
 raw_each ext long bytes [] low are counted = tt
 raw_each ext long bytes (e ∷ es) low are counted = (
   record {
@@ -443,7 +443,7 @@ raw_fig bytes second es h =
     raw_each (second % 32) (is_long second) h.0 es low h.4.0
     (λ zero_ext.
     let alone = h.4.1 zero_ext in
-    subst (Each IsCounted) (sym alone.1) (alone.2, tt))
+    subst (AllByRecursion IsCounted) (sym alone.1) (alone.2, tt))
 
 -- ---- the walk
 

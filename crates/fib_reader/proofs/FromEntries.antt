@@ -11,7 +11,8 @@ use Rattle.mux_types.specs.declared.parts.Component.TheVariants.{Sound, Stream, 
 use Rattle.mux_entries.specs.declared.entry.Entry.{Entry}
 use Rattle.mux_types.specs.declared.numbers.Sid.{Sid}
 use Rattle.mux_types.specs.declared.numbers.Sid.TheVariants.{Short, Long}
-use Rattle.mux_config.specs.Configuration.{Each, IsAscending, IsPlaced, IsService, IsAddressed, IsComponent, IsSid, sub_key, sid_key, service_key, packet_key, component_limit}
+use Rattle.mux_config.specs.Configuration.{IsAscending, IsPlaced, IsService, IsAddressed, IsComponent, IsSid, sub_key, sid_key, service_key, packet_key, component_limit}
+use Rattle.std.specs.List.{AllByRecursion}
 use Rattle.mux_entries.specs.Facts.{sub_entry, service_entry, packet_entry, component_entry, component_entries, option_of}
 use Rattle.fib_codec.specs.Ranges.{IsWithin, IsComponentEntry}
 use Rattle.fib_codec.specs.Spelling.{SpellingTells}
@@ -41,11 +42,11 @@ component_within primary (Sound ty sub) h = h
 component_within primary (Stream ty sub) h = h
 component_within primary (InPackets scid) h = h
 
-others_within : (cs : List Component) → Each IsComponent cs → Each IsComponentEntry (map (component_entry false) cs)
+others_within : (cs : List Component) → AllByRecursion IsComponent cs → AllByRecursion IsComponentEntry (map (component_entry false) cs)
 others_within [] h = tt
 others_within (c ∷ cs) h = (component_within false c h.0, others_within cs h.1)
 
-components_within : (cs : List Component) → Each IsComponent cs → Each IsComponentEntry (component_entries cs)
+components_within : (cs : List Component) → AllByRecursion IsComponent cs → AllByRecursion IsComponentEntry (component_entries cs)
 components_within [] h = tt
 components_within (c ∷ cs) h = (component_within true c h.0, others_within cs h.1)
 
@@ -77,14 +78,14 @@ packet_identified p h = let named = h.named in omega arith
 
 -- ---- members in the order of their entries
 
-each_at : (P : Raw → Type 0) (xs : List Raw) (i : ℕ) (d : Raw) → Each P xs → i < length xs → P (get_or xs i d)
+each_at : (P : Raw → Type 0) (xs : List Raw) (i : ℕ) (d : Raw) → AllByRecursion P xs → i < length xs → P (get_or xs i d)
 each_at P [] i d all inside = absurd (omega arith)
 each_at P (x ∷ xs) zero d all inside = all.0
 each_at P (x ∷ xs) (suc j) d all inside = each_at P xs j d all.1 (omega arith)
 
 ascending_front :
     (kept : List Raw) (i : ℕ) (d : Raw) → IsAscending identifier_of kept → i < length kept
-    → Each (λ raw. identifier_of raw < identifier_of (get_or kept i d)) (take i kept)
+    → AllByRecursion (λ raw. identifier_of raw < identifier_of (get_or kept i d)) (take i kept)
 ascending_front [] i d up inside = absurd (omega arith)
 ascending_front (k ∷ ks) zero d up inside = tt
 ascending_front (k ∷ ks) (suc j) d up inside =
@@ -92,26 +93,26 @@ ascending_front (k ∷ ks) (suc j) d up inside =
 
 keys_below :
     {T : Type 0} (key : T → ℕ) (f : T → Raw) (P : T → Type 0) (table : List T) (n : ℕ)
-    → ((y : T) → P y → identifier_of (f y) ≡ key y) → Each P table → Each (λ raw. identifier_of raw < n) (map f table)
-    → Each (λ y. key y < n) table
+    → ((y : T) → P y → identifier_of (f y) ≡ key y) → AllByRecursion P table → AllByRecursion (λ raw. identifier_of raw < n) (map f table)
+    → AllByRecursion (λ y. key y < n) table
 keys_below key f P [] n same all below = tt
 keys_below key f P (y ∷ ys) n same all below =
     (subst (λ (k : ℕ). k < n) (same y all.0) below.0, keys_below key f P ys n same all.1 below.1)
 
 pub above_all :
     {T : Type 0} (key : T → ℕ) (f : T → Raw) (P : T → Type 0) (table : List T) (kept : List Raw) (i : ℕ) (x : T) (raw : Raw)
-    → ((y : T) → P y → identifier_of (f y) ≡ key y) → Each P table → P x → map f table ≡ take i kept → i < length kept
-    → raw ≡ get_or kept i raw → f x ≡ raw → IsAscending identifier_of kept → Each (λ y. key y < key x) table
+    → ((y : T) → P y → identifier_of (f y) ≡ key y) → AllByRecursion P table → P x → map f table ≡ take i kept → i < length kept
+    → raw ≡ get_or kept i raw → f x ≡ raw → IsAscending identifier_of kept → AllByRecursion (λ y. key y < key x) table
 above_all key f P table kept i x raw same all one so_far inside is says up =
-    let front : Each (λ r. identifier_of r < identifier_of (get_or kept i raw)) (map f table) =
-    subst (Each (λ r. identifier_of r < identifier_of (get_or kept i raw))) (sym so_far) (ascending_front kept i raw up inside) in
+    let front : AllByRecursion (λ r. identifier_of r < identifier_of (get_or kept i raw)) (map f table) =
+    subst (AllByRecursion (λ r. identifier_of r < identifier_of (get_or kept i raw))) (sym so_far) (ascending_front kept i raw up inside) in
     let top : identifier_of (get_or kept i raw) ≡ key x = ap identifier_of (sym (says ∙ is)) ∙ same x one in
     keys_below key f P table (key x) same all
-    (subst (λ (n : ℕ). Each (λ r. identifier_of r < n) (map f table)) top front)
+    (subst (λ (n : ℕ). AllByRecursion (λ r. identifier_of r < n) (map f table)) top front)
 
 -- where members say all entries, one says each
 member_at :
-    {T : Type 0} (f : T → Raw) (P : T → Type 0) (xs : List T) (i : ℕ) (d : Raw) → Each P xs → i < length xs
+    {T : Type 0} (f : T → Raw) (P : T → Type 0) (xs : List T) (i : ℕ) (d : Raw) → AllByRecursion P xs → i < length xs
     → (x : T) × P x × (f x ≡ get_or (map f xs) i d)
 member_at f P [] i d all inside = absurd (omega arith)
 member_at f P (x ∷ xs) zero d all inside = (x, all.0, refl)
@@ -120,7 +121,7 @@ member_at f P (x ∷ xs) (suc j) d all inside = member_at f P xs j d all.1 (omeg
 pub none_says :
     {T : Type 0} (entry_of : T → Entry) (P : T → Type 0) (xs : List T) (kept : List Raw) (i : ℕ) (raw : Raw) (e : Entry)
     → SpellingTells → ((x : T) → P x → IsWithin (entry_of x)) → ((x : T) → P x → entry_of x ≡ e → ⊥)
-    → Each P xs → map (λ x. raw_entry (entry_of x)) xs ≡ kept → i < length kept → raw ≡ get_or kept i raw
+    → AllByRecursion P xs → map (λ x. raw_entry (entry_of x)) xs ≡ kept → i < length kept → raw ≡ get_or kept i raw
     → raw ≡ raw_entry e → IsWithin e → ⊥
 none_says entry_of P xs kept i raw e tells within none all says inside is spelled fits =
     let size : length xs ≡ length kept = sym (length-map xs (λ x. raw_entry (entry_of x))) ∙ ap length says in

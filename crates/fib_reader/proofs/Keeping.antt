@@ -2,7 +2,8 @@
 use Rattle.std.proofs.Common.{◌≡◌, ◌≢◌, ℕ, zero, suc, ◌+◌, ◌-◌, ◌<◌, ◌≤◌, ◌==◌, ◌++◌, Bool, true, false, cond, nat_lt, List, [], ◌∷◌, length, get_or, Option, Some, None, is_some, inl, inr, refl, ap, sym, ◌∙◌, subst, lt-ltb, le-ltb, arith}
 use Rattle.std.specs.Prelude.{◌||◌}
 use Rattle.std.proofs.lemmas.Bool.{cases_lt, eq-eqb, ne_eqb}
-use Rattle.mux_config.specs.Configuration.{Each, IsAscending}
+use Rattle.mux_config.specs.Configuration.{IsAscending}
+use Rattle.std.specs.List.{AllByRecursion}
 use Rattle.mux_config.specs.Tables.{entry_at, with_entry, with_entry_changed, has_entry}
 use Rattle.std.specs.Prelude.{slice_get, IfSome, IfNone}
 use Rattle.std.proofs.Common.{take}
@@ -38,7 +39,7 @@ no_room raw raws known full = ap (λ b. b || nat_lt (length raws) 64) known ∙ 
 
 -- a property of each entry stays one
 each_changed :
-    (P : Raw → Type 0) (raw : Raw) (raws : List Raw) → P raw → Each P raws → Each P (with_entry_changed identifier_of raw raws)
+    (P : Raw → Type 0) (raw : Raw) (raws : List Raw) → P raw → AllByRecursion P raws → AllByRecursion P (with_entry_changed identifier_of raw raws)
 each_changed P raw [] one all = tt
 each_changed P raw (x ∷ xs) one all = (chosen (identifier_of x == identifier_of raw), each_changed P raw xs one all.1)
   where
@@ -46,35 +47,35 @@ each_changed P raw (x ∷ xs) one all = (chosen (identifier_of x == identifier_o
     chosen true = one
     chosen false = all.0
 
-each_added : (P : Raw → Type 0) (raw : Raw) (raws : List Raw) → P raw → Each P raws → Each P (with_entry identifier_of raw raws)
+each_added : (P : Raw → Type 0) (raw : Raw) (raws : List Raw) → P raw → AllByRecursion P raws → AllByRecursion P (with_entry identifier_of raw raws)
 each_added P raw [] one all = (one, tt)
 each_added P raw (x ∷ xs) one all =
     let more = each_added P raw xs one all.1 in
-    elim (nat_lt (identifier_of raw) (identifier_of x)) as (λ b. Each P (cond b (raw ∷ x ∷ xs) (x ∷ with_entry identifier_of raw xs))) [
+    elim (nat_lt (identifier_of raw) (identifier_of x)) as (λ b. AllByRecursion P (cond b (raw ∷ x ∷ xs) (x ∷ with_entry identifier_of raw xs))) [
       | true ↦ (one, all)
       | false ↦ (all.0, more)
     ]
 
-pub each_kept : (P : Raw → Type 0) (raw : Raw) (raws : List Raw) → P raw → Each P raws → Each P (kept raw raws)
+pub each_kept : (P : Raw → Type 0) (raw : Raw) (raws : List Raw) → P raw → AllByRecursion P raws → AllByRecursion P (kept raw raws)
 each_kept P raw raws one all = chosen (is_known raw raws)
   where
-    chosen : (b : Bool) → Each P (cond b (with_entry_changed identifier_of raw raws) (with_entry identifier_of raw raws))
+    chosen : (b : Bool) → AllByRecursion P (cond b (with_entry_changed identifier_of raw raws) (with_entry identifier_of raw raws))
     chosen true = each_changed P raw raws one all
     chosen false = each_added P raw raws one all
 
 -- ---- sixty-four sub-channels are all there are
 
-each_weaker : (P Q : Raw → Type 0) (xs : List Raw) → ((x : Raw) → P x → Q x) → Each P xs → Each Q xs
+each_weaker : (P Q : Raw → Type 0) (xs : List Raw) → ((x : Raw) → P x → Q x) → AllByRecursion P xs → AllByRecursion Q xs
 each_weaker P Q [] f all = tt
 each_weaker P Q (x ∷ xs) f all = (f x all.0, each_weaker P Q xs f all.1)
 
 -- this many numbers fit between two
 few_between :
-    (low high : ℕ) (xs : List Raw) → IsAscending identifier_of xs → Each (λ x. low ≤ identifier_of x) xs
-    → Each (λ x. identifier_of x < high) xs → length xs ≤ high - low
+    (low high : ℕ) (xs : List Raw) → IsAscending identifier_of xs → AllByRecursion (λ x. low ≤ identifier_of x) xs
+    → AllByRecursion (λ x. identifier_of x < high) xs → length xs ≤ high - low
 few_between low high [] up from below = omega arith
 few_between low high (x ∷ xs) up from below =
-    let above : Each (λ y. identifier_of x + 1 ≤ identifier_of y) xs =
+    let above : AllByRecursion (λ y. identifier_of x + 1 ≤ identifier_of y) xs =
     each_weaker (λ y. identifier_of x < identifier_of y) (λ y. identifier_of x + 1 ≤ identifier_of y) xs (λ y lt. omega arith) up.0 in
     let more : length xs ≤ high - (identifier_of x + 1) = few_between (identifier_of x + 1) high xs up.1 above below.1 in
     let one : low ≤ identifier_of x = from.0 in
@@ -83,12 +84,12 @@ few_between low high (x ∷ xs) up from below =
 
 -- where they all are there, each is
 all_there :
-    (low high k : ℕ) (xs : List Raw) → IsAscending identifier_of xs → Each (λ x. low ≤ identifier_of x) xs
-    → Each (λ x. identifier_of x < high) xs → high - low ≤ length xs → low ≤ k → k < high
+    (low high k : ℕ) (xs : List Raw) → IsAscending identifier_of xs → AllByRecursion (λ x. low ≤ identifier_of x) xs
+    → AllByRecursion (λ x. identifier_of x < high) xs → high - low ≤ length xs → low ≤ k → k < high
     → has_entry identifier_of k xs ≡ true
 all_there low high k [] up from below full at_least under = absurd (omega arith)
 all_there low high k (x ∷ xs) up from below full at_least under =
-    let above : Each (λ y. identifier_of x + 1 ≤ identifier_of y) xs =
+    let above : AllByRecursion (λ y. identifier_of x + 1 ≤ identifier_of y) xs =
     each_weaker (λ y. identifier_of x < identifier_of y) (λ y. identifier_of x + 1 ≤ identifier_of y) xs (λ y lt. omega arith) up.0 in
     let few : length xs ≤ high - (identifier_of x + 1) = few_between (identifier_of x + 1) high xs up.1 above below.1 in
     let one : low ≤ identifier_of x = from.0 in
@@ -103,12 +104,12 @@ all_there low high k (x ∷ xs) up from below full at_least under =
     ]
 
 pub room_for_subs :
-    (raw : Raw) (raws : List Raw) → IsAscending identifier_of raws → Each (λ x. (x.ext ≡ 1) × (identifier_of x < 64)) raws
+    (raw : Raw) (raws : List Raw) → IsAscending identifier_of raws → AllByRecursion (λ x. (x.ext ≡ 1) × (identifier_of x < 64)) raws
     → identifier_of raw < 64 → has_room raw raws ≡ true
 room_for_subs raw raws up all one =
-    let below : Each (λ x. identifier_of x < 64) raws =
+    let below : AllByRecursion (λ x. identifier_of x < 64) raws =
     each_weaker (λ x. (x.ext ≡ 1) × (identifier_of x < 64)) (λ x. identifier_of x < 64) raws (λ x h. h.1) all in
-    let from : Each (λ x. 0 ≤ identifier_of x) raws =
+    let from : AllByRecursion (λ x. 0 ≤ identifier_of x) raws =
     each_weaker (λ x. identifier_of x < 64) (λ x. 0 ≤ identifier_of x) raws (λ x h. omega arith) below in
     elim (cases_lt (length raws) 64) [
       | inl few ↦ room_for_new raw raws few
@@ -168,21 +169,21 @@ copied_front n xs ys zs len same =
     ap (λ x. take n (x ++ ys)) same ∙ ap (λ k. take k (zs ++ ys)) (sym len) ∙ take-append_seam zs ys
 
 pub each_after :
-    (P : Raw → Type 0) (raw : Raw) (old new : List Raw) (b : Bool) → P raw → Each P old → (b ≡ true → new ≡ kept raw old)
-    → (b ≡ false → new ≡ old) → Each P new
-each_after P raw old new true one all taken refused = subst (Each P) (sym (taken refl)) (each_kept P raw old one all)
-each_after P raw old new false one all taken refused = subst (Each P) (sym (refused refl)) all
+    (P : Raw → Type 0) (raw : Raw) (old new : List Raw) (b : Bool) → P raw → AllByRecursion P old → (b ≡ true → new ≡ kept raw old)
+    → (b ≡ false → new ≡ old) → AllByRecursion P new
+each_after P raw old new true one all taken refused = subst (AllByRecursion P) (sym (taken refl)) (each_kept P raw old one all)
+each_after P raw old new false one all taken refused = subst (AllByRecursion P) (sym (refused refl)) all
 
 -- ---- an entry that is there already
 
-unchanged_above : (raw : Raw) (raws : List Raw) → Each (λ x. identifier_of raw < identifier_of x) raws → with_entry_changed identifier_of raw raws ≡ raws
+unchanged_above : (raw : Raw) (raws : List Raw) → AllByRecursion (λ x. identifier_of raw < identifier_of x) raws → with_entry_changed identifier_of raw raws ≡ raws
 unchanged_above raw [] above = refl
 unchanged_above raw (x ∷ xs) above =
     let other : identifier_of x ≢ identifier_of raw = (let lt = above.0 in λ e. omega arith) in
     ap (λ b. cond b raw x ∷ with_entry_changed identifier_of raw xs) (ne_eqb (identifier_of x) (identifier_of raw) other)
     ∙ ap (λ t. x ∷ t) (unchanged_above raw xs above.1)
 
-each_found : (P : Raw → Type 0) (raws : List Raw) (place : ℕ) (raw : Raw) → Each P raws → slice_get raws place ≡ Some raw → P raw
+each_found : (P : Raw → Type 0) (raws : List Raw) (place : ℕ) (raw : Raw) → AllByRecursion P raws → slice_get raws place ≡ Some raw → P raw
 each_found P [] place raw all found = absurd (cc)
 each_found P (x ∷ xs) zero raw all found = let same : x ≡ raw = (cc) in subst P same all.0
 each_found P (x ∷ xs) (suc i) raw all found = each_found P xs i raw all.1 found
@@ -194,7 +195,7 @@ changed_for_same raw [] place up found = refl
 changed_for_same raw (x ∷ xs) zero up found =
     let same : x ≡ raw = (cc) in
     ap (λ b. cond b raw x ∷ with_entry_changed identifier_of raw xs) (eq-eqb (identifier_of x) (identifier_of raw) (ap identifier_of same))
-    ∙ ap (λ t. raw ∷ t) (unchanged_above raw xs (subst (λ (y : Raw). Each (λ z. identifier_of y < identifier_of z) xs) same up.0))
+    ∙ ap (λ t. raw ∷ t) (unchanged_above raw xs (subst (λ (y : Raw). AllByRecursion (λ z. identifier_of y < identifier_of z) xs) same up.0))
     ∙ ap (λ y. y ∷ xs) (sym same)
 changed_for_same raw (x ∷ xs) (suc i) up found =
     let less : identifier_of x < identifier_of raw = each_found (λ y. identifier_of x < identifier_of y) xs i raw up.0 found in
@@ -216,7 +217,7 @@ kept_where_found raw raws place up found =
 
 -- ---- look-ups in an ascending list
 
-each_at : (P : Raw → Type 0) (raws : List Raw) (place : ℕ) (d : Raw) → Each P raws → place < length raws → P (get_or raws place d)
+each_at : (P : Raw → Type 0) (raws : List Raw) (place : ℕ) (d : Raw) → AllByRecursion P raws → place < length raws → P (get_or raws place d)
 each_at P [] place d all inside = absurd (omega arith)
 each_at P (x ∷ xs) zero d all inside = all.0
 each_at P (x ∷ xs) (suc i) d all inside = each_at P xs i d all.1 (omega arith)

@@ -2,7 +2,8 @@
 use Rattle.std.proofs.Common.{◌≡◌, ◌≢◌, ℕ, ◌<◌, ◌≤◌, false, List, [], ◌∷◌, ◌++◌, length, map, append_assoc, refl, ap, sym, ◌∙◌, subst, arith}
 use Rattle.std.proofs.lemmas.List.{length-map, map-append}
 use Rattle.mux_entries.specs.declared.entry.Entry.{Entry}
-use Rattle.mux_config.specs.Configuration.{Configuration, Each, IsAscending, IsConfiguration, IsPlaced, IsService, IsAddressed, sub_key, service_key, packet_key}
+use Rattle.mux_config.specs.Configuration.{Configuration, IsAscending, IsConfiguration, IsPlaced, IsService, IsAddressed, sub_key, service_key, packet_key}
+use Rattle.std.specs.List.{AllByRecursion}
 use Rattle.mux_entries.specs.Facts.{FactsTell, marked, sub_entry, service_entry, packet_entry, sub_entries, service_entries}
 use Rattle.fib_codec.specs.Ranges.{IsWithin}
 use Rattle.fib_codec.specs.Spelling.{SpellingTells}
@@ -13,14 +14,14 @@ use Rattle.fib_reader.proofs.FromEntries.{sub_within, service_within, packet_wit
 
 -- entries of one extension stand before those of others
 split_off :
-    (n : ℕ) (xs xs' ys ys' : List Raw) → Each (λ r. r.ext ≡ n) xs → Each (λ r. r.ext ≡ n) ys → Each (λ r. r.ext ≢ n) xs'
-    → Each (λ r. r.ext ≢ n) ys' → xs ++ xs' ≡ ys ++ ys' → (xs ≡ ys) × (xs' ≡ ys')
+    (n : ℕ) (xs xs' ys ys' : List Raw) → AllByRecursion (λ r. r.ext ≡ n) xs → AllByRecursion (λ r. r.ext ≡ n) ys → AllByRecursion (λ r. r.ext ≢ n) xs'
+    → AllByRecursion (λ r. r.ext ≢ n) ys' → xs ++ xs' ≡ ys ++ ys' → (xs ≡ ys) × (xs' ≡ ys')
 split_off n [] xs' [] ys' p q p' q' h = (refl, h)
 split_off n [] xs' (y ∷ ys) ys' p q p' q' h =
-    let wrong : Each (λ r. r.ext ≢ n) (y ∷ (ys ++ ys')) = subst (Each (λ r. r.ext ≢ n)) h p' in
+    let wrong : AllByRecursion (λ r. r.ext ≢ n) (y ∷ (ys ++ ys')) = subst (AllByRecursion (λ r. r.ext ≢ n)) h p' in
     absurd (wrong.0 q.0)
 split_off n (x ∷ xs) xs' [] ys' p q p' q' h =
-    let wrong : Each (λ r. r.ext ≢ n) (x ∷ (xs ++ xs')) = subst (Each (λ r. r.ext ≢ n)) (sym h) q' in
+    let wrong : AllByRecursion (λ r. r.ext ≢ n) (x ∷ (xs ++ xs')) = subst (AllByRecursion (λ r. r.ext ≢ n)) (sym h) q' in
     absurd (wrong.0 p.0)
 split_off n (x ∷ xs) xs' (y ∷ ys) ys' p q p' q' h =
     let all : x ∷ (xs ++ xs') ≡ y ∷ (ys ++ ys') = h in
@@ -29,15 +30,15 @@ split_off n (x ∷ xs) xs' (y ∷ ys) ys' p q p' q' h =
     let more = split_off n xs xs' ys ys' p.1 q.1 p' q' tails in
     (ap (λ z. z ∷ xs) heads ∙ ap (λ zs. y ∷ zs) more.0, more.1)
 
-each_raw : {T : Type 0} (P : Raw → Type 0) (f : T → Entry) (xs : List T) → ((x : T) → P (raw_entry (f x))) → Each P (map raw_entry (map f xs))
+each_raw : {T : Type 0} (P : Raw → Type 0) (f : T → Entry) (xs : List T) → ((x : T) → P (raw_entry (f x))) → AllByRecursion P (map raw_entry (map f xs))
 each_raw P f [] all = tt
 each_raw P f (x ∷ xs) all = (all x, each_raw P f xs all)
 
-each_both : (P : Raw → Type 0) (xs ys : List Raw) → Each P xs → Each P ys → Each P (xs ++ ys)
+each_both : (P : Raw → Type 0) (xs ys : List Raw) → AllByRecursion P xs → AllByRecursion P ys → AllByRecursion P (xs ++ ys)
 each_both P [] ys p q = q
 each_both P (x ∷ xs) ys p q = (p.0, each_both P xs ys p.1 q)
 
-each_turned : (P Q : Raw → Type 0) (xs : List Raw) → ((x : Raw) → P x → Q x) → Each P xs → Each Q xs
+each_turned : (P Q : Raw → Type 0) (xs : List Raw) → ((x : Raw) → P x → Q x) → AllByRecursion P xs → AllByRecursion Q xs
 each_turned P Q [] f all = tt
 each_turned P Q (x ∷ xs) f all = (f x all.0, each_turned P Q xs f all.1)
 
@@ -65,13 +66,13 @@ shows_each p c is shows =
     let parts : p.subs ++ (p.services ++ p.packets)
     ≡ map raw_entry (map sub_entry c.subs) ++ (map raw_entry (map service_entry c.services) ++ map raw_entry (map packet_entry c.packets)) =
     sym (append_assoc p.subs p.services p.packets) ∙ shows ∙ all_said c in
-    let subs : Each (λ r. r.ext ≡ 1) p.subs = each_turned IsSubOf (λ r. r.ext ≡ 1) p.subs (λ r h. h.0) is.subs in
-    let rest : Each (λ r. r.ext ≢ 1) (p.services ++ p.packets) =
+    let subs : AllByRecursion (λ r. r.ext ≡ 1) p.subs = each_turned IsSubOf (λ r. r.ext ≡ 1) p.subs (λ r h. h.0) is.subs in
+    let rest : AllByRecursion (λ r. r.ext ≢ 1) (p.services ++ p.packets) =
     each_both (λ r. r.ext ≢ 1) p.services p.packets
     (each_turned (λ r. r.ext ≡ 2) (λ r. r.ext ≢ 1) p.services (other_than 2 1 (λ e. omega arith)) is.services)
     (each_turned (λ r. r.ext ≡ 3) (λ r. r.ext ≢ 1) p.packets (other_than 3 1 (λ e. omega arith)) is.packets) in
-    let packets : Each (λ r. r.ext ≢ 2) p.packets = each_turned (λ r. r.ext ≡ 3) (λ r. r.ext ≢ 2) p.packets (other_than 3 2 (λ e. omega arith)) is.packets in
-    let said_rest : Each (λ r. r.ext ≢ 1) (map raw_entry (map service_entry c.services) ++ map raw_entry (map packet_entry c.packets)) =
+    let packets : AllByRecursion (λ r. r.ext ≢ 2) p.packets = each_turned (λ r. r.ext ≡ 3) (λ r. r.ext ≢ 2) p.packets (other_than 3 2 (λ e. omega arith)) is.packets in
+    let said_rest : AllByRecursion (λ r. r.ext ≢ 1) (map raw_entry (map service_entry c.services) ++ map raw_entry (map packet_entry c.packets)) =
     each_both (λ r. r.ext ≢ 1) (map raw_entry (map service_entry c.services)) (map raw_entry (map packet_entry c.packets))
     (each_raw (λ r. r.ext ≢ 1) service_entry c.services (λ x e. omega arith))
     (each_raw (λ r. r.ext ≢ 1) packet_entry c.packets (λ x e. omega arith)) in
@@ -98,23 +99,23 @@ each_shows p c h =
 
 keys_above :
     {T : Type 0} (key : T → ℕ) (f : T → Raw) (P : T → Type 0) (xs : List T) (n : ℕ)
-    → ((y : T) → P y → identifier_of (f y) ≡ key y) → Each P xs → Each (λ raw. n < identifier_of raw) (map f xs)
-    → Each (λ y. n < key y) xs
+    → ((y : T) → P y → identifier_of (f y) ≡ key y) → AllByRecursion P xs → AllByRecursion (λ raw. n < identifier_of raw) (map f xs)
+    → AllByRecursion (λ y. n < key y) xs
 keys_above key f P [] n same all above = tt
 keys_above key f P (y ∷ ys) n same all above =
     (subst (λ (k : ℕ). n < k) (same y all.0) above.0, keys_above key f P ys n same all.1 above.1)
 
 members_ascend :
     {T : Type 0} (key : T → ℕ) (f : T → Raw) (P : T → Type 0) (xs : List T)
-    → ((y : T) → P y → identifier_of (f y) ≡ key y) → Each P xs → IsAscending identifier_of (map f xs) → IsAscending key xs
+    → ((y : T) → P y → identifier_of (f y) ≡ key y) → AllByRecursion P xs → IsAscending identifier_of (map f xs) → IsAscending key xs
 members_ascend key f P [] same all up = tt
 members_ascend key f P (x ∷ xs) same all up = (
-  subst (λ (n : ℕ). Each (λ y. n < key y) xs) (same x all.0) (keys_above key f P xs (identifier_of (f x)) same all.1 up.0),
+  subst (λ (n : ℕ). AllByRecursion (λ y. n < key y) xs) (same x all.0) (keys_above key f P xs (identifier_of (f x)) same all.1 up.0),
   members_ascend key f P xs same all.1 up.1,
 )
 
 pub makes_configuration :
-    (p : Pictured) (c : Configuration) → ShowsEach p c → Each IsPlaced c.subs → Each IsService c.services → Each IsAddressed c.packets
+    (p : Pictured) (c : Configuration) → ShowsEach p c → AllByRecursion IsPlaced c.subs → AllByRecursion IsService c.services → AllByRecursion IsAddressed c.packets
     → IsAscending identifier_of p.subs → IsAscending identifier_of p.services → IsAscending identifier_of p.packets
     → length p.subs ≤ 64 → length p.services ≤ 64 → length p.packets ≤ 64 → IsConfiguration c
 makes_configuration p c h placed formed addressed up_s up_v up_p few_s few_v few_p =
@@ -135,15 +136,15 @@ makes_configuration p c h placed formed addressed up_s up_v up_p few_s few_v few
 
 -- ---- a picture shows one configuration
 
-entries_within : {T : Type 0} (f : T → Entry) (P : T → Type 0) (xs : List T) → ((x : T) → P x → IsWithin (f x)) → Each P xs → Each IsWithin (map f xs)
+entries_within : {T : Type 0} (f : T → Entry) (P : T → Type 0) (xs : List T) → ((x : T) → P x → IsWithin (f x)) → AllByRecursion P xs → AllByRecursion IsWithin (map f xs)
 entries_within f P [] within all = tt
 entries_within f P (x ∷ xs) within all = (within x all.0, entries_within f P xs within all.1)
 
-within_both : (xs ys : List Entry) → Each IsWithin xs → Each IsWithin ys → Each IsWithin (xs ++ ys)
+within_both : (xs ys : List Entry) → AllByRecursion IsWithin xs → AllByRecursion IsWithin ys → AllByRecursion IsWithin (xs ++ ys)
 within_both [] ys p q = q
 within_both (x ∷ xs) ys p q = (p.0, within_both xs ys p.1 q)
 
-facts_within : (c : Configuration) → IsConfiguration c → Each IsWithin (sub_entries c ++ service_entries c)
+facts_within : (c : Configuration) → IsConfiguration c → AllByRecursion IsWithin (sub_entries c ++ service_entries c)
 facts_within c h =
     within_both (map sub_entry c.subs) (map service_entry c.services ++ map packet_entry c.packets)
     (entries_within sub_entry IsPlaced c.subs sub_within h.subs_placed)
@@ -152,7 +153,7 @@ facts_within c h =
     (entries_within packet_entry IsAddressed c.packets packet_within h.packets_addressed))
 
 same_entries :
-    (xs ys : List Entry) → SpellingTells → Each IsWithin xs → Each IsWithin ys → map raw_entry xs ≡ map raw_entry ys → xs ≡ ys
+    (xs ys : List Entry) → SpellingTells → AllByRecursion IsWithin xs → AllByRecursion IsWithin ys → map raw_entry xs ≡ map raw_entry ys → xs ≡ ys
 same_entries [] [] tells p q h = refl
 same_entries [] (y ∷ ys) tells p q h = absurd (cc)
 same_entries (x ∷ xs) [] tells p q h = absurd (cc)

@@ -2,7 +2,7 @@
 use Rattle.std.specs.Prelude.{◌≡◌, ◌≤◌, ℕ, ◌++◌, ◌⊎◌, List, map, flat_map, take, length}
 use Rattle.mux_entries.specs.Entries.{EnsembleInformation}
 use Rattle.mux_entries.specs.declared.entry.Entry.TheVariants.{Ensemble as EnsembleOf}
-use Rattle.mux_config.specs.Configuration.{Each}
+use Rattle.std.specs.List.{AllByRecursion}
 use Rattle.fib_codec.specs.Spelling.{Written, IsWritten, figs_bytes, fib_bytes}
 use Rattle.fib_codec.specs.Grammar.{Fig, IsFib, fig_of, fig_spelled}
 use Rattle.fib_codec.specs.Ranges.{IsEnsembleInformation}
@@ -34,10 +34,10 @@ EnsembleIsHeard = (e : EnsembleInformation) → IsEnsembleInformation e → ense
 -- a FIB that is written has no fault, and the FIGs that are read are those that were written
 abbrev pub WrittenIsGood : Type 0
 WrittenIsGood =
-    (figs : List Written) (fault : FibFault) → Each IsWritten figs → length (figs_bytes figs) ≤ 30
+    (figs : List Written) (fault : FibFault) → AllByRecursion IsWritten figs → length (figs_bytes figs) ≤ 30
     → IsFibFault (fib_bytes figs) fault → ⊥
 
 abbrev pub WrittenIsRead : Type 0
 WrittenIsRead =
-    (figs : List Written) (read : List Fig) → Each IsWritten figs → length (figs_bytes figs) ≤ 30
+    (figs : List Written) (read : List Fig) → AllByRecursion IsWritten figs → length (figs_bytes figs) ≤ 30
     → IsFib (fib_bytes figs) read → read ≡ map fig_of figs

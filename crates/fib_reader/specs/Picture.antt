@@ -1,6 +1,7 @@
 -- What holds of every picture.
 use Rattle.std.specs.Prelude.{◌≡◌, ◌<◌, ◌++◌, ◌⊎◌, List, [], ◌∷◌, map}
-use Rattle.mux_config.specs.Configuration.{Configuration, Each}
+use Rattle.mux_config.specs.Configuration.{Configuration}
+use Rattle.std.specs.List.{AllByRecursion}
 use Rattle.mux_entries.specs.Facts.{sub_entries, service_entries}
 use Rattle.fib_reader.specs.Raw.{Raw, raw_entry}
 use Rattle.fib_reader.specs.Listening.{Pictured, identifier_of, all_entries}
@@ -10,9 +11,9 @@ abbrev pub IsSubOf : Raw → Type 0
 IsSubOf raw = (raw.ext ≡ 1) × (identifier_of raw < 64)
 
 pub record IsPictured (p : Pictured) : Type 0 where
-  pub subs : Each IsSubOf p.subs
-  pub services : Each (λ raw. raw.ext ≡ 2) p.services
-  pub packets : Each (λ raw. raw.ext ≡ 3) p.packets
+  pub subs : AllByRecursion IsSubOf p.subs
+  pub services : AllByRecursion (λ raw. raw.ext ≡ 2) p.services
+  pub packets : AllByRecursion (λ raw. raw.ext ≡ 3) p.packets
 
 -- in ascending order of extension and identifier
 abbrev pub ComesBefore : Raw → Raw → Type 0
@@ -20,7 +21,7 @@ ComesBefore a b = (a.ext < b.ext) ⊎ ((a.ext ≡ b.ext) × (identifier_of a < i
 
 abbrev pub AreInOrder : List Raw → Type 0
 AreInOrder [] = Unit {0}
-AreInOrder (raw ∷ raws) = Each (ComesBefore raw) raws × AreInOrder raws
+AreInOrder (raw ∷ raws) = AllByRecursion (ComesBefore raw) raws × AreInOrder raws
 
 -- a picture shows exactly the entries of a configuration
 abbrev pub Shows : Pictured → Configuration → Type 0

@@ -1,6 +1,6 @@
 -- The FIGs and entries of data bytes without a fault, in order, as an iterator meets them.
 use Rattle.std.specs.Prelude.{ℕ, zero, suc, ◌%◌, ◌==◌, ◌&&◌, Bool, if◌then◌else◌, nat_lt, List, [], ◌∷◌, length, get_or, take, drop, map}
-use Rattle.mux_config.specs.Configuration.{Each}
+use Rattle.std.specs.List.{AllByRecursion}
 use Rattle.fib_codec.specs.Grammar.{Fig, Open, Other, entry_len, IsFig, is_open, is_long}
 use Rattle.fib_reader.specs.Raw.{Raw, IsRaw, raw_of}
 
@@ -20,7 +20,7 @@ abbrev pub raws_of : ℕ → Bool → List ℕ → List Raw
 raws_of ext long bytes = map (raw_of ext long) (entries_of ext long bytes)
 
 abbrev pub AreRaw : List Raw → Type 0
-AreRaw raws = Each IsRaw raws
+AreRaw raws = AllByRecursion IsRaw raws
 
 -- the FIG of its bytes
 abbrev pub fig_of_bytes : List ℕ → Fig

@@ -1,26 +1,9 @@
-//! What the second byte of a FIG says, and how long the entry is that comes first.
+//! How long the entry is that comes first.
 
 ghost use Rattle.std.specs.Prelude.{◌≡◌};
-ghost use Rattle.fib_codec.specs.Grammar.{entry_len, is_open, is_long};
+ghost use Rattle.fib_codec.specs.Grammar.{entry_len};
 
 use fib_codec::{fig0_0, fig0_1, fig0_2, fig0_3};
-
-/// Whether this second byte of a FIG of type 0 says OE 0 and an extension from 0 to 3.
-pub(crate) fn is_open_of(second: u8) -> bool
-    ensures { result ≡ is_open second }
-{
-    if second / 64 % 2 > 0 {
-        return false;
-    }
-    second % 32 < 4
-}
-
-/// The P/D flag in the second byte of a FIG of type 0.
-pub(crate) fn is_long_of(second: u8) -> bool
-    ensures { result ≡ is_long second }
-{
-    second / 32 % 2 == 1
-}
 
 /// The length of the entry that begins `bytes`, in extension `ext` with this P/D flag, as those of its bytes
 /// say that decide it. It is above the number of bytes where one of these isn't there.

@@ -1,14 +1,15 @@
 //! The test of a FIB: its CRC, and then its FIGs and entries from the front.
 
-ghost use Rattle.std.specs.Prelude.{◌≡◌, ℕ, ◌+◌, ◌<◌, ◌≤◌, List, length, Ok, IfOk, IfErr};
+ghost use Rattle.std.specs.Prelude.{◌≡◌, ◌+◌, ◌<◌, ◌≤◌, List, length, Ok, IfOk, IfErr};
 ghost use Rattle.fib_codec.specs.Grammar.{Fig, IsFib};
 ghost use Rattle.fib_reader.specs.Faults.{IsFibFault};
 ghost use Rattle.fib_reader.specs.FirstFault.{entries_fault, ensemble_fault, body_fault, fig_fault, figs_fault};
 
-use crate::bytes::{entry_len_of, is_long_of, is_open_of};
+use crate::bytes::entry_len_of;
 use crate::fault::FibFault;
 use crate::figs::Figs;
 use fib_codec::bytes::byte_at;
+use fib_codec::head::{ext_of, is_long_of, is_open_of};
 use fib_codec::is_checked;
 
 /// The place of the first entry that isn't whole.
@@ -83,7 +84,7 @@ fn fig_fault_of(place: usize, header: u8, bytes: &[u8]) -> Option<FibFault>
     }
     let (fig, _) = bytes.split_at(usize::from(header));
     let (_, body) = fig.split_at(1);
-    match body_fault_of(second % 32, is_long_of(second), place + 2, body) {
+    match body_fault_of(ext_of(second), is_long_of(second), place + 2, body) {
         Some(at) => Some(FibFault::Entry(at)),
         None => None,
     }

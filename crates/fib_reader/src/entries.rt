@@ -1,10 +1,10 @@
 //! The entries of a FIG, lent from its bytes.
 
-ghost use Rattle.std.specs.Prelude.{◌≡◌, ◌<◌, ◌≤◌, [], ◌∷◌, List, length, take, drop, MatchOption};
-ghost use Rattle.fib_codec.specs.Grammar.{entry_len};
+ghost use Rattle.std.specs.Prelude.{◌≡◌, ◌<◌, ◌≤◌, [], ◌∷◌, List, length, MatchOption};
 ghost use Rattle.fib_reader.specs.Walk.{entries_of};
 
-use crate::bytes::{entry_len_of, is_long_of};
+use crate::bytes::entry_len_of;
+use fib_codec::head::{ext_of, is_long_of};
 use fib_codec::{fig0_0, fig0_1, fig0_2, fig0_3};
 use mux_config::{Ensemble, Entry};
 use std::marker::Model;
@@ -181,7 +181,7 @@ impl<'a> Entries<'a> {
         ensures { result ≡ raws_of (second % 32) (is_long second) body.now }
     {
         Entries {
-            ext: second % 32,
+            ext: ext_of(second),
             long: is_long_of(second),
             rest: body,
         }

@@ -1,6 +1,6 @@
 //! The entries of one extension that a picture keeps, in ascending order of their identifiers.
 
-ghost use Rattle.std.specs.Prelude.{◌≡◌, ◌<◌, ◌≤◌, true, false, length, IsTrue, slice_get, Some, None, [], IfSome, IfNone};
+ghost use Rattle.std.specs.Prelude.{◌≡◌, ◌<◌, ◌≤◌, true, false, length, slice_get, Some, None, [], IfSome, IfNone};
 ghost use Rattle.mux_config.specs.Configuration.{IsAscending};
 ghost use Rattle.mux_config.specs.Tables.{entry_at};
 ghost use Rattle.fib_reader.specs.Listening.{has_room, is_known, kept, identifier_of};
@@ -29,7 +29,7 @@ impl Model for EntryTable {
 }
 
 impl EntryTable {
-    ghost use Rattle.std.specs.Prelude.{◌≡◌, ◌<◌, ◌≤◌, ◌+◌, true, false, length, [], IfSome, IfNone, IsTrue, ◌↔◌, slice_get, Some, None};
+    ghost use Rattle.std.specs.Prelude.{◌≡◌, ◌<◌, ◌≤◌, ◌+◌, true, false, length, [], IfSome, IfNone, slice_get, Some, None};
     ghost use Rattle.mux_config.specs.Configuration.{IsAscending};
     ghost use Rattle.mux_config.specs.Tables.{entry_at};
     ghost use Rattle.fib_reader.specs.Listening.{has_room, is_known, kept, identifier_of};

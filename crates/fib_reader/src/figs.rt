@@ -4,10 +4,10 @@ ghost use Rattle.std.specs.Prelude.{◌≡◌, ◌≤◌, ◌%◌, [], ◌∷◌
 ghost use Rattle.fib_codec.specs.Grammar.{Open, Other, is_long};
 ghost use Rattle.fib_reader.specs.Walk.{fig_of_bytes, entries_of, pieces_of};
 
-use crate::bytes::{is_long_of, is_open_of};
 use crate::entries::Entries;
 use fib_codec::Head;
 use fib_codec::bytes::byte_at;
+use fib_codec::head::{ext_of, is_long_of, is_open_of, next_of};
 use std::marker::Model;
 
 /// A FIG, which lends its bytes. Contracts see it as the grammar does: of extension 0 to 3 and of this
@@ -47,10 +47,10 @@ impl<'a> Fig<'a> {
     {
         let second = second_of(self.bytes)?;
         Some(Head {
-            next: second >= 128,
+            next: next_of(second),
             oe: false,
             long: is_long_of(second),
-            ext: second % 32,
+            ext: ext_of(second),
         })
     }
 
@@ -114,14 +114,14 @@ pub struct Figs<'a> {
 impl<'a> Model for Figs<'a> {
     ghost use Rattle.std.specs.Prelude.{List};
     ghost use Rattle.fib_codec.specs.Grammar as grammar;
-    ghost use Rattle.mux_config.specs.Configuration.{Each};
+    ghost use Rattle.std.specs.List.{AllByRecursion};
     ghost use Rattle.fib_reader.specs.Walk.{pieces_of, figs_of_bytes, IsWholeFig};
 
     ghost Value = { List grammar.Fig };
 
     ghost view = { λ s. figs_of_bytes s.rest.now };
 
-    ghost invariant = { λ s. Each IsWholeFig (pieces_of s.rest.now) };
+    ghost invariant = { λ s. AllByRecursion IsWholeFig (pieces_of s.rest.now) };
 }
 
 impl<'a> Iterator for Figs<'a> {
@@ -142,12 +142,12 @@ impl<'a> Iterator for Figs<'a> {
 
 impl<'a> Figs<'a> {
     ghost use Rattle.std.specs.Prelude.{◌≡◌};
-    ghost use Rattle.mux_config.specs.Configuration.{Each};
+    ghost use Rattle.std.specs.List.{AllByRecursion};
     ghost use Rattle.fib_reader.specs.Walk.{pieces_of, figs_of_bytes, IsWholeFig};
 
     /// The FIGs of data bytes without a fault.
     pub(crate) fn of(bytes: &'a [u8]) -> Self
-        requires { Each IsWholeFig (pieces_of bytes.now) }
+        requires { AllByRecursion IsWholeFig (pieces_of bytes.now) }
         ensures { result ≡ figs_of_bytes bytes.now }
     {
         Figs { rest: bytes }

@@ -1,7 +1,8 @@
 //! What entries say of a configuration: its sub-channels, services and packet components.
 
-ghost use Rattle.std.specs.Prelude.{◌≡◌, ◌≤◌, Bool, IfSome, IfNone, List, map, length};
-ghost use Rattle.mux_config.specs.Configuration.{Each, IsAscending, IsPlaced, IsService, IsAddressed, AreDifferent, IsComponent};
+ghost use Rattle.std.specs.Prelude.{◌≡◌, ◌≤◌, IfSome, IfNone, List, length};
+ghost use Rattle.mux_config.specs.Configuration.{IsPlaced, IsService, IsAddressed, AreDifferent, IsComponent};
+ghost use Rattle.std.specs.List.{AllByRecursion};
 ghost use Rattle.mux_entries.specs.Facts.{sub_entry, service_entry, packet_entry, component_entry, component_entries};
 ghost use Rattle.fib_codec.specs.Ranges.{IsSubEntry, IsServiceEntry, IsPacketEntry, IsComponentEntry};
 ghost use Rattle.mux_types.specs.declared.parts.Sub.{Sub};
@@ -14,7 +15,7 @@ use mux_config::{
     BoundedVec, Component, ComponentEntry, Entry, Packet, PacketEntry, Service, ServiceEntry, Sub,
     SubEntry,
 };
-use mux_eep::{EepSet, Protection, rate_of};
+use mux_eep::{CAPACITY_UNITS, EepSet, Protection, rate_of};
 
 /// The sub-channel of a profile that the long form says; None where no profile and rate has this option and
 /// size, and where it would end past the last capacity unit.
@@ -31,7 +32,7 @@ pub(crate) fn sub_from_entry(entry: &SubEntry) -> Option<Sub>
     };
     let protection = Protection::new(set, entry.level.get() as u8 + 1)?;
     let kbits = rate_of(protection, entry.size.get())?;
-    if entry.start.get() + entry.size.get() > 864 {
+    if entry.start.get() + entry.size.get() > CAPACITY_UNITS {
         return None;
     }
     Some(Sub {
@@ -107,9 +108,9 @@ fn component_from_entry(primary: bool, entry: &ComponentEntry) -> Option<Compone
 /// The components that their entries say; None where one says none, or one of a P/S flag that a component in
 /// its place doesn't have, or two have one carrier.
 fn components_from_entry(entries: &[ComponentEntry]) -> Option<BoundedVec<Component, 12>>
-    requires within { Each IsComponentEntry entries.now }
+    requires within { AllByRecursion IsComponentEntry entries.now }
     requires few { length entries.now ≤ 12 }
-    ensures members { IfSome result (Each IsComponent) }
+    ensures members { IfSome result (AllByRecursion IsComponent) }
     ensures different { IfSome result AreDifferent }
     ensures value { IfSome result (λ cs. component_entries cs ≡ entries.now) }
     ensures none { IfNone result ((cs : List Component) → AreDifferent cs

@@ -1,7 +1,8 @@
 //! Lists of entries as the members of a configuration that they say.
 
 ghost use Rattle.std.specs.Prelude.{◌≡◌, ◌≤◌, IfSome, IfNone, List, map, length};
-ghost use Rattle.mux_config.specs.Configuration.{Each, IsAscending};
+ghost use Rattle.mux_config.specs.Configuration.{IsAscending};
+ghost use Rattle.std.specs.List.{AllByRecursion};
 ghost use Rattle.fib_reader.specs.Raw.{raw_entry};
 ghost use Rattle.fib_reader.specs.Listening.{identifier_of};
 
@@ -97,8 +98,8 @@ pub(crate) fn members<T: FromEntry>(kept: &[OwnedEntry]) -> Option<SortedTable<T
     requires ascending { IsAscending identifier_of kept.now }
     requires few { length kept.now ≤ 64 }
     ensures said { IfSome result (λ xs. map (λ x. raw_entry (T.entry_of x)) xs ≡ kept.now) }
-    ensures members { IfSome result (Each T.is_member) }
-    ensures none { IfNone result ((xs : List T) → Each T.is_member xs
+    ensures members { IfSome result (AllByRecursion T.is_member) }
+    ensures none { IfNone result ((xs : List T) → AllByRecursion T.is_member xs
         → map (λ x. raw_entry (T.entry_of x)) xs ≡ kept.now → ⊥) }
 {
     fib_codec::laws::spelling();

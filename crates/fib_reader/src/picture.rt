@@ -1,8 +1,6 @@
 //! What a receiver has heard of one configuration.
 
 ghost use Rattle.std.specs.Prelude.{◌≡◌, true, false};
-ghost use Rattle.mux_config.specs.Configuration.{IsAscending};
-ghost use Rattle.fib_reader.specs.Listening.{has_room, kept, identifier_of};
 
 use crate::entries::RawEntry;
 use crate::entry_table::EntryTable;

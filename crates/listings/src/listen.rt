@@ -3,7 +3,7 @@
 ghost use Rattle.listings.specs.Stream.{HearsStream};
 
 use crate::listing::print_entry;
-use console::exit::{Failure, Status};
+use console::exit::{Failure, Status, read_file};
 use console::files::Files;
 use fib_reader::{ListenFault, Listener, Picture};
 use std::alloc::Global;
@@ -37,9 +37,7 @@ pub fn show_heard<'a, F: Files, W: Write>(
     files: &mut F,
     out: &mut W,
 ) -> Result<Status, Failure<'a>> {
-    let stream = files
-        .read(alloc, path)
-        .map_err(|fault| Failure::of_file(fault, path))?;
+    let stream = read_file(alloc, files, path)?;
     match listen_to(stream.as_slice()) {
         Ok(heard) => {
             print_heard(stream.len() / 32, &heard, out)?;

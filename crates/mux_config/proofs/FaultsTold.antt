@@ -1,11 +1,11 @@
 -- The fault that soundness names is the first condition that fails.
 use Rattle.std.proofs.Common.{◌≡◌, ℕ, ◌<◌, ◌≤◌, Bool, true, false, cond, List, [], ◌∷◌, Contains, Option, Some, None, Err, refl, sym, ap, ◌∙◌, subst, ◌⊎◌, inl, inr, arith}
-use Rattle.std.specs.List.{list_any}
+use Rattle.std.specs.List.{list_any, AllByRecursion}
 use Rattle.std.proofs.lemmas.Bool.{false≢true}
 use Rattle.mux_types.specs.declared.parts.Sub.{Sub}
 use Rattle.mux_config.specs.declared.fault.ConfigFault.{ConfigFault}
 use Rattle.mux_config.specs.declared.fault.ConfigFault.TheVariants.{Overlap, Orphan, AddressUsed, EmptyService}
-use Rattle.mux_types.specs.Configuration.{Configuration, IsConfiguration, Each, IsAscending, IsPlaced, sub_key}
+use Rattle.mux_types.specs.Configuration.{Configuration, IsConfiguration, IsAscending, IsPlaced, sub_key}
 use Rattle.mux_config.specs.Sound.{IsUnitOf, IsSound, overlaps, overlap_with, first_of_two, first_overlap, has_orphan, has_address_twice, is_empty_service, other_fault, first_fault, sound_unless, sound_or_fault}
 use Rattle.mux_config.specs.SoundFaults.{AreApart, AreCarried, AreAddressed, IsFirstOverlap, IsFault, FaultsTell}
 use Rattle.mux_types.proofs.Elements.{contains_cases, contains_first, contains_later, each_contains}
@@ -38,7 +38,7 @@ record IsFirstWith (a : Sub) (bs : List Sub) (fault : ConfigFault) : Type 0 wher
 some_told : {T : Type 0} (x y : T) → Some x ≡ Some y → x ≡ y
 some_told x y e = cc
 
-with_first_by : (a b : Sub) (bs : List Sub) (fault : ConfigFault) (t : Bool) → overlaps a b ≡ t → Each (λ (y : Sub). b.id < y.id) bs → cond t (Some (Overlap a.id b.id)) (overlap_with a bs) ≡ Some fault → (overlap_with a bs ≡ Some fault → IsFirstWith a bs fault) → IsFirstWith a (b ∷ bs) fault
+with_first_by : (a b : Sub) (bs : List Sub) (fault : ConfigFault) (t : Bool) → overlaps a b ≡ t → AllByRecursion (λ (y : Sub). b.id < y.id) bs → cond t (Some (Overlap a.id b.id)) (overlap_with a bs) ≡ Some fault → (overlap_with a bs ≡ Some fault → IsFirstWith a bs fault) → IsFirstWith a (b ∷ bs) fault
 with_first_by a b bs fault true is less e more = record {
   other = b;
   there = contains_first b bs;
@@ -70,7 +70,7 @@ abbrev IsPair : List Sub → ConfigFault → Type 0
 IsPair xs fault = (i j : ℕ) × (fault ≡ Overlap i j) × IsFirstIn xs i j
 
 -- the first of all shares one
-pair_here : (a : Sub) (bs : List Sub) (fault : ConfigFault) → IsAscending sub_key (a ∷ bs) → Each IsPlaced (a ∷ bs) → IsFirstWith a bs fault → IsPair (a ∷ bs) fault
+pair_here : (a : Sub) (bs : List Sub) (fault : ConfigFault) → IsAscending sub_key (a ∷ bs) → AllByRecursion IsPlaced (a ∷ bs) → IsFirstWith a bs fault → IsPair (a ∷ bs) fault
 pair_here a bs fault order placed w =
     let shared = overlaps_told a w.other placed.0 (each_contains IsPlaced bs w.other placed.1 w.there) w.shares in
     let least : (s t : Sub) (unit : ℕ) → Contains (a ∷ bs) s → Contains (a ∷ bs) t → IsUnitOf s unit → IsUnitOf t unit → s.id < t.id → (a.id < s.id) ⊎ ((a.id ≡ s.id) × (w.other.id ≤ t.id)) =
@@ -133,12 +133,12 @@ pair_later a bs fault order none pair =
       },
     )
 
-pair_by : (a : Sub) (bs : List Sub) (fault : ConfigFault) → IsAscending sub_key (a ∷ bs) → Each IsPlaced (a ∷ bs) → (one : Option ConfigFault) → overlap_with a bs ≡ one → first_of_two one (first_overlap bs) ≡ Some fault → (first_overlap bs ≡ Some fault → IsPair bs fault) → IsPair (a ∷ bs) fault
+pair_by : (a : Sub) (bs : List Sub) (fault : ConfigFault) → IsAscending sub_key (a ∷ bs) → AllByRecursion IsPlaced (a ∷ bs) → (one : Option ConfigFault) → overlap_with a bs ≡ one → first_of_two one (first_overlap bs) ≡ Some fault → (first_overlap bs ≡ Some fault → IsPair bs fault) → IsPair (a ∷ bs) fault
 pair_by a bs fault order placed None is e more = pair_later a bs fault order is (more e)
 pair_by a bs fault order placed (Some x) is e more =
     pair_here a bs fault order placed (with_first a bs fault order.1 (is ∙ e))
 
-pair_told : (xs : List Sub) (fault : ConfigFault) → IsAscending sub_key xs → Each IsPlaced xs → first_overlap xs ≡ Some fault → IsPair xs fault
+pair_told : (xs : List Sub) (fault : ConfigFault) → IsAscending sub_key xs → AllByRecursion IsPlaced xs → first_overlap xs ≡ Some fault → IsPair xs fault
 pair_told [] fault order placed e = absurd (cc)
 pair_told (a ∷ bs) fault order placed e = pair_by a bs fault order placed (overlap_with a bs) refl e (pair_told bs fault order.1 placed.1)
 

@@ -1,10 +1,10 @@
 -- An edit without a fault keeps a configuration one.
-use Rattle.std.proofs.Common.{◌≡◌, ◌≢◌, ℕ, zero, suc, ◌+◌, ◌%◌, ◌<◌, ◌≤◌, ◌==◌, Bool, true, false, not, cond, ◌||◌, ltb, leb, List, [], ◌∷◌, ◌++◌, length, Option, Some, None, Ok, Err, refl, sym, ap, ◌∙◌, subst, inl, inr, arith, length-append, slice_get, is_some, IfSome, IfNone}
+use Rattle.std.proofs.Common.{◌≡◌, ◌≢◌, ℕ, zero, suc, ◌+◌, ◌%◌, ◌<◌, ◌≤◌, ◌==◌, Bool, true, false, not, cond, ◌||◌, ltb, leb, List, [], ◌∷◌, ◌++◌, length, Option, Some, None, Ok, Err, refl, sym, ap, ◌∙◌, subst, inl, inr, arith, length-append, slice_get, is_some}
+use Rattle.std.specs.Option.{option_map}
 use Rattle.std.specs.Result.{is_err}
-use Rattle.std.specs.List.{list_any, filter, remove}
+use Rattle.std.specs.List.{list_any, filter, remove, AllByRecursion}
 use Rattle.std.proofs.lemmas.Bool.{false≢true, cases_eq, cases_lt, lt-ltb, le-ltb, eq-eqb, ne_eqb, eqb-true, eqb-false, ltb-false, leb-false}
 use Rattle.std.proofs.lemmas.List.{length-map}
-use Rattle.std.proofs.lemmas.Option.{slice_get_cases}
 use Rattle.mux_eep.specs.Sizes.{Profile, IsSize, size_or_fault, table_size, rate_step}
 use Rattle.mux_eep.specs.declared.fault.EepFault.TheVariants.{NotMultiple, ZeroRate, PastMultiplex}
 use Rattle.mux_types.specs.declared.parts.Sub.{Sub}
@@ -17,7 +17,7 @@ use Rattle.mux_types.specs.declared.numbers.Sid.{Sid}
 use Rattle.mux_config.specs.declared.fault.EditFault.{EditFault}
 use Rattle.mux_config.specs.declared.fault.EditFault.TheVariants.{IdUsed, IdAbsent, TooManyComponents, TableFull, PastEnd, BadRate, BadAddress}
 use Rattle.mux_config.specs.declared.edit.Edit.TheVariants.{AddSub, DropSub, MoveSub, RateSub, AddService, DropService, AddComponent, DropComponent, AddPacket, DropPacket}
-use Rattle.mux_types.specs.Configuration.{Configuration, IsConfiguration, Each, IsAscending, IsPlaced, IsService, IsAddressed, IsSid, IsComponent, AreDifferent, size_of_sub, sub_key, sid_key, service_key, packet_key, carrier_of, component_limit}
+use Rattle.mux_types.specs.Configuration.{Configuration, IsConfiguration, IsAscending, IsPlaced, IsService, IsAddressed, IsSid, IsComponent, AreDifferent, size_of_sub, sub_key, sid_key, service_key, packet_key, carrier_of, component_limit}
 use Rattle.mux_types.specs.Tables.{entry_at, with_entry, without_entry, with_entry_changed, has_entry, changed_at}
 use Rattle.mux_config.specs.Edits.{absent_or, sub_at, service_at, at_start, at_rate, has_bad_rate, is_past_end, placing_fault, component_fault, with_component, without_carrier, has_bad_address, add_sub_fault, sub_added, sub_dropped, move_sub_fault, sub_moved, rate_sub_fault, sub_rated, add_service_fault, service_added, service_dropped, add_component_fault, component_added, drop_component_fault, component_dropped, add_packet_fault, packet_added, packet_dropped, EditsKeep}
 use Rattle.mux_types.specs.Sameness.{names, is_same_carrier}
@@ -75,6 +75,16 @@ present key k xs x e = present_by (has_entry key k xs) (λ none. let wrong : Som
 pub absent_found : {T : Type 0} (key : T → ℕ) (k : ℕ) (xs : List T) → entry_at key k xs ≡ None → has_entry key k xs ≡ false
 absent_found key k xs e = absent_found_by (has_entry key k xs) (λ some. let found = entry_found key k xs some in let wrong : Some found.0 ≡ None = sym found.1 ∙ e in some_none found.0 wrong)
 
+-- a look-up finds a member exactly where the set has its key
+pub is_found : {T : Type 0} (key : T → ℕ) (k : ℕ) (xs : List T) (o : Option T) → o ≡ entry_at key k xs → is_some o ≡ has_entry key k xs
+is_found key k xs None e = sym (absent_found key k xs (sym e))
+is_found key k xs (Some x) e = sym (present key k xs x (sym e))
+
+-- and so does one that lends it
+pub is_found_lent : {R T : Type 0} (now : R → T) (key : T → ℕ) (k : ℕ) (xs : List T) (o : Option R) → option_map now o ≡ entry_at key k xs → is_some o ≡ has_entry key k xs
+is_found_lent now key k xs None e = sym (absent_found key k xs (sym e))
+is_found_lent now key k xs (Some r) e = sym (present key k xs (now r) (sym e))
+
 key_by : {T : Type 0} (key : T → ℕ) (k : ℕ) (x y : T) (rest : Option T) (t : Bool) → (t ≡ true → key x ≡ k) → cond t (Some x) rest ≡ Some y → (rest ≡ Some y → key y ≡ k) → key y ≡ k
 key_by key k x y rest true here e later = let same : x ≡ y = cc in sym (ap key same) ∙ here refl
 key_by key k x y rest false here e later = later e
@@ -83,23 +93,17 @@ pub entry_key : {T : Type 0} (key : T → ℕ) (k : ℕ) (xs : List T) (y : T) �
 entry_key key k [] y e = some_none y (sym e)
 entry_key key k (x ∷ xs) y e = key_by key k x y (entry_at key k xs) (key x == k) (eqb-true (key x) k) e (entry_key key k xs y)
 
--- a search by places finds it
-pub has_told : {T : Type 0} (key : T → ℕ) (k : ℕ) (xs : List T) (o : Option ℕ) → IfSome o (λ p. slice_get xs p ≡ entry_at key k xs) → IfSome o (λ p. p < length xs) → IfNone o (entry_at key k xs ≡ None) → is_some o ≡ has_entry key k xs
-has_told key k xs None at within absent = sym (absent_found key k xs absent)
-has_told key k xs (Some p) at within absent =
-    elim (slice_get_cases xs p).1 [ inl some ↦ sym (present key k xs some.0 (sym at ∙ some.2)) | inr past ↦ absurd (let h = past.0 in omega (arith, within, h)) ]
-
 holds_by : {T : Type 0} (P : T → Type 0) (x y : T) (rest : Option T) (t : Bool) → P x → cond t (Some x) rest ≡ Some y → (rest ≡ Some y → P y) → P y
 holds_by P x y rest true h e later = let same : x ≡ y = cc in subst P same h
 holds_by P x y rest false h e later = later e
 
-pub entry_holds : {T : Type 0} (P : T → Type 0) (key : T → ℕ) (k : ℕ) (xs : List T) (y : T) → Each P xs → entry_at key k xs ≡ Some y → P y
+pub entry_holds : {T : Type 0} (P : T → Type 0) (key : T → ℕ) (k : ℕ) (xs : List T) (y : T) → AllByRecursion P xs → entry_at key k xs ≡ Some y → P y
 entry_holds P key k [] y h e = some_none y (sym e)
 entry_holds P key k (x ∷ xs) y h e = holds_by P x y (entry_at key k xs) (key x == k) h.0 e (entry_holds P key k xs y h.1)
 
 -- ---- a set with one member changed
 
-unchanged : {T : Type 0} (key : T → ℕ) (k : ℕ) (change : T → T) (y : T) (xs : List T) → key y ≡ k → Each (λ x. k < key x) xs → with_entry_changed key y xs ≡ changed_at key k change xs
+unchanged : {T : Type 0} (key : T → ℕ) (k : ℕ) (change : T → T) (y : T) (xs : List T) → key y ≡ k → AllByRecursion (λ x. k < key x) xs → with_entry_changed key y xs ≡ changed_at key k change xs
 unchanged key k change y [] same above = refl
 unchanged key k change y (x ∷ xs) same above =
     let one : key x == key y ≡ false = ne_eqb (key x) (key y) (λ e. let h = above.0 in omega (arith, h)) in
@@ -146,16 +150,16 @@ pub length_filtered : {T : Type 0} (test : T → Bool) (xs : List T) → length 
 length_filtered test [] = omega arith
 length_filtered test (x ∷ xs) = filtered_by test x xs (test x) (length_filtered test xs)
 
-kept_by : {T : Type 0} (P : T → Type 0) (test : T → Bool) (x : T) (xs : List T) (t : Bool) → P x → Each P (filter test xs) → Each P (cond t (x ∷ filter test xs) (filter test xs))
+kept_by : {T : Type 0} (P : T → Type 0) (test : T → Bool) (x : T) (xs : List T) (t : Bool) → P x → AllByRecursion P (filter test xs) → AllByRecursion P (cond t (x ∷ filter test xs) (filter test xs))
 kept_by P test x xs true h rest = (h, rest)
 kept_by P test x xs false h rest = rest
 
-pub each_filtered : {T : Type 0} (P : T → Type 0) (test : T → Bool) (xs : List T) → Each P xs → Each P (filter test xs)
+pub each_filtered : {T : Type 0} (P : T → Type 0) (test : T → Bool) (xs : List T) → AllByRecursion P xs → AllByRecursion P (filter test xs)
 each_filtered P test [] h = tt
 each_filtered P test (x ∷ xs) h = kept_by P test x xs (test x) h.0 (each_filtered P test xs h.1)
 
 -- keys that ascend from one number to below another are no more than the numbers between
-bounded : {T : Type 0} (key : T → ℕ) (xs : List T) (low high : ℕ) → IsAscending key xs → Each (λ x. low ≤ key x) xs → Each (λ x. key x < high) xs → low ≤ high → low + length xs ≤ high
+bounded : {T : Type 0} (key : T → ℕ) (xs : List T) (low high : ℕ) → IsAscending key xs → AllByRecursion (λ x. low ≤ key x) xs → AllByRecursion (λ x. key x < high) xs → low ≤ high → low + length xs ≤ high
 bounded key [] low high up from to le = omega arith
 bounded key (x ∷ xs) low high up from to le =
     let first : low ≤ key x = from.0 in
@@ -163,7 +167,7 @@ bounded key (x ∷ xs) low high up from to le =
     let rest = bounded key xs (suc (key x)) high up.1 (each_weaker (λ z. key x < key z) (λ z. suc (key x) ≤ key z) (λ z h. omega arith) xs up.0) to.1 (omega arith) in
     omega (arith, rest)
 
-each_any : {T : Type 0} (key : T → ℕ) (xs : List T) → Each (λ x. 0 ≤ key x) xs
+each_any : {T : Type 0} (key : T → ℕ) (xs : List T) → AllByRecursion (λ x. 0 ≤ key x) xs
 each_any key [] = tt
 each_any key (x ∷ xs) = (omega arith, each_any key xs)
 
@@ -171,7 +175,7 @@ each_any key (x ∷ xs) = (omega arith, each_any key xs)
 
 pub record IsSet {T : Type 0} (P : T → Type 0) (key : T → ℕ) (xs : List T) : Type 0 where
   pub ascends : IsAscending key xs
-  pub each : Each P xs
+  pub each : AllByRecursion P xs
   pub few : length xs ≤ 64
 
 pub subs_set : (c : Configuration) → IsConfiguration c → IsSet IsPlaced sub_key c.subs
@@ -274,7 +278,7 @@ placed s named from to e =
       ends = ltb-false 864 (s.start + size_of_sub s) end.0;
     }
 
-each_named : (xs : List Sub) → Each IsPlaced xs → Each (λ s. sub_key s < 64) xs
+each_named : (xs : List Sub) → AllByRecursion IsPlaced xs → AllByRecursion (λ s. sub_key s < 64) xs
 each_named xs h = each_weaker IsPlaced (λ s. sub_key s < 64) (λ s k. k.named) xs h
 
 -- an identifier that is free leaves room for a sub-channel
@@ -367,7 +371,7 @@ different_pushed (n ∷ ns) m h e =
     let parts = either (names (carrier_of m) n) (list_any (names (carrier_of m)) ns) e in
     (each_pushed (λ d. carrier_of n ≢ carrier_of d) ns m h.0 (names_told (carrier_of m) n parts.0), different_pushed ns m h.1 parts.1)
 
-different_by : (test : Component → Bool) (m : Component) (ms : List Component) (t : Bool) → Each (λ d. carrier_of m ≢ carrier_of d) (filter test ms) → AreDifferent (filter test ms) → AreDifferent (cond t (m ∷ filter test ms) (filter test ms))
+different_by : (test : Component → Bool) (m : Component) (ms : List Component) (t : Bool) → AllByRecursion (λ d. carrier_of m ≢ carrier_of d) (filter test ms) → AreDifferent (filter test ms) → AreDifferent (cond t (m ∷ filter test ms) (filter test ms))
 different_by test m ms true h rest = (h, rest)
 different_by test m ms false h rest = rest
 
@@ -430,7 +434,7 @@ named_not : (carrier : Carrier) (m : Component) → (carrier_of m ≢ carrier) �
 named_not carrier m differ = decided (names carrier m) (λ e. differ (carrier_same (carrier_of m) carrier e))
 
 -- where no component names it, all stay
-all_stay : (carrier : Carrier) (ms : List Component) → Each (λ m. carrier_of m ≢ carrier) ms → filter (λ m. not (names carrier m)) ms ≡ ms
+all_stay : (carrier : Carrier) (ms : List Component) → AllByRecursion (λ m. carrier_of m ≢ carrier) ms → filter (λ m. not (names carrier m)) ms ≡ ms
 all_stay carrier [] h = refl
 all_stay carrier (m ∷ ms) h = rw (named_not carrier m h.0) (ap (λ ns. m ∷ ns) (all_stay carrier ms h.1))
 

@@ -2,7 +2,7 @@
 -- read again.
 use Rattle.std.proofs.Common.{◌≡◌, ◌≢◌, ℕ, zero, suc, ◌+◌, ◌*◌, ◌/◌, ◌%◌, ◌<◌, ◌≤◌, Bool, true, false, cond, ltb, eqb, ◌||◌, List, [], ◌∷◌, ◌++◌, length, Result, Ok, Err, refl, sym, ap, subst, ◌∙◌, append_assoc, arith}
 use Rattle.std.specs.Int.{w16}
-use Rattle.std.specs.List.{flat_map, list_any}
+use Rattle.std.specs.List.{flat_map, list_any, AllByRecursion}
 use Rattle.std.proofs.lemmas.Bool.{ltb-false, le-ltb, eqb-false, ne_eqb}
 use Rattle.std.proofs.lemmas.List.{append-nil, length-append, flat_map_more}
 use Rattle.std.proofs.Math.Nat.{le-mul_of_pos_right}
@@ -18,7 +18,7 @@ use Rattle.mux_types.specs.declared.parts.Carrier.{Carrier}
 use Rattle.mux_types.specs.declared.parts.Carrier.TheVariants.{Sub as BySub, Packet as ByPacket}
 use Rattle.mux_types.specs.declared.parts.Packet.{Packet}
 use Rattle.byte_fields.specs.declared.record.RecordFault.TheVariants.{Order}
-use Rattle.mux_types.specs.Configuration.{Each, IsPlaced, IsComponent, IsService, IsAddressed, AreDifferent, carrier_of, component_limit, sid_key}
+use Rattle.mux_types.specs.Configuration.{IsPlaced, IsComponent, IsService, IsAddressed, AreDifferent, carrier_of, component_limit, sid_key}
 use Rattle.mux_types.specs.Sameness.{is_same_carrier, names}
 use Rattle.byte_fields.specs.FieldSpelling.{word_bytes, protection_bytes, sid_field, component_bytes, flag_byte}
 use Rattle.mux_config.specs.Spelling.{sub_record, service_record, packet_record}
@@ -146,7 +146,7 @@ different_pushed (b ∷ bs) c all new =
     let n = neither (names (carrier_of c) b) (list_any (names (carrier_of c)) bs) new in
     (each_pushed (λ d. carrier_of b ≢ carrier_of d) bs c all.0 (carrier_differs (carrier_of b) (carrier_of c) n.0), different_pushed bs c all.1 n.1)
 
-each_middle : {T : Type 0} (P : T → Type 0) (xs : List T) (y : T) (ys : List T) → Each P (xs ++ y ∷ ys) → P y
+each_middle : {T : Type 0} (P : T → Type 0) (xs : List T) (y : T) (ys : List T) → AllByRecursion P (xs ++ y ∷ ys) → P y
 each_middle P [] y ys all = all.0
 each_middle P (x ∷ xs) y ys all = each_middle P xs y ys all.1
 
@@ -164,9 +164,9 @@ flat_pushed f xs x = sym (flat_map_more f [] xs x)
 abbrev pub IsComponentsRead : (before : List Component) (count : ℕ) (bytes : List ℕ) → List Component × List ℕ → Type 0
 IsComponentsRead before count bytes x =
     (text : List ℕ) × Front bytes text x.1 × (flat_map component_bytes x.0 ≡ flat_map component_bytes before ++ text)
-    × (length x.0 ≡ length before + count) × AreDifferent x.0 × Each IsComponent x.0
+    × (length x.0 ≡ length before + count) × AreDifferent x.0 × AllByRecursion IsComponent x.0
 
-pub components_front : (total : ℕ) (before : List Component) (count : ℕ) (bytes : List ℕ) (x : List Component × List ℕ) → IsBytes bytes → AreDifferent before → Each IsComponent before
+pub components_front : (total : ℕ) (before : List Component) (count : ℕ) (bytes : List ℕ) (x : List Component × List ℕ) → IsBytes bytes → AreDifferent before → AllByRecursion IsComponent before
     → components_at total before count bytes ≡ Ok x → IsComponentsRead before count bytes x
 unfolding components_at
 components_front total before zero bytes x fits different within e =
@@ -184,7 +184,7 @@ components_front total before (suc count) bytes x fits different within e =
     let one = length-append before (c ∷ []) in
     (component_bytes c ++ more.0, front_then bytes (component_bytes c) a.0.1 more.0 x.1 f.0 more.1, spelled, omega (arith, more.3, one), more.4, more.5)
 
-pub components_again : (total : ℕ) (before more : List Component) (rest : List ℕ) → AreDifferent (before ++ more) → Each IsComponent more
+pub components_again : (total : ℕ) (before more : List Component) (rest : List ℕ) → AreDifferent (before ++ more) → AllByRecursion IsComponent more
     → components_at total before (length more) (flat_map component_bytes more ++ rest) ≡ Ok (before ++ more, rest)
 unfolding components_at
 components_again total before [] rest different within = ap (λ (cs : List Component). Ok (cs, rest)) (sym (append-nil before))

@@ -1,10 +1,10 @@
 -- A configuration record that is read is the one that is spelled, and what is spelled is read again, whatever
 -- follows it.
 use Rattle.std.proofs.Common.{◌≡◌, ℕ, zero, suc, ◌+◌, ◌-◌, ◌<◌, ◌≤◌, List, [], ◌∷◌, ◌++◌, length, drop, Result, Ok, Err, IfOk, IfErr, refl, sym, ap, subst, ◌∙◌, append_assoc, arith}
-use Rattle.std.specs.List.{flat_map}
+use Rattle.std.specs.List.{flat_map, AllByRecursion}
 use Rattle.std.proofs.lemmas.List.{append-nil, length-append, drop_at}
 use Rattle.byte_fields.specs.declared.record.RecordFault.{RecordFault}
-use Rattle.mux_types.specs.Configuration.{Configuration, Each, IsAscending, IsPlaced, IsService, IsAddressed, IsConfiguration, sub_key, service_key, packet_key}
+use Rattle.mux_types.specs.Configuration.{Configuration, IsAscending, IsPlaced, IsService, IsAddressed, IsConfiguration, sub_key, service_key, packet_key}
 use Rattle.mux_config.specs.Spelling.{sub_record, service_record, packet_record, config_bytes}
 use Rattle.byte_fields.specs.FieldReading.{Reads, byte_within}
 use Rattle.mux_config.specs.Reading.{read_sub, read_service, read_packet, members_at, record_at, config_at}
@@ -25,10 +25,10 @@ module _ {T : Type 0} (key : T → ℕ) (text : T → List ℕ) (P : T → Type 
   abbrev pub AreMembersRead : (before : List T) (count : ℕ) (bytes : List ℕ) → List T × List ℕ → Type 0
   AreMembersRead before count bytes x =
       (more : List ℕ) × Front bytes more x.1 × (flat_map text x.0 ≡ flat_map text before ++ more)
-      × (length x.0 ≡ length before + count) × IsAscending key x.0 × Each P x.0
+      × (length x.0 ≡ length before + count) × IsAscending key x.0 × AllByRecursion P x.0
 
   pub members_front : ReadsMembers → (low : ℕ) (before : List T) (count : ℕ) (bytes : List ℕ) (x : List T × List ℕ) → IsBytes bytes
-      → IsAscending key before → Each (λ y. key y < low) before → Each P before → members_at key member_at low before count bytes ≡ Ok x → AreMembersRead before count bytes x
+      → IsAscending key before → AllByRecursion (λ y. key y < low) before → AllByRecursion P before → members_at key member_at low before count bytes ≡ Ok x → AreMembersRead before count bytes x
   unfolding members_at
   members_front law low before zero bytes x fits up below all e =
       let made : List T × List ℕ = (before, bytes) in
@@ -39,7 +39,7 @@ module _ {T : Type 0} (key : T → ℕ) (text : T → List ℕ) (P : T → Type 
       let f = law low bytes a.0 fits a.1 in
       let y = a.0.0 in
       let ordered = f.1 in
-      let later : Each (λ z. key z < key y + 1) (before ++ y ∷ []) =
+      let later : AllByRecursion (λ z. key z < key y + 1) (before ++ y ∷ []) =
       each_pushed (λ z. key z < key y + 1) before y (each_weaker (λ z. key z < low) (λ z. key z < key y + 1) (λ z h. omega (arith, h, ordered)) before below) (omega arith) in
       let ascending : IsAscending key (before ++ y ∷ []) =
       ascends_pushed key before y up (each_weaker (λ z. key z < low) (λ z. key z < key y) (λ z h. omega (arith, h, ordered)) before below) in
@@ -49,19 +49,19 @@ module _ {T : Type 0} (key : T → ℕ) (text : T → List ℕ) (P : T → Type 
       let one = length-append before (y ∷ []) in
       (text y ++ rest.0, front_then bytes (text y) a.0.1 rest.0 x.1 f.0 rest.1, spelled, omega (arith, rest.3, one), rest.4, rest.5)
 
-  pub members_again : ReadsAgain → (low : ℕ) (before more : List T) (rest : List ℕ) → IsAscending key more → Each (λ y. low ≤ key y) more → Each P more
+  pub members_again : ReadsAgain → (low : ℕ) (before more : List T) (rest : List ℕ) → IsAscending key more → AllByRecursion (λ y. low ≤ key y) more → AllByRecursion P more
       → members_at key member_at low before (length more) (flat_map text more ++ rest) ≡ Ok (before ++ more, rest)
   unfolding members_at
   members_again law low before [] rest up above all = ap (λ (ys : List T). Ok (ys, rest)) (sym (append-nil before))
   members_again law low before (y ∷ ys) rest up above all =
       let regrouped : flat_map text (y ∷ ys) ++ rest ≡ text y ++ (flat_map text ys ++ rest) = append_assoc (text y) (flat_map text ys) rest in
       let moved : before ++ y ∷ [] ++ ys ≡ before ++ y ∷ ys = append_assoc before (y ∷ []) ys in
-      let later : Each (λ z. key y + 1 ≤ key z) ys = each_weaker (λ z. key y < key z) (λ z. key y + 1 ≤ key z) (λ z h. omega (arith, h)) ys up.0 in
+      let later : AllByRecursion (λ z. key y + 1 ≤ key z) ys = each_weaker (λ z. key y < key z) (λ z. key y + 1 ≤ key z) (λ z h. omega (arith, h)) ys up.0 in
       let ih = members_again law (key y + 1) (before ++ y ∷ []) ys rest up.1 later all.1 in
       ap (members_at key member_at low before (suc (length ys))) regrouped
       ∙ rw (law low y (flat_map text ys ++ rest) all.0 above.0) (ih ∙ ap (λ (zs : List T). Ok (zs, rest)) moved)
 
-any_low : {T : Type 0} (key : T → ℕ) (xs : List T) → Each (λ y. 0 ≤ key y) xs
+any_low : {T : Type 0} (key : T → ℕ) (xs : List T) → AllByRecursion (λ y. 0 ≤ key y) xs
 any_low key [] = tt
 any_low key (x ∷ xs) = (omega arith, any_low key xs)
 

@@ -1,6 +1,6 @@
 -- That a configuration is sound exactly where no fault is found.
 use Rattle.std.proofs.Common.{◌≡◌, ◌≢◌, ℕ, ◌+◌, ◌/◌, ◌%◌, ◌<◌, ◌==◌, Bool, true, false, not, cond, ◌&&◌, ◌||◌, ltb, List, [], ◌∷◌, length, Contains, Option, Some, None, is_some, refl, sym, ap, ◌∙◌, subst, ◌⊎◌, inl, inr, arith}
-use Rattle.std.specs.List.{list_any}
+use Rattle.std.specs.List.{list_any, AllByRecursion}
 use Rattle.std.proofs.lemmas.Bool.{false≢true, eqb-true, eq-eqb, ne_eqb, ltb-true, lt-ltb, cases_lt}
 use Rattle.std.proofs.Math.Nat.{le-mul_of_pos_right}
 use Rattle.mux_eep.specs.Sizes.{rate_step, units_of_step}
@@ -14,7 +14,7 @@ use Rattle.mux_types.specs.declared.parts.Carrier.TheVariants.{Sub as BySub, Pac
 use Rattle.mux_types.specs.declared.parts.Packet.{Packet}
 use Rattle.mux_config.specs.declared.fault.ConfigFault.{ConfigFault}
 use Rattle.mux_config.specs.declared.fault.ConfigFault.TheVariants.{Overlap, Orphan, AddressUsed, EmptyService}
-use Rattle.mux_types.specs.Configuration.{Configuration, IsConfiguration, Each, IsAscending, IsPlaced, size_of_sub, sub_key, packet_key, carrier_of}
+use Rattle.mux_types.specs.Configuration.{Configuration, IsConfiguration, IsAscending, IsPlaced, size_of_sub, sub_key, packet_key, carrier_of}
 use Rattle.mux_types.specs.Tables.{has_entry, entry_at}
 use Rattle.mux_config.specs.Sound.{IsUnitOf, IsThere, IsSound, IsCrowded, overlaps, overlap_with, first_of_two, first_overlap, is_crowded, is_missing, has_orphan, has_same_address, has_address_twice, is_empty_service, other_fault, first_fault}
 use Rattle.mux_config.specs.SoundFaults.{AreCarried, AreFilled}
@@ -132,7 +132,7 @@ decided : (t : Bool) → (t ≡ true → ⊥) → t ≡ false
 decided true h = absurd (h refl)
 decided false h = refl
 
-pub apart_found : (xs : List Sub) → IsAscending sub_key xs → Each IsPlaced xs → ((a b : Sub) (unit : ℕ) → Contains xs a → Contains xs b → IsUnitOf a unit → IsUnitOf b unit → a.id ≡ b.id) → first_overlap xs ≡ None
+pub apart_found : (xs : List Sub) → IsAscending sub_key xs → AllByRecursion IsPlaced xs → ((a b : Sub) (unit : ℕ) → Contains xs a → Contains xs b → IsUnitOf a unit → IsUnitOf b unit → a.id ≡ b.id) → first_overlap xs ≡ None
 apart_found [] order placed apart = refl
 apart_found (a ∷ bs) order placed apart =
     let none : overlap_with a bs ≡ None = with_none a bs (λ b there. decided (overlaps a b) (λ e.
@@ -271,7 +271,7 @@ with_some : (a : Sub) (bs : List Sub) → is_some (overlap_with a bs) ≡ true �
 with_some a [] e = absurd (false≢true e)
 with_some a (b ∷ bs) e = with_some_by a b bs (overlaps a b) refl e (with_some a bs)
 
-shared : (xs : List Sub) → IsAscending sub_key xs → Each IsPlaced xs → is_some (first_overlap xs) ≡ true → (a b : Sub) × (unit : ℕ) × Contains xs a × Contains xs b × (a.id < b.id) × IsUnitOf a unit × IsUnitOf b unit
+shared : (xs : List Sub) → IsAscending sub_key xs → AllByRecursion IsPlaced xs → is_some (first_overlap xs) ≡ true → (a b : Sub) × (unit : ℕ) × Contains xs a × Contains xs b × (a.id < b.id) × IsUnitOf a unit × IsUnitOf b unit
 shared [] order placed e = absurd (false≢true e)
 shared (a ∷ bs) order placed e =
     elim (either_some (overlap_with a bs) (first_overlap bs) e) [

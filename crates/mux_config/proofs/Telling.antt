@@ -15,13 +15,14 @@ use Rattle.mux_entries.specs.declared.entry.Entry.TheVariants.{Sub as SubOf, Ser
 use Rattle.mux_entries.specs.declared.entry.SubEntry.{SubEntry}
 use Rattle.mux_entries.specs.declared.entry.ServiceEntry.{ServiceEntry}
 use Rattle.mux_entries.specs.declared.entry.PacketEntry.{PacketEntry}
-use Rattle.mux_types.specs.Configuration.{Configuration, IsConfiguration, Each, IsPlaced, size_of_sub}
+use Rattle.mux_types.specs.Configuration.{Configuration, IsConfiguration, IsPlaced, size_of_sub}
+use Rattle.std.specs.List.{AllByRecursion}
 use Rattle.mux_entries.specs.Facts.{Marked, marked, option_of, sub_entry, component_entry, component_entries, service_entry, packet_entry, sub_entries, service_entries, FactsTell}
 
 -- ---- lists
 
 -- what tells values of a kind apart tells lists of them apart
-pub lists_told : {T U : Type 0} (f : T → U) (P : T → Type 0) → ((a b : T) → P a → P b → f a ≡ f b → a ≡ b) → (xs ys : List T) → Each P xs → Each P ys → map f xs ≡ map f ys → xs ≡ ys
+pub lists_told : {T U : Type 0} (f : T → U) (P : T → Type 0) → ((a b : T) → P a → P b → f a ≡ f b → a ≡ b) → (xs ys : List T) → AllByRecursion P xs → AllByRecursion P ys → map f xs ≡ map f ys → xs ≡ ys
 lists_told f P told [] [] h k e = refl
 lists_told f P told [] (y ∷ ys) h k e = absurd (cc)
 lists_told f P told (x ∷ xs) [] h k e = absurd (cc)
@@ -32,12 +33,12 @@ lists_told f P told (x ∷ xs) (y ∷ ys) h k e =
     let tail : xs ≡ ys = lists_told f P told xs ys h.1 k.1 rest in
     cc
 
-pub each_holds : {T : Type 0} (xs : List T) → Each (λ (x : T). Unit {0}) xs
+pub each_holds : {T : Type 0} (xs : List T) → AllByRecursion (λ (x : T). Unit {0}) xs
 each_holds [] = tt
 each_holds (x ∷ xs) = (tt, each_holds xs)
 
 -- where a test holds of each member before a place and of none after it, the place is known
-pub parts_told : {T : Type 0} (test : T → Bool) (xs ys rs ts : List T) → Each (λ x. test x ≡ true) xs → Each (λ x. test x ≡ true) ys → Each (λ x. test x ≡ false) rs → Each (λ x. test x ≡ false) ts → xs ++ rs ≡ ys ++ ts → (xs ≡ ys) × (rs ≡ ts)
+pub parts_told : {T : Type 0} (test : T → Bool) (xs ys rs ts : List T) → AllByRecursion (λ x. test x ≡ true) xs → AllByRecursion (λ x. test x ≡ true) ys → AllByRecursion (λ x. test x ≡ false) rs → AllByRecursion (λ x. test x ≡ false) ts → xs ++ rs ≡ ys ++ ts → (xs ≡ ys) × (rs ≡ ts)
 parts_told test [] [] rs ts h k i j e = (refl, e)
 parts_told test [] (y ∷ ys) [] ts h k i j e = absurd (cc)
 parts_told test [] (y ∷ ys) (r ∷ rs) ts h k i j e =
@@ -54,7 +55,7 @@ parts_told test (x ∷ xs) (y ∷ ys) rs ts h k i j e =
     let front : x ∷ xs ≡ y ∷ ys = cc in
     (front, more.1)
 
-pub each_map : {T U : Type 0} (f : T → U) (P : U → Type 0) → ((x : T) → P (f x)) → (xs : List T) → Each P (map f xs)
+pub each_map : {T U : Type 0} (f : T → U) (P : U → Type 0) → ((x : T) → P (f x)) → (xs : List T) → AllByRecursion P (map f xs)
 each_map f P holds [] = tt
 each_map f P holds (x ∷ xs) = (holds x, each_map f P holds xs)
 
@@ -164,7 +165,7 @@ services_told c d e =
       lists_told packet_entry (λ (x : Packet). Unit {0}) (λ x y _ _. packet_told x y) c.packets d.packets (each_holds c.packets) (each_holds d.packets) parts.1,
     )
 
-pub each_join : {T : Type 0} (P : T → Type 0) (xs ys : List T) → Each P xs → Each P ys → Each P (xs ++ ys)
+pub each_join : {T : Type 0} (P : T → Type 0) (xs ys : List T) → AllByRecursion P xs → AllByRecursion P ys → AllByRecursion P (xs ++ ys)
 each_join P [] ys h k = k
 each_join P (x ∷ xs) ys h k = (h.0, each_join P xs ys h.1 k)
 

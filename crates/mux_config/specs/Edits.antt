@@ -1,6 +1,7 @@
 -- The ten edits of a configuration: what each changes, and why each is refused, in the order tested.
 use Rattle.std.specs.Prelude.{◌≡◌, ℕ, ◌+◌, ◌<◌, ◌≤◌, ◌==◌, ◌||◌, Bool, not, if◌then◌else◌, nat_lt, nat_le, [], ◌∷◌, ◌++◌, length, filter, Option, Some, None, Result, Ok, Err, is_err}
 use Rattle.std.specs.List.{list_any}
+use Rattle.mux_types.specs.declared.limits.TheConstants.{MEMBERS}
 use Rattle.mux_types.specs.declared.parts.Sub.{Sub}
 use Rattle.mux_types.specs.declared.parts.Service.{Service}
 use Rattle.mux_types.specs.declared.parts.Component.{Component}
@@ -14,6 +15,7 @@ use Rattle.mux_config.specs.declared.fault.EditFault.TheVariants.{IdUsed, IdAbse
 use Rattle.mux_types.specs.Configuration.{Configuration, IsConfiguration, IsSid, IsComponent, sub_key, sid_key, service_key, packet_key, size_of_sub, carrier_of, component_limit}
 use Rattle.mux_types.specs.Tables.{entry_at, with_entry, without_entry, has_entry, changed_at}
 use Rattle.mux_types.specs.Sameness.{names}
+use Rattle.mux_eep.specs.declared.limits.TheConstants.{CAPACITY_UNITS}
 use Rattle.mux_eep.specs.Sizes.{size_or_fault}
 
 -- the members that an edit names
@@ -50,7 +52,7 @@ has_bad_rate s = is_err (size_or_fault s.protection s.kbits)
 
 -- it ends past the last capacity unit
 abbrev pub is_past_end : Sub → Bool
-is_past_end s = nat_lt 864 (s.start + size_of_sub s)
+is_past_end s = nat_lt CAPACITY_UNITS (s.start + size_of_sub s)
 
 abbrev pub placing_fault : Sub → Option EditFault
 placing_fault s =
@@ -100,7 +102,7 @@ rate_sub id kbits c = outcome (rate_sub_fault id kbits c) (sub_rated id kbits c)
 abbrev pub add_service_fault : Sid → Configuration → Option EditFault
 add_service_fault sid c =
     if has_entry service_key (sid_key sid) c.services then Some IdUsed
-    else if nat_le 64 (length c.services) then Some TableFull
+    else if nat_le MEMBERS (length c.services) then Some TableFull
     else None
 
 abbrev pub service_added : Sid → Configuration → Configuration
@@ -163,7 +165,7 @@ abbrev pub add_packet_fault : Packet → Configuration → Option EditFault
 add_packet_fault p c =
     if has_entry packet_key p.scid c.packets then Some IdUsed
     else if has_bad_address p then Some BadAddress
-    else if nat_le 64 (length c.packets) then Some TableFull
+    else if nat_le MEMBERS (length c.packets) then Some TableFull
     else None
 
 abbrev pub packet_added : Packet → Configuration → Configuration

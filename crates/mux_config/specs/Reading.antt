@@ -2,8 +2,10 @@
 use Rattle.std.specs.Prelude.{ℕ, zero, suc, ◌+◌, nat_lt, List, [], ◌∷◌, ◌++◌, length, Result, Ok, Err}
 use Rattle.std.specs.List.{list_any}
 use Rattle.std.specs.Int.{w16}
+use Rattle.mux_eep.specs.declared.limits.TheConstants.{CAPACITY_UNITS}
 use Rattle.mux_eep.specs.Sizes.{size_or_fault}
 use Rattle.mux_eep.specs.declared.fault.EepFault.{EepFault}
+use Rattle.mux_types.specs.declared.limits.TheConstants.{MEMBERS}
 use Rattle.mux_types.specs.declared.parts.Sub.{Sub}
 use Rattle.mux_types.specs.declared.parts.Service.{Service}
 use Rattle.mux_types.specs.declared.parts.Component.{Component}
@@ -30,7 +32,7 @@ read_sub total low bytes = do
   protection ← protection_at total start.1
   kbits ← number_at w16 protection.1
   size ← size_or_field (place total protection.1) (size_or_fault protection.0 kbits.0)
-  ends ← refuse (nat_lt 864 (start.0 + size)) (Field (place total id.1))
+  ends ← refuse (nat_lt CAPACITY_UNITS (start.0 + size)) (Field (place total id.1))
   Ok (record { id = id.0; start = start.0; protection = protection.0; kbits = kbits.0 }, kbits.1)
 
 -- ---- services
@@ -75,9 +77,9 @@ members_at key member_at low before (suc count) bytes = do
 
 unfoldable pub record_at : (total : ℕ) → List ℕ → Reads Configuration
 record_at total bytes = do
-  sub_count ← byte_within total 0 64 bytes
-  service_count ← byte_within total 0 64 sub_count.1
-  packet_count ← byte_within total 0 64 service_count.1
+  sub_count ← byte_within total 0 MEMBERS bytes
+  service_count ← byte_within total 0 MEMBERS sub_count.1
+  packet_count ← byte_within total 0 MEMBERS service_count.1
   subs ← members_at sub_key (read_sub total) 0 [] sub_count.0 packet_count.1
   services ← members_at service_key (read_service total) 0 [] service_count.0 subs.1
   packets ← members_at packet_key (read_packet total) 0 [] packet_count.0 services.1

@@ -8,6 +8,7 @@
 mod apply;
 pub mod config;
 pub mod edit;
+mod edit_faults;
 mod edits;
 pub mod fault;
 pub mod flags;

@@ -1,8 +1,9 @@
 //! Sub-channels that share capacity units.
 
 ghost use Rattle.std.specs.Prelude.{◌≡◌, ◌≤◌};
-ghost use Rattle.std.specs.List.{list_any};
-ghost use Rattle.mux_types.specs.Configuration.{Each, IsPlaced, size_of_sub};
+ghost use Rattle.std.specs.List.{list_any, AllByRecursion};
+ghost use Rattle.mux_eep.specs.declared.limits.TheConstants.{CAPACITY_UNITS};
+ghost use Rattle.mux_types.specs.Configuration.{IsPlaced, size_of_sub};
 ghost use Rattle.mux_config.specs.Sound.{overlaps, is_crowded};
 
 use mux_eep::size_of;
@@ -10,7 +11,7 @@ use mux_types::Sub;
 
 /// Whether two of these sub-channels share a capacity unit.
 pub(crate) fn is_crowded(subs: &[Sub]) -> bool
-    requires { Each IsPlaced subs.now }
+    requires { AllByRecursion IsPlaced subs.now }
     ensures { result ≡ is_crowded subs.now }
 {
     for place in 0..subs.len() {
@@ -24,7 +25,7 @@ pub(crate) fn is_crowded(subs: &[Sub]) -> bool
 /// Whether a sub-channel shares a capacity unit with one of the others.
 fn overlaps_any(sub: &Sub, others: &[Sub]) -> bool
     requires placed { IsPlaced sub.now }
-    requires others { Each IsPlaced others.now }
+    requires others { AllByRecursion IsPlaced others.now }
     ensures { result ≡ list_any (overlaps sub.now) others.now }
 {
     for other in others {
@@ -50,7 +51,7 @@ pub(crate) fn overlaps(a: &Sub, b: &Sub) -> bool
 fn units(sub: &Sub) -> u32
     requires { IsPlaced sub.now }
     ensures value { result ≡ size_of_sub sub.now }
-    ensures bound { result ≤ 864 }
+    ensures bound { result ≤ CAPACITY_UNITS }
 {
     match size_of(sub.protection, sub.kbits) {
         Ok(size) => u32::from(size),

@@ -22,11 +22,11 @@ pub fn change<S: Store>(current: &S, next: &S) -> Change
     }
 }
 
-/// Whether two configurations have the same sub-channels.
-fn has_same_subs<S: Store>(current: &S, next: &S) -> bool
-    ensures value { result ≡ has_same_subs (S.content current.now) (S.content next.now) }
+/// Whether two stores hold the same sub-channels.
+pub fn has_same_subs<S: Store, T: Store>(current: &S, next: &T) -> bool
+    ensures value { result ≡ has_same_subs (S.content current.now) (T.content next.now) }
     ensures current { IsConfiguration (S.content current.now) }
-    ensures next { IsConfiguration (S.content next.now) }
+    ensures next { IsConfiguration (T.content next.now) }
 {
     if current.sub_count() != next.sub_count() {
         return false;
@@ -39,16 +39,17 @@ fn has_same_subs<S: Store>(current: &S, next: &S) -> bool
     true
 }
 
-/// Whether two configurations have the same services and packet components.
-fn has_same_services<S: Store>(current: &S, next: &S) -> bool
-    ensures { result ≡ has_same_services (S.content current.now) (S.content next.now) }
+/// Whether two stores hold the same services, with the same components in the same order, and the same packet
+/// components.
+pub fn has_same_services<S: Store, T: Store>(current: &S, next: &T) -> bool
+    ensures { result ≡ has_same_services (S.content current.now) (T.content next.now) }
 {
     has_same_service_set(current, next) && has_same_packet_set(current, next)
 }
 
-/// Whether two configurations have the same services, with the same components.
-fn has_same_service_set<S: Store>(current: &S, next: &S) -> bool
-    ensures { let c = S.content current.now in let d = S.content next.now in
+/// Whether two stores hold the same services, with the same components.
+fn has_same_service_set<S: Store, T: Store>(current: &S, next: &T) -> bool
+    ensures { let c = S.content current.now in let d = T.content next.now in
         result ≡ is_same_list is_same_service c.services d.services }
 {
     if current.service_count() != next.service_count() {
@@ -62,9 +63,9 @@ fn has_same_service_set<S: Store>(current: &S, next: &S) -> bool
     true
 }
 
-/// Whether two configurations have the same packet components.
-fn has_same_packet_set<S: Store>(current: &S, next: &S) -> bool
-    ensures { let c = S.content current.now in let d = S.content next.now in
+/// Whether two stores hold the same packet components.
+fn has_same_packet_set<S: Store, T: Store>(current: &S, next: &T) -> bool
+    ensures { let c = S.content current.now in let d = T.content next.now in
         result ≡ is_same_list is_same_packet c.packets d.packets }
 {
     if current.packet_count() != next.packet_count() {

@@ -1,22 +1,16 @@
 //! Reading a configuration record.
 
-ghost use Rattle.std.specs.Prelude.{◌≡◌, ℕ, ◌<◌, ◌≤◌, ◌^◌, ◌++◌, [], List, length, take, drop, Ok, Err, IfOk, IfErr};
-ghost use Rattle.mux_types.specs.Configuration.{Configuration, IsConfiguration, sid_key, component_limit};
+ghost use Rattle.std.specs.Prelude.{◌≡◌, ℕ, ◌<◌, ◌≤◌, ◌^◌, ◌++◌, [], List, length, drop, Ok, Err, IfOk, IfErr};
+ghost use Rattle.mux_types.specs.Configuration.{Configuration, IsConfiguration, sid_key};
 ghost use Rattle.mux_config.specs.Spelling.{config_bytes};
 ghost use Rattle.byte_fields.specs.FieldReading.{Reads, Takes};
 ghost use Rattle.mux_config.specs.Reading.{read_sub, components_at, read_service, read_packet, members_at, record_at, config_at};
 
 use crate::config::Config;
 use byte_fields::{Reader, RecordFault};
-use mux_eep::size_of;
+use mux_eep::{CAPACITY_UNITS, size_of};
 use mux_types::keys::sid_key;
-use mux_types::{BoundedVec, Component, Keyed, Packet, Service, SortedTable, Sub};
-
-/// The capacity units of a multiplex, numbered 0 to 863 (EN 300 401 clause 5.1).
-const CAPACITY_UNITS: u32 = 864;
-
-/// The most members that each set of a configuration has.
-const MEMBERS: u8 = 64;
+use mux_types::{BoundedVec, Component, Keyed, MEMBERS, Packet, Service, SortedTable, Sub};
 
 /// A member of a set, as a record has it.
 trait Member: Keyed {
@@ -51,7 +45,7 @@ impl Member for Sub {
         let Ok(size) = size_of(protection, kbits) else {
             return Err(RecordFault::Field(rate_place));
         };
-        if u32::from(start) + u32::from(size) > CAPACITY_UNITS {
+        if u32::from(start) + u32::from(size) > u32::from(CAPACITY_UNITS) {
             return Err(RecordFault::Field(start_place));
         }
         Ok(Sub {
@@ -146,9 +140,9 @@ fn record(bytes: &[u8]) -> Result<(Config, usize), RecordFault>
     ensures first_fault { IfErr result (λ fault. config_at bytes.now ≡ Err fault) }
 {
     let mut reader = Reader::new(bytes);
-    let sub_count = reader.byte_within(0, MEMBERS)?;
-    let service_count = reader.byte_within(0, MEMBERS)?;
-    let packet_count = reader.byte_within(0, MEMBERS)?;
+    let sub_count = reader.byte_within(0, MEMBERS as u8)?;
+    let service_count = reader.byte_within(0, MEMBERS as u8)?;
+    let packet_count = reader.byte_within(0, MEMBERS as u8)?;
     let subs = members(&mut reader, sub_count)?;
     let services = members(&mut reader, service_count)?;
     let packets = members(&mut reader, packet_count)?;

@@ -1,9 +1,9 @@
 //! Writing a configuration record.
 
-ghost use Rattle.std.specs.Prelude.{◌≡◌, ℕ, ◌++◌, ◌∷◌, [], List, length, Ok, OnOk, IfOk};
+ghost use Rattle.std.specs.Prelude.{◌≡◌, ℕ, ◌++◌, List, Ok, OnOk, IfOk};
 ghost use Rattle.std.specs.List.{flat_map};
 ghost use Rattle.mux_types.specs.Configuration.{IsConfiguration};
-ghost use Rattle.byte_fields.specs.FieldSpelling.{word_bytes, flag_byte, protection_bytes, sid_field, component_bytes};
+ghost use Rattle.byte_fields.specs.FieldSpelling.{component_bytes};
 ghost use Rattle.mux_config.specs.Spelling.{sub_record, service_record, packet_record, config_bytes};
 ghost use Rattle.mux_config.specs.Reading.{config_at};
 

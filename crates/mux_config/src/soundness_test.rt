@@ -1,9 +1,8 @@
 //! Whether a configuration is sound: whether it can be sent as it is.
 
-ghost use Rattle.std.specs.Prelude.{◌≡◌, ◌≤◌, ◌↔◌, if◌then◌else◌, length, drop, Some, None, IsOk};
+ghost use Rattle.std.specs.Prelude.{◌≡◌, ◌≤◌, ◌↔◌, length, drop, Some, None, IsOk};
 ghost use Rattle.std.specs.List.{list_any};
-ghost use Rattle.mux_types.specs.Configuration.{IsConfiguration, IsPlaced, sub_key, packet_key, size_of_sub, carrier_of};
-ghost use Rattle.mux_types.specs.Tables.{has_entry};
+ghost use Rattle.mux_types.specs.Configuration.{IsConfiguration, IsPlaced, carrier_of};
 ghost use Rattle.mux_config.specs.Sound.{IsSound, sound_or_fault, first_fault, other_fault, first_overlap, overlap_with, has_orphan, is_missing, has_address_twice, has_same_address, is_empty_service};
 ghost use Rattle.mux_config.specs.declared.fault.ConfigFault.TheVariants.{Overlap};
 ghost use Rattle.mux_types.specs.declared.parts.Carrier.TheVariants.{Sub as BySub};

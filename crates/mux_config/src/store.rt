@@ -6,6 +6,10 @@ ghost use Rattle.mux_config.specs.Sound.{IsCrowded};
 ghost use Rattle.mux_config.specs.Edits.{Edits, sub_at, service_at, packet_at, add_sub, add_sub_fault, sub_added, drop_sub, drop_sub_fault, sub_dropped, move_sub, move_sub_fault, sub_moved, rate_sub, rate_sub_fault, sub_rated, add_service, add_service_fault, service_added, drop_service, drop_service_fault, service_dropped, add_component, add_component_fault, component_added, drop_component, drop_component_fault, component_dropped, add_packet, add_packet_fault, packet_added, drop_packet, drop_packet_fault, packet_dropped};
 
 use crate::config::Config;
+use crate::edit_faults::{
+    add_component_fault, add_packet_fault, add_service_fault, add_sub_fault, drop_component_fault,
+    drop_packet_fault, drop_service_fault, drop_sub_fault, move_sub_fault, rate_sub_fault,
+};
 use crate::fault::EditFault;
 use mux_types::{Carrier, Component, Packet, ScId, Service, Sid, Sub, SubId};
 
@@ -96,9 +100,16 @@ pub trait Store: Drop {
 
     /// Adds a sub-channel. Faults: `IdUsed` (its identifier is there), `BadRate` (its profile has no size at
     /// its rate), `PastEnd` (it would end past capacity unit 863).
-    fn add_sub(&mut self, sub: Sub) -> Result<(), EditFault>
+    final fn add_sub(&mut self, sub: Sub) -> Result<(), EditFault>
         ensures { Edits (content self.old) (content self.new)
-            (add_sub sub (content self.old)) result };
+            (add_sub sub (content self.old)) result }
+    {
+        if let Some(fault) = add_sub_fault(self, &sub) {
+            return Err(fault);
+        }
+        self.add_sub_known(sub);
+        Ok(())
+    }
 
     /// [`Store::add_sub`] where no fault holds.
     fn add_sub_known(&mut self, sub: Sub)
@@ -106,9 +117,16 @@ pub trait Store: Drop {
         ensures { content self.new ≡ sub_added sub (content self.old) };
 
     /// Takes a sub-channel away. Fault: `IdAbsent` (it is not there).
-    fn drop_sub(&mut self, id: SubId) -> Result<(), EditFault>
+    final fn drop_sub(&mut self, id: SubId) -> Result<(), EditFault>
         ensures { Edits (content self.old) (content self.new)
-            (drop_sub id (content self.old)) result };
+            (drop_sub id (content self.old)) result }
+    {
+        if let Some(fault) = drop_sub_fault(self, id) {
+            return Err(fault);
+        }
+        self.drop_sub_known(id);
+        Ok(())
+    }
 
     /// [`Store::drop_sub`] where no fault holds.
     fn drop_sub_known(&mut self, id: SubId)
@@ -117,9 +135,16 @@ pub trait Store: Drop {
 
     /// Gives a sub-channel another start address. Faults: `IdAbsent` (it is not there), `PastEnd` (it would
     /// end past capacity unit 863).
-    fn move_sub(&mut self, id: SubId, start: u16) -> Result<(), EditFault>
+    final fn move_sub(&mut self, id: SubId, start: u16) -> Result<(), EditFault>
         ensures { Edits (content self.old) (content self.new)
-            (move_sub id start (content self.old)) result };
+            (move_sub id start (content self.old)) result }
+    {
+        if let Some(fault) = move_sub_fault(self, id, start) {
+            return Err(fault);
+        }
+        self.move_sub_known(id, start);
+        Ok(())
+    }
 
     /// [`Store::move_sub`] where no fault holds.
     fn move_sub_known(&mut self, id: SubId, start: u16)
@@ -129,9 +154,16 @@ pub trait Store: Drop {
     /// Gives a sub-channel another bit rate, in kbit/s; its protection profile stays. Faults: `IdAbsent` (it
     /// is not there), `BadRate` (its profile has no size at that rate), `PastEnd` (it would end past capacity
     /// unit 863).
-    fn rate_sub(&mut self, id: SubId, kbits: u16) -> Result<(), EditFault>
+    final fn rate_sub(&mut self, id: SubId, kbits: u16) -> Result<(), EditFault>
         ensures { Edits (content self.old) (content self.new)
-            (rate_sub id kbits (content self.old)) result };
+            (rate_sub id kbits (content self.old)) result }
+    {
+        if let Some(fault) = rate_sub_fault(self, id, kbits) {
+            return Err(fault);
+        }
+        self.rate_sub_known(id, kbits);
+        Ok(())
+    }
 
     /// [`Store::rate_sub`] where no fault holds.
     fn rate_sub_known(&mut self, id: SubId, kbits: u16)
@@ -140,9 +172,16 @@ pub trait Store: Drop {
 
     /// Adds a service without components. Faults: `IdUsed` (its identifier is there), `TableFull` (there are
     /// 64 services).
-    fn add_service(&mut self, sid: Sid) -> Result<(), EditFault>
+    final fn add_service(&mut self, sid: Sid) -> Result<(), EditFault>
         ensures { Edits (content self.old) (content self.new)
-            (add_service sid (content self.old)) result };
+            (add_service sid (content self.old)) result }
+    {
+        if let Some(fault) = add_service_fault(self, sid) {
+            return Err(fault);
+        }
+        self.add_service_known(sid);
+        Ok(())
+    }
 
     /// [`Store::add_service`] where no fault holds.
     fn add_service_known(&mut self, sid: Sid)
@@ -150,9 +189,16 @@ pub trait Store: Drop {
         ensures { content self.new ≡ service_added sid (content self.old) };
 
     /// Takes a service away, with its components. Fault: `IdAbsent` (it is not there).
-    fn drop_service(&mut self, sid: Sid) -> Result<(), EditFault>
+    final fn drop_service(&mut self, sid: Sid) -> Result<(), EditFault>
         ensures { Edits (content self.old) (content self.new)
-            (drop_service sid (content self.old)) result };
+            (drop_service sid (content self.old)) result }
+    {
+        if let Some(fault) = drop_service_fault(self, sid) {
+            return Err(fault);
+        }
+        self.drop_service_known(sid);
+        Ok(())
+    }
 
     /// [`Store::drop_service`] where no fault holds.
     fn drop_service_known(&mut self, sid: Sid)
@@ -161,9 +207,16 @@ pub trait Store: Drop {
 
     /// Adds a component at the end of a service. Faults: `IdAbsent` (the service is not there), `IdUsed` (it
     /// has a component of that carrier), `TooManyComponents` (it has 12, or 11 with a 32-bit SId).
-    fn add_component(&mut self, sid: Sid, component: Component) -> Result<(), EditFault>
+    final fn add_component(&mut self, sid: Sid, component: Component) -> Result<(), EditFault>
         ensures { Edits (content self.old) (content self.new)
-            (add_component sid component (content self.old)) result };
+            (add_component sid component (content self.old)) result }
+    {
+        if let Some(fault) = add_component_fault(self, sid, &component) {
+            return Err(fault);
+        }
+        self.add_component_known(sid, component);
+        Ok(())
+    }
 
     /// [`Store::add_component`] where no fault holds.
     fn add_component_known(&mut self, sid: Sid, component: Component)
@@ -172,9 +225,16 @@ pub trait Store: Drop {
 
     /// Takes the component of a carrier out of a service; the others close up. Fault: `IdAbsent` (the service
     /// is not there, or has no component of that carrier).
-    fn drop_component(&mut self, sid: Sid, carrier: Carrier) -> Result<(), EditFault>
+    final fn drop_component(&mut self, sid: Sid, carrier: Carrier) -> Result<(), EditFault>
         ensures { Edits (content self.old) (content self.new)
-            (drop_component sid carrier (content self.old)) result };
+            (drop_component sid carrier (content self.old)) result }
+    {
+        if let Some(fault) = drop_component_fault(self, sid, &carrier) {
+            return Err(fault);
+        }
+        self.drop_component_known(sid, carrier);
+        Ok(())
+    }
 
     /// [`Store::drop_component`] where no fault holds.
     fn drop_component_known(&mut self, sid: Sid, carrier: Carrier)
@@ -183,9 +243,16 @@ pub trait Store: Drop {
 
     /// Adds a packet component. Faults: `IdUsed` (its SCId is there), `BadAddress` (its address is 0 or above
     /// 1023), `TableFull` (there are 64 packet components).
-    fn add_packet(&mut self, packet: Packet) -> Result<(), EditFault>
+    final fn add_packet(&mut self, packet: Packet) -> Result<(), EditFault>
         ensures { Edits (content self.old) (content self.new)
-            (add_packet packet (content self.old)) result };
+            (add_packet packet (content self.old)) result }
+    {
+        if let Some(fault) = add_packet_fault(self, &packet) {
+            return Err(fault);
+        }
+        self.add_packet_known(packet);
+        Ok(())
+    }
 
     /// [`Store::add_packet`] where no fault holds.
     fn add_packet_known(&mut self, packet: Packet)
@@ -193,9 +260,16 @@ pub trait Store: Drop {
         ensures { content self.new ≡ packet_added packet (content self.old) };
 
     /// Takes a packet component away. Fault: `IdAbsent` (it is not there).
-    fn drop_packet(&mut self, scid: ScId) -> Result<(), EditFault>
+    final fn drop_packet(&mut self, scid: ScId) -> Result<(), EditFault>
         ensures { Edits (content self.old) (content self.new)
-            (drop_packet scid (content self.old)) result };
+            (drop_packet scid (content self.old)) result }
+    {
+        if let Some(fault) = drop_packet_fault(self, scid) {
+            return Err(fault);
+        }
+        self.drop_packet_known(scid);
+        Ok(())
+    }
 
     /// [`Store::drop_packet`] where no fault holds.
     fn drop_packet_known(&mut self, scid: ScId)

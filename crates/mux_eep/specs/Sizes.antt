@@ -1,5 +1,6 @@
 -- Sizes of equal error protection, in capacity units (EN 300 401 clauses 6.2.1 and 11.3).
 use Rattle.std.specs.Prelude.{◌≡◌, ℕ, ◌*◌, ◌/◌, ◌%◌, ◌<◌, ◌≤◌, ◌==◌, if◌then◌else◌, nat_lt, Result, Ok, Err}
+use Rattle.mux_eep.specs.declared.limits.TheConstants.{CAPACITY_UNITS}
 use Rattle.mux_eep.specs.declared.sizes.EepSet.{EepSet}
 use Rattle.mux_eep.specs.declared.sizes.EepSet.TheVariants.{A, B}
 use Rattle.mux_eep.specs.declared.fault.EepFault.{EepFault}
@@ -31,14 +32,14 @@ pub record IsSize (p : Profile) (kbits size : ℕ) : Type 0 where
   pub positive : 0 < kbits
   pub multiple : kbits % rate_step p.set ≡ 0
   pub from_table : size ≡ table_size p kbits
-  pub within : size ≤ 864
+  pub within : size ≤ CAPACITY_UNITS
 
 -- the size, or the first of the three faults that holds
 abbrev pub size_or_fault : Profile → ℕ → Result ℕ EepFault
 size_or_fault p kbits =
     if kbits == 0 then Err ZeroRate
     else if nat_lt 0 (kbits % rate_step p.set) then Err NotMultiple
-    else if nat_lt 864 (table_size p kbits) then Err PastMultiplex
+    else if nat_lt CAPACITY_UNITS (table_size p kbits) then Err PastMultiplex
     else Ok (table_size p kbits)
 
 -- for each profile the size grows strictly with the rate

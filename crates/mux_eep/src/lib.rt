@@ -7,9 +7,11 @@
 
 pub mod fault;
 pub mod laws;
+pub mod limits;
 pub mod sizes;
 
 pub use fault::EepFault;
+pub use limits::CAPACITY_UNITS;
 pub use sizes::{EepSet, Protection, rate_of, size_of};
 
 #[cfg(test)]

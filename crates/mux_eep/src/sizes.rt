@@ -1,14 +1,12 @@
 //! Protection profiles, and the size of a sub-channel at each bit rate.
 
-ghost use Rattle.std.specs.Prelude.{◌≡◌, ◌≢◌, ℕ, ◌<◌, ◌≤◌, ◌↔◌, IsSome, IfSome, IfNone, IfOk, Ok, Err};
+ghost use Rattle.std.specs.Prelude.{◌≡◌, ℕ, ◌<◌, ◌≤◌, ◌↔◌, IsSome, IfSome, IfNone, IfOk, Ok, Err};
 ghost use Rattle.mux_eep.specs.Sizes.{Profile, IsSize, size_or_fault, units_of_step, rate_step};
 ghost use Rattle.mux_eep.specs.declared.sizes.EepSet.TheVariants.{A};
 
 use crate::fault::EepFault;
+use crate::limits::CAPACITY_UNITS;
 use std::marker::Model;
-
-/// The capacity units of a multiplex, numbered 0 to 863 (EN 300 401 clause 5.1).
-const CAPACITY_UNITS: u16 = 864;
 
 /// The set of protection levels of a profile (EN 300 401 clause 6.2.1, option 000 and 001 of FIG 0/1).
 #[derive(Clone, Copy, Debug, PartialEq, Eq, PartialOrd, Ord)]

@@ -1,8 +1,9 @@
 //! The entries of FIG 0/0 to 0/3, with every field of the standard within its bits. An entry is a value;
 //! how it is written as bytes is the subject of the crate `fib_codec`.
 
-ghost use Rattle.std.specs.Prelude.{◌≡◌, ◌≢◌, ◌<◌, ◌≤◌, ◌↔◌, IsSome, IfSome};
+ghost use Rattle.std.specs.Prelude.{◌≡◌, ◌<◌, ◌↔◌, IsSome, IfSome};
 
+use crate::limits::COUNTS;
 use mux_types::{Bits, BoundedVec, ScId, ScTy, Sid, SubId};
 use std::marker::Model;
 
@@ -46,8 +47,9 @@ pub struct Ensemble {
 }
 
 impl Model for Ensemble {
-    ghost use Rattle.std.specs.Prelude.{◌≢◌, ◌<◌, IsSome, ◌↔◌};
+    ghost use Rattle.std.specs.Prelude.{◌<◌, IsSome, ◌↔◌};
     ghost use Rattle.mux_entries.specs.Entries.{EnsembleInformation};
+    ghost use Rattle.mux_entries.specs.declared.limits.TheConstants.{COUNTS};
 
     ghost Value = { EnsembleInformation };
 
@@ -60,7 +62,7 @@ impl Model for Ensemble {
     } };
 
     ghost invariant = { λ e.
-        (e.change < 4) × (e.count < 5000) × (IsSome e.occurrence ↔ (0 < e.change)) };
+        (e.change < 4) × (e.count < COUNTS) × (IsSome e.occurrence ↔ (0 < e.change)) };
 
     ghost inverse = { λ e. record {
       eid = e.eid;
@@ -84,7 +86,7 @@ impl Ensemble {
         occurrence: Option<u8>,
     ) -> Option<Ensemble>
         ensures within { IsSome result
-            ↔ ((change < 4) × (count < 5000) × (IsSome occurrence ↔ (0 < change))) }
+            ↔ ((change < 4) × (count < COUNTS) × (IsSome occurrence ↔ (0 < change))) }
         ensures value { IfSome result (λ e. e ≡ record {
           eid = eid;
           change = change;
@@ -96,7 +98,7 @@ impl Ensemble {
         if change >= 4 {
             return None;
         }
-        if count >= 5000 {
+        if count >= COUNTS {
             return None;
         }
         if occurrence.is_some() != (change > 0) {
@@ -136,7 +138,7 @@ impl Ensemble {
     /// The CIF count, 0 to 4999.
     pub fn count(&self) -> u16
         ensures value { result ≡ self.now.count }
-        ensures in_range { result < 5000 }
+        ensures in_range { result < COUNTS }
     {
         self.count
     }

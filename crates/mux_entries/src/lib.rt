@@ -4,5 +4,7 @@
 #![tactic(auto)]
 
 pub mod entry;
+pub mod limits;
 
 pub use entry::{ComponentEntry, Ensemble, Entry, PacketEntry, ServiceEntry, ShortEntry, SubEntry};
+pub use limits::COUNTS;

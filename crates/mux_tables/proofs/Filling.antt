@@ -2,7 +2,8 @@
 use Rattle.std.proofs.Common.{◌≡◌, ℕ, zero, suc, ◌+◌, ◌%◌, ◌<◌, ◌==◌, true, false, ltb, List, [], ◌∷◌, take, drop, length, Option, Some, None, IfSome, slice_get, get_or, refl, sym, ap, ◌∙◌, subst, add-one, arith}
 use Rattle.std.proofs.lemmas.Bool.{le-ltb, ne_eqb, eq-eqb}
 use Rattle.mux_types.specs.declared.parts.Sub.{Sub}
-use Rattle.mux_config.specs.Configuration.{Configuration, Each, IsAscending, IsPlaced, sub_key, size_of_sub}
+use Rattle.mux_config.specs.Configuration.{Configuration, IsAscending, IsPlaced, sub_key, size_of_sub}
+use Rattle.std.specs.List.{AllByRecursion}
 use Rattle.mux_eep.specs.Sizes.{rate_step}
 use Rattle.mux_config.specs.Tables.{entry_at, with_entry, without_entry}
 use Rattle.mux_config.specs.Edits.{placing_fault, add_sub_fault, sub_added, sub_dropped}
@@ -10,13 +11,13 @@ use Rattle.mux_config.proofs.Keeping.{entry_holds, absent_found}
 use Rattle.mux_types.proofs.Walking.{cut}
 use Rattle.mux_tables.proofs.Members.{without_below}
 
-pub placed_if : (id : ℕ) (xs : List Sub) (o : Option Sub) → Each IsPlaced xs → o ≡ entry_at sub_key id xs → IfSome o (λ s. IsPlaced s)
+pub placed_if : (id : ℕ) (xs : List Sub) (o : Option Sub) → AllByRecursion IsPlaced xs → o ≡ entry_at sub_key id xs → IfSome o (λ s. IsPlaced s)
 placed_if id xs None h e = tt
 placed_if id xs (Some s) h e = entry_holds IsPlaced sub_key id xs s h (sym e)
 
 -- ---- a member of a list in ascending order
 
-member : {T : Type 0} (P : T → Type 0) (xs : List T) (i : ℕ) (y : T) → Each P xs → slice_get xs i ≡ Some y → P y
+member : {T : Type 0} (P : T → Type 0) (xs : List T) (i : ℕ) (y : T) → AllByRecursion P xs → slice_get xs i ≡ Some y → P y
 member P [] i y h e = absurd (cc)
 member P (x ∷ xs) zero y h e = let is : x ≡ y = cc in subst P is h.0
 member P (x ∷ xs) (suc i) y h e = member P xs i y h.1 e
@@ -48,7 +49,7 @@ placing_none y h =
     let ends : ltb 864 (y.start + size_of_sub y) ≡ false = le-ltb 864 (y.start + size_of_sub y) h.ends in
     rw (some, whole, within, ends) refl
 
-pub fits_next : (c d : Configuration) (xs : List Sub) (i : ℕ) (y : Sub) → IsAscending sub_key xs → Each IsPlaced xs → slice_get xs i ≡ Some y → d ≡ record c { subs = take i xs } → add_sub_fault y d ≡ None
+pub fits_next : (c d : Configuration) (xs : List Sub) (i : ℕ) (y : Sub) → IsAscending sub_key xs → AllByRecursion IsPlaced xs → slice_get xs i ≡ Some y → d ≡ record c { subs = take i xs } → add_sub_fault y d ≡ None
 fits_next c d xs i y order placed e is =
     let absent = absent_found sub_key y.id (take i xs) (absent_before xs i y order e) in
     rw (is, absent) (placing_none y (member IsPlaced xs i y placed e))

@@ -1,17 +1,17 @@
 -- A table by keys is a set: what stands at a place is the member of its key, and writing a place edits the set.
 use Rattle.std.proofs.Common.{◌≡◌, ℕ, zero, suc, ◌+◌, ◌<◌, ◌≤◌, ◌==◌, true, false, not, cond, ltb, Bool, map, List, [], ◌∷◌, length, get_or, set, Option, Some, None, slice_get, refl, sym, ap, ◌∙◌, arith}
-use Rattle.std.specs.List.{find, filter}
+use Rattle.std.specs.List.{find, filter, AllByRecursion}
 use Rattle.std.proofs.lemmas.Bool.{lt-ltb, le-ltb, ne_eqb, eq-eqb, eqb-true}
-use Rattle.mux_config.specs.Configuration.{Each, IsAscending}
+use Rattle.mux_config.specs.Configuration.{IsAscending}
 use Rattle.mux_config.specs.Tables.{entry_at, with_entry, without_entry, with_entry_changed}
 use Rattle.mux_tables.specs.Members.{members, InPlace}
 
 module _ {T : Type 0} (key : T → ℕ) where
-  weaker : (P Q : T → Type 0) (xs : List T) → ((x : T) → P x → Q x) → Each P xs → Each Q xs
+  weaker : (P Q : T → Type 0) (xs : List T) → ((x : T) → P x → Q x) → AllByRecursion P xs → AllByRecursion Q xs
   weaker P Q [] h e = tt
   weaker P Q (x ∷ xs) h e = (h x e.0, weaker P Q xs h e.1)
 
-  pub above : (n : ℕ) (xs : List (Option T)) → InPlace key n xs → Each (λ y. n ≤ key y) (members xs)
+  pub above : (n : ℕ) (xs : List (Option T)) → InPlace key n xs → AllByRecursion (λ y. n ≤ key y) (members xs)
   above n [] h = tt
   above n (None ∷ xs) h = weaker (λ y. suc n ≤ key y) (λ y. n ≤ key y) (members xs) (λ y le. omega arith) (above (suc n) xs h)
   above n (Some x ∷ xs) h = (omega (arith, h.0), weaker (λ y. suc n ≤ key y) (λ y. n ≤ key y) (members xs) (λ y le. omega arith) (above (suc n) xs h.1))
@@ -22,7 +22,7 @@ module _ {T : Type 0} (key : T → ℕ) where
   ascends n (Some x ∷ xs) h = (weaker (λ y. suc n ≤ key y) (λ y. key x < key y) (members xs) (λ y le. omega (arith, h.0)) (above (suc n) xs h.1), ascends (suc n) xs h.1)
 
   -- before members that are all greater
-  first_of : (y : T) (xs : List T) → Each (λ x. key y < key x) xs → with_entry key y xs ≡ y ∷ xs
+  first_of : (y : T) (xs : List T) → AllByRecursion (λ x. key y < key x) xs → with_entry key y xs ≡ y ∷ xs
   first_of y [] h = refl
   first_of y (x ∷ xs) h = rw (lt-ltb (key y) (key x) h.0) refl
 
@@ -36,7 +36,7 @@ module _ {T : Type 0} (key : T → ℕ) where
       ap (λ ys. x ∷ ys) (added (suc n) xs i y h.1 (omega arith) e (omega (arith, k))) ∙ sym later
 
   -- no member has a lower key
-  pub without_below : (k : ℕ) (xs : List T) → Each (λ x. k < key x) xs → filter (λ x. not (key x == k)) xs ≡ xs
+  pub without_below : (k : ℕ) (xs : List T) → AllByRecursion (λ x. k < key x) xs → filter (λ x. not (key x == k)) xs ≡ xs
   without_below k [] h = refl
   without_below k (x ∷ xs) h = let ne : (key x == k) ≡ false = ne_eqb (key x) k (λ e. let less = h.0 in omega (arith, e, less)) in rw (ne, without_below k xs h.1) refl
 
@@ -53,11 +53,11 @@ module _ {T : Type 0} (key : T → ℕ) where
       let other : (key x == n + suc i) ≡ false = ne_eqb (key x) (n + suc i) (λ f. let g = h.0 in omega (arith, f, g)) in
       rw (other) (ap (λ ys. x ∷ ys) (removed (suc n) xs i y h.1 e ∙ ap (λ k. without_entry key k (members xs)) up))
 
-  pub unchanged : (y : T) (xs : List T) → Each (λ x. key y < key x) xs → with_entry_changed key y xs ≡ xs
+  pub unchanged : (y : T) (xs : List T) → AllByRecursion (λ x. key y < key x) xs → with_entry_changed key y xs ≡ xs
   unchanged y [] h = refl
   unchanged y (x ∷ xs) h = let ne : (key x == key y) ≡ false = ne_eqb (key x) (key y) (λ e. let less = h.0 in omega (arith, e, less)) in rw (ne, unchanged y xs h.1) refl
 
-  unfound : (k : ℕ) (xs : List T) → Each (λ x. k < key x) xs → find (λ x. key x == k) xs ≡ None
+  unfound : (k : ℕ) (xs : List T) → AllByRecursion (λ x. k < key x) xs → find (λ x. key x == k) xs ≡ None
   unfound k [] h = refl
   unfound k (x ∷ xs) h = let ne : (key x == k) ≡ false = ne_eqb (key x) k (λ e. let less = h.0 in omega (arith, e, less)) in rw (ne) (unfound k xs h.1)
 

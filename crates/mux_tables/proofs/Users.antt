@@ -3,7 +3,8 @@ use Rattle.std.proofs.Common.{◌≡◌, ◌≢◌, ℕ, ◌+◌, ◌*◌, ◌<�
 use Rattle.std.proofs.lemmas.Bool.{cases_lt, eqb-true}
 use Rattle.std.proofs.lemmas.Bool.Decides.{nat_tests}
 use Rattle.mux_types.specs.declared.parts.Sub.{Sub}
-use Rattle.mux_config.specs.Configuration.{Each, IsAscending, sub_key}
+use Rattle.mux_config.specs.Configuration.{IsAscending, sub_key}
+use Rattle.std.specs.List.{AllByRecursion}
 use Rattle.mux_config.specs.Tables.{entry_at, with_entry, without_entry, with_entry_changed}
 use Rattle.mux_config.specs.Sound.{IsUnitOf}
 use Rattle.mux_types.proofs.Elements.{contains_cases, contains_first, contains_later, contains_none, each_contains}
@@ -56,7 +57,7 @@ without_by : (t : Bool) (x s : Sub) (k u : ℕ) (xs : List Sub) → (sub_key x =
 without_by true x s k u xs is h e rest =
     let same : x ≡ s = cc in
     let at : sub_key x ≡ k = eqb-true (sub_key x) k is in
-    let none : without_entry sub_key k xs ≡ xs = without_below sub_key k xs (subst (λ (n : ℕ). Each (λ y. n < sub_key y) xs) at h.0) in
+    let none : without_entry sub_key k xs ≡ xs = without_below sub_key k xs (subst (λ (n : ℕ). AllByRecursion (λ y. n < sub_key y) xs) at h.0) in
     let f = users_cons x xs u in
     let g : users (without_entry sub_key k xs) u ≡ users xs u = ap (λ (ys : List Sub). users ys u) none in
     let i : share (span_of x) u ≡ share (span_of s) u = ap (λ (y : Sub). share (span_of y) u) same in
@@ -77,7 +78,7 @@ changed_by : (t : Bool) (x y s : Sub) (u : ℕ) (xs : List Sub) → (sub_key x =
 changed_by true x y s u xs is h e rest =
     let same : x ≡ s = cc in
     let at : sub_key x ≡ sub_key y = eqb-true (sub_key x) (sub_key y) is in
-    let none : with_entry_changed sub_key y xs ≡ xs = unchanged sub_key y xs (subst (λ (n : ℕ). Each (λ z. n < sub_key z) xs) at h.0) in
+    let none : with_entry_changed sub_key y xs ≡ xs = unchanged sub_key y xs (subst (λ (n : ℕ). AllByRecursion (λ z. n < sub_key z) xs) at h.0) in
     let f = users_cons x xs u in
     let j = users_cons y (with_entry_changed sub_key y xs) u in
     let g : users (with_entry_changed sub_key y xs) u ≡ users xs u = ap (λ (ys : List Sub). users ys u) none in

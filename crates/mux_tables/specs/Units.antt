@@ -1,6 +1,7 @@
 -- How many sub-channels have each capacity unit, and the lanes that hold these numbers.
 use Rattle.std.specs.Prelude.{◌≡◌, ℕ, ◌+◌, ◌-◌, ◌*◌, ◌<◌, ◌≤◌, ◌&&◌, Bool, if◌then◌else◌, nat_lt, nat_le, List, [], map, length, filter, slice_index_or}
 use Rattle.std.specs.List.{range_with_len}
+use Rattle.mux_eep.specs.declared.limits.TheConstants.{CAPACITY_UNITS}
 use Rattle.mux_types.specs.declared.parts.Sub.{Sub}
 use Rattle.mux_config.specs.Configuration.{Configuration, IsConfiguration, size_of_sub}
 use Rattle.mux_tables.specs.declared.span.Span.{Span}
@@ -53,7 +54,7 @@ abbrev pub SomeShared : (ℕ → ℕ) → Type 0
 SomeShared uses = (u : ℕ) × (1 < uses u)
 
 abbrev pub NoneShared : (ℕ → ℕ) → Type 0
-NoneShared uses = (u : ℕ) → u < 864 → uses u ≤ 1
+NoneShared uses = (u : ℕ) → u < CAPACITY_UNITS → uses u ≤ 1
 
 -- ---- a configuration and its counted units
 

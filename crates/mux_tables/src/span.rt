@@ -2,6 +2,7 @@
 
 ghost use Rattle.std.specs.Prelude.{◌≡◌, ◌+◌, ◌≤◌};
 ghost use Rattle.mux_config.specs.Configuration.{IsPlaced};
+ghost use Rattle.mux_eep.specs.declared.limits.TheConstants.{CAPACITY_UNITS};
 ghost use Rattle.mux_tables.specs.Units.{span_of};
 
 use mux_config::Sub;
@@ -20,7 +21,7 @@ pub(crate) struct Span {
 pub(crate) fn span_of(sub: &Sub) -> Span
     requires { IsPlaced sub.now }
     ensures value { result ≡ span_of sub.now }
-    ensures ends { result.start + result.size ≤ 864 }
+    ensures ends { result.start + result.size ≤ CAPACITY_UNITS }
 {
     match size_of(sub.protection, sub.kbits) {
         Ok(size) => Span {

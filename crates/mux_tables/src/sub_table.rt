@@ -1,6 +1,6 @@
 //! Sub-channels at the places of their identifiers.
 
-ghost use Rattle.std.specs.Prelude.{◌≡◌, ◌<◌, ◌≤◌, ◌↔◌, [], length, None, Some, IsTrue, slice_get};
+ghost use Rattle.std.specs.Prelude.{◌≡◌, ◌<◌, ◌↔◌, [], length, None, Some, IsTrue, slice_get};
 ghost use Rattle.mux_config.specs.Configuration.{IsAscending, sub_key};
 ghost use Rattle.mux_config.specs.Tables.{entry_at, with_entry, without_entry, with_entry_changed};
 ghost use Rattle.mux_tables.specs.Members.{members, InPlace};

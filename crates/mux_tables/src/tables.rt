@@ -2,7 +2,7 @@
 
 ghost use Rattle.std.specs.Prelude.{◌≡◌, ◌↔◌, None, Some, IfSome, IsTrue, []};
 ghost use Rattle.mux_config.specs.Configuration.{Configuration, IsConfiguration, IsPlaced, sub_key, nothing};
-ghost use Rattle.mux_config.specs.Tables.{entry_at, with_entry, without_entry, with_entry_changed};
+ghost use Rattle.mux_config.specs.Tables.{entry_at, with_entry_changed};
 ghost use Rattle.mux_config.specs.Sound.{IsCrowded};
 ghost use Rattle.mux_config.specs.Edits.{sub_at, add_sub_fault, sub_added, sub_dropped};
 

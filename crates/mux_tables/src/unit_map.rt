@@ -1,7 +1,7 @@
 //! How many spans have each capacity unit.
 
-ghost use Rattle.std.specs.Prelude.{◌≡◌, ℕ, [], slice_index, slice_index_or, true, false, ◌+◌, ◌-◌, ◌<◌, ◌≤◌, ◌%◌, length, nat_lt, if◌then◌else◌};
-ghost use Rattle.std.specs.Simd.Lanes.{zip2};
+ghost use Rattle.std.specs.Prelude.{◌≡◌, ℕ, slice_index, true, false, ◌+◌, ◌-◌, ◌<◌, ◌≤◌, length};
+ghost use Rattle.mux_eep.specs.declared.limits.TheConstants.{CAPACITY_UNITS};
 ghost use Rattle.mux_tables.specs.Units.{share, lane_in, counts_of_block, units_at, Counts, CountsIn, CountsOut, SomeShared, NoneShared};
 
 use crate::span::Span;
@@ -44,7 +44,7 @@ fn lane_in(base: u16, unit: u16) -> u8
 
 /// The units of a block that a span has: 1 in the lane of each, and 0 elsewhere.
 fn mask(block: u16, span: Span) -> u8x32
-    requires within { span.start + span.size ≤ 864 }
+    requires within { span.start + span.size ≤ CAPACITY_UNITS }
     requires block { block < 27 }
     ensures { result ≡ counts_of_block (share span) block }
 {
@@ -61,7 +61,7 @@ fn mask(block: u16, span: Span) -> u8x32
 
 /// Counts a span in.
 pub(crate) fn count_in(blocks: &mut [Block; 27], span: Span)
-    requires { span.start + span.size ≤ 864 }
+    requires { span.start + span.size ≤ CAPACITY_UNITS }
     ensures { CountsIn blocks.old blocks.new span }
 {
     for block in span.start / 32..(span.start + span.size).div_ceil(32) {
@@ -74,7 +74,7 @@ pub(crate) fn count_in(blocks: &mut [Block; 27], span: Span)
 
 /// Counts out a span that was counted in.
 pub(crate) fn count_out(blocks: &mut [Block; 27], span: Span)
-    requires { span.start + span.size ≤ 864 }
+    requires { span.start + span.size ≤ CAPACITY_UNITS }
     ensures { CountsOut blocks.old blocks.new span }
 {
     for block in span.start / 32..(span.start + span.size).div_ceil(32) {

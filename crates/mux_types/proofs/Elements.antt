@@ -1,6 +1,6 @@
 -- What a list contains, member by member.
 use Rattle.std.proofs.Common.{◌≡◌, zero, suc, List, [], ◌∷◌, Contains, refl, subst, ◌⊎◌, inl, inr, arith}
-use Rattle.mux_types.specs.Configuration.{Each}
+use Rattle.std.specs.List.{AllByRecursion}
 
 pub contains_cases : {T : Type 0} (y : T) (ys : List T) (x : T) → Contains (y ∷ ys) x → (y ≡ x) ⊎ Contains ys x
 contains_cases y ys x (zero, within, at) = inl at
@@ -15,7 +15,7 @@ contains_later y ys x (k, within, at) = (suc k, omega arith, at)
 pub contains_none : {T : Type 0} (x : T) → Contains [] x → ⊥
 contains_none x (k, within, at) = omega arith
 
-pub each_contains : {T : Type 0} (P : T → Type 0) (xs : List T) (x : T) → Each P xs → Contains xs x → P x
+pub each_contains : {T : Type 0} (P : T → Type 0) (xs : List T) (x : T) → AllByRecursion P xs → Contains xs x → P x
 each_contains P [] x h there = absurd (contains_none x there)
 each_contains P (y ∷ ys) x h there =
     elim (contains_cases y ys x there) [ inl e ↦ subst P e h.0 | inr later ↦ each_contains P ys x h.1 later ]

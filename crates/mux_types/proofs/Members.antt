@@ -1,8 +1,8 @@
 -- Lists in ascending order as sets.
 use Rattle.std.proofs.Common.{◌≡◌, ◌≢◌, ℕ, ◌<◌, ◌==◌, Bool, true, false, not, cond, ltb, eqb, List, [], ◌∷◌, map, Contains, refl, sym, ap, ◌∙◌, subst, ◌⊎◌, inl, inr, arith}
-use Rattle.std.specs.List.{filter}
+use Rattle.std.specs.List.{filter, AllByRecursion}
 use Rattle.std.proofs.lemmas.Bool.{false≢true, eqb-true, eqb-false, eq-eqb, ne_eqb}
-use Rattle.mux_types.specs.Configuration.{Each, IsAscending}
+use Rattle.mux_types.specs.Configuration.{IsAscending}
 use Rattle.mux_types.specs.Tables.{with_entry}
 use Rattle.mux_types.specs.Sets.{HasOneList, WithAdds, WithoutTakes, ChangedReplaces}
 use Rattle.mux_types.proofs.Elements.{contains_cases, contains_first, contains_later, contains_none, each_contains}
@@ -26,7 +26,7 @@ first_below key x y xs ys h k there back =
       ]
     ]
 
-rest_of : {T : Type 0} (key : T → ℕ) (x y : T) (xs ys : List T) (z : T) → x ≡ y → Each (λ w. key x < key w) xs → Contains xs z → Contains (y ∷ ys) z → Contains ys z
+rest_of : {T : Type 0} (key : T → ℕ) (x y : T) (xs ys : List T) (z : T) → x ≡ y → AllByRecursion (λ w. key x < key w) xs → Contains xs z → Contains (y ∷ ys) z → Contains ys z
 rest_of key x y xs ys z same above there h =
     elim (contains_cases y ys z h) [
       | inl e ↦
@@ -145,7 +145,7 @@ kept_key_by : {T : Type 0} (key : T → ℕ) (k : ℕ) (change : T → T) (x : T
 kept_key_by key k change x true is keeps = let here = eqb-true (key x) k is in keeps x here ∙ sym here
 kept_key_by key k change x false is keeps = refl
 
-each_mapped : {T : Type 0} (f : T → T) (key : T → ℕ) (n : ℕ) (xs : List T) → ((x : T) → key (f x) ≡ key x) → Each (λ x. n < key x) xs → Each (λ x. n < key x) (map f xs)
+each_mapped : {T : Type 0} (f : T → T) (key : T → ℕ) (n : ℕ) (xs : List T) → ((x : T) → key (f x) ≡ key x) → AllByRecursion (λ x. n < key x) xs → AllByRecursion (λ x. n < key x) (map f xs)
 each_mapped f key n [] same h = tt
 each_mapped f key n (x ∷ xs) same h = (let first = h.0 in let e = same x in omega (arith, first, e), each_mapped f key n xs same h.1)
 

@@ -1,23 +1,23 @@
 -- Sets in ascending order: where a key stands, and what an edit at that place makes of the set.
 use Rattle.std.proofs.Common.{◌≡◌, ℕ, zero, suc, ◌+◌, ◌<◌, ◌≤◌, true, false, cond, ltb, eqb, nat_lt, List, [], ◌∷◌, ◌++◌, length, get_or, take, drop, set, slice_get, if◌then◌else◌, Some, None, refl, sym, ap, ◌∙◌, arith, inl, inr}
-use Rattle.std.specs.List.{insert, remove, find, refill}
+use Rattle.std.specs.List.{insert, remove, find, refill, AllByRecursion}
 use Rattle.std.proofs.lemmas.Bool.{cases_lt, cases_eq, lt-ltb, le-ltb, eq-eqb, ne_eqb, eqb-false}
 use Rattle.std.proofs.lemmas.Option.{slice_get-get_or}
 use Rattle.std.proofs.lemmas.List.{drop_more, append-nil, length-set, drop_all, take_all}
-use Rattle.mux_types.specs.Configuration.{Each, IsAscending}
+use Rattle.mux_types.specs.Configuration.{IsAscending}
 use Rattle.mux_types.specs.Tables.{entry_at, with_entry, without_entry, with_entry_changed}
 
 -- ---- members
 
-pub each_weaker : {T : Type 0} (P Q : T → Type 0) → ((x : T) → P x → Q x) → (xs : List T) → Each P xs → Each Q xs
+pub each_weaker : {T : Type 0} (P Q : T → Type 0) → ((x : T) → P x → Q x) → (xs : List T) → AllByRecursion P xs → AllByRecursion Q xs
 each_weaker P Q weaker [] all = tt
 each_weaker P Q weaker (x ∷ xs) all = (weaker x all.0, each_weaker P Q weaker xs all.1)
 
-pub each_pushed : {T : Type 0} (P : T → Type 0) (xs : List T) (y : T) → Each P xs → P y → Each P (xs ++ y ∷ [])
+pub each_pushed : {T : Type 0} (P : T → Type 0) (xs : List T) (y : T) → AllByRecursion P xs → P y → AllByRecursion P (xs ++ y ∷ [])
 each_pushed P [] y all holds = (holds, tt)
 each_pushed P (x ∷ xs) y all holds = (all.0, each_pushed P xs y all.1 holds)
 
-pub each_with : {T : Type 0} (P : T → Type 0) (key : T → ℕ) (y : T) (xs : List T) → P y → Each P xs → Each P (with_entry key y xs)
+pub each_with : {T : Type 0} (P : T → Type 0) (key : T → ℕ) (y : T) (xs : List T) → P y → AllByRecursion P xs → AllByRecursion P (with_entry key y xs)
 each_with P key y [] holds all = (holds, tt)
 each_with P key y (x ∷ xs) holds all =
     elim (cases_lt (key y) (key x)) [
@@ -25,7 +25,7 @@ each_with P key y (x ∷ xs) holds all =
       | inr ge ↦ rw (le-ltb _ _ ge) (all.0, each_with P key y xs holds all.1)
     ]
 
-pub each_without : {T : Type 0} (P : T → Type 0) (key : T → ℕ) (k : ℕ) (xs : List T) → Each P xs → Each P (without_entry key k xs)
+pub each_without : {T : Type 0} (P : T → Type 0) (key : T → ℕ) (k : ℕ) (xs : List T) → AllByRecursion P xs → AllByRecursion P (without_entry key k xs)
 each_without P key k [] all = tt
 each_without P key k (x ∷ xs) all =
     elim (cases_eq (key x) k) [
@@ -34,7 +34,7 @@ each_without P key k (x ∷ xs) all =
     ]
 
 -- what holds of the new member holds of each afterwards, where it may rest on the key that was there
-pub each_changed : {T : Type 0} (P : T → Type 0) (key : T → ℕ) (y : T) → ((x : T) → key x ≡ key y → P x → P y) → (xs : List T) → Each P xs → Each P (with_entry_changed key y xs)
+pub each_changed : {T : Type 0} (P : T → Type 0) (key : T → ℕ) (y : T) → ((x : T) → key x ≡ key y → P x → P y) → (xs : List T) → AllByRecursion P xs → AllByRecursion P (with_entry_changed key y xs)
 each_changed P key y holds [] all = tt
 each_changed P key y holds (x ∷ xs) all =
     elim (cases_eq (key x) (key y)) [
@@ -44,7 +44,7 @@ each_changed P key y holds (x ∷ xs) all =
 
 -- ---- order
 
-pub ascends_pushed : {T : Type 0} (key : T → ℕ) (xs : List T) (y : T) → IsAscending key xs → Each (λ x. key x < key y) xs → IsAscending key (xs ++ y ∷ [])
+pub ascends_pushed : {T : Type 0} (key : T → ℕ) (xs : List T) (y : T) → IsAscending key xs → AllByRecursion (λ x. key x < key y) xs → IsAscending key (xs ++ y ∷ [])
 ascends_pushed key [] y up above = (tt, tt)
 ascends_pushed key (x ∷ xs) y up above =
     (each_pushed (λ z. key x < key z) xs y up.0 above.0, ascends_pushed key xs y up.1 above.1)
@@ -73,7 +73,7 @@ ascends_without key k (x ∷ xs) up =
 pub ascends_changed : {T : Type 0} (key : T → ℕ) (y : T) (xs : List T) → IsAscending key xs → IsAscending key (with_entry_changed key y xs)
 ascends_changed key y [] up = tt
 ascends_changed key y (x ∷ xs) up =
-    let later : Each (λ z. key x < key z) (with_entry_changed key y xs) = each_changed (λ z. key x < key z) key y (λ z same h. omega (arith, same, h)) xs up.0 in
+    let later : AllByRecursion (λ z. key x < key z) (with_entry_changed key y xs) = each_changed (λ z. key x < key z) key y (λ z same h. omega (arith, same, h)) xs up.0 in
     elim (cases_eq (key x) (key y)) [
       | inl same ↦ rw (eq-eqb _ _ same) (each_weaker (λ z. key x < key z) (λ z. key y < key z) (λ z h. omega (arith, same, h)) (with_entry_changed key y xs) later, ascends_changed key y xs up.1)
       | inr other ↦ rw (ne_eqb _ _ other) (later, ascends_changed key y xs up.1)
@@ -109,7 +109,7 @@ place_here key k xs i n d lt ge so_far =
 
 -- ---- the member at that place
 
-not_later : {T : Type 0} (key : T → ℕ) (k : ℕ) (xs : List T) → Each (λ x. k < key x) xs → entry_at key k xs ≡ None
+not_later : {T : Type 0} (key : T → ℕ) (k : ℕ) (xs : List T) → AllByRecursion (λ x. k < key x) xs → entry_at key k xs ≡ None
 not_later key k [] above = refl
 not_later key k (x ∷ xs) above = let other : eqb (key x) k ≡ false = ne_eqb _ _ (λ same. omega (arith, above.0, same)) in rw other (not_later key k xs above.1)
 

@@ -1,8 +1,7 @@
 -- Walking along a list, place by place: what is left of it, of two lists that are compared, and of a search.
 use Rattle.std.proofs.Common.{◌≡◌, ◌≢◌, ℕ, zero, suc, ◌+◌, ◌≤◌, Bool, true, false, ◌&&◌, ◌||◌, List, [], ◌∷◌, length, drop, Some, refl, sym, ap, ◌∙◌, subst, slice_get, add-one, arith}
 use Rattle.std.proofs.Math.ListN.{drop_of_length-le}
-use Rattle.std.specs.List.{list_any}
-use Rattle.mux_types.specs.Configuration.{Each}
+use Rattle.std.specs.List.{list_any, AllByRecursion}
 use Rattle.mux_types.specs.Sameness.{is_same_list}
 
 -- ---- a walk along a list, place by place
@@ -52,7 +51,7 @@ pub any_found : {T : Type 0} (test : T → Bool) (xs : List T) (i : ℕ) (x : T)
 any_found test xs i x b left e here = ap (λ (t : Bool). t || list_any test (drop (i + 1) xs)) (sym here) ∙ sym (any_step test xs i x e) ∙ left
 
 -- what holds of each member holds of the one at a place
-pub each_at : {T : Type 0} (P : T → Type 0) (xs : List T) (i : ℕ) (x : T) → Each P xs → slice_get xs i ≡ Some x → P x
+pub each_at : {T : Type 0} (P : T → Type 0) (xs : List T) (i : ℕ) (x : T) → AllByRecursion P xs → slice_get xs i ≡ Some x → P x
 each_at P [] i x h e = absurd (cc)
 each_at P (y ∷ ys) zero x h e = let same : y ≡ x = cc in subst P same h.0
 each_at P (y ∷ ys) (suc i) x h e = each_at P ys i x h.1 e

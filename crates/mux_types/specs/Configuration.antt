@@ -1,5 +1,7 @@
 -- What a configuration of the multiplex is (EN 300 401 clauses 6.1 to 6.3, with the limits of this project).
 use Rattle.std.specs.Prelude.{◌≢◌, ℕ, ◌+◌, ◌<◌, ◌≤◌, List, [], ◌∷◌, length}
+use Rattle.std.specs.List.{AllByRecursion}
+use Rattle.mux_types.specs.declared.limits.TheConstants.{MEMBERS}
 use Rattle.mux_types.specs.declared.parts.Sub.{Sub}
 use Rattle.mux_types.specs.declared.parts.Service.{Service}
 use Rattle.mux_types.specs.declared.parts.Component.{Component}
@@ -9,6 +11,7 @@ use Rattle.mux_types.specs.declared.parts.Carrier.TheVariants.{Sub as BySub, Pac
 use Rattle.mux_types.specs.declared.parts.Packet.{Packet}
 use Rattle.mux_types.specs.declared.numbers.Sid.{Sid}
 use Rattle.mux_types.specs.declared.numbers.Sid.TheVariants.{Short, Long}
+use Rattle.mux_eep.specs.declared.limits.TheConstants.{CAPACITY_UNITS}
 use Rattle.mux_eep.specs.Sizes.{IsSize, table_size}
 
 -- three finite sets, as lists in ascending order of their identifiers
@@ -34,15 +37,10 @@ service_key s = sid_key s.sid
 abbrev pub packet_key : Packet → ℕ
 packet_key p = p.scid
 
--- every member of a list has the property
-abbrev pub Each : {T : Type 0} → (T → Type 0) → List T → Type 0
-Each P [] = Unit {0}
-Each P (x ∷ xs) = P x × Each P xs
-
 -- identifiers ascend, so that none stands twice
 abbrev pub IsAscending : {T : Type 0} → (T → ℕ) → List T → Type 0
 IsAscending key [] = Unit {0}
-IsAscending key (x ∷ xs) = Each (λ y. key x < key y) xs × IsAscending key xs
+IsAscending key (x ∷ xs) = AllByRecursion (λ y. key x < key y) xs × IsAscending key xs
 
 -- a sub-channel has a size, and ends at or before the last capacity unit
 abbrev pub size_of_sub : Sub → ℕ
@@ -53,7 +51,7 @@ pub record IsPlaced (s : Sub) : Type 0 where
   pub from_one : 1 ≤ s.protection.level
   pub to_four : s.protection.level ≤ 4
   pub sized : IsSize s.protection s.kbits (size_of_sub s)
-  pub ends : s.start + size_of_sub s ≤ 864
+  pub ends : s.start + size_of_sub s ≤ CAPACITY_UNITS
 
 -- what a component names as its carrier
 abbrev pub carrier_of : Component → Carrier
@@ -64,7 +62,7 @@ carrier_of (InPackets scid) = ByPacket scid
 -- no carrier stands twice
 abbrev pub AreDifferent : List Component → Type 0
 AreDifferent [] = Unit {0}
-AreDifferent (c ∷ cs) = Each (λ d. carrier_of c ≢ carrier_of d) cs × AreDifferent cs
+AreDifferent (c ∷ cs) = AllByRecursion (λ d. carrier_of c ≢ carrier_of d) cs × AreDifferent cs
 
 -- identifiers and types are within their bits
 abbrev pub IsSid : Sid → Type 0
@@ -83,7 +81,7 @@ component_limit (Long n) = 11
 
 pub record IsService (s : Service) : Type 0 where
   pub named : IsSid s.sid
-  pub within : Each IsComponent s.components
+  pub within : AllByRecursion IsComponent s.components
   pub carriers : AreDifferent s.components
   pub few : length s.components ≤ component_limit s.sid
 
@@ -98,9 +96,9 @@ pub record IsConfiguration (c : Configuration) : Type 0 where
   pub subs_ascend : IsAscending sub_key c.subs
   pub services_ascend : IsAscending service_key c.services
   pub packets_ascend : IsAscending packet_key c.packets
-  pub subs_placed : Each IsPlaced c.subs
-  pub services_formed : Each IsService c.services
-  pub packets_addressed : Each IsAddressed c.packets
-  pub subs_few : length c.subs ≤ 64
-  pub services_few : length c.services ≤ 64
-  pub packets_few : length c.packets ≤ 64
+  pub subs_placed : AllByRecursion IsPlaced c.subs
+  pub services_formed : AllByRecursion IsService c.services
+  pub packets_addressed : AllByRecursion IsAddressed c.packets
+  pub subs_few : length c.subs ≤ MEMBERS
+  pub services_few : length c.services ≤ MEMBERS
+  pub packets_few : length c.packets ≤ MEMBERS

@@ -8,12 +8,14 @@
 pub mod bounded_vec;
 pub mod keys;
 pub mod laws;
+pub mod limits;
 pub mod numbers;
 pub mod parts;
 pub mod sameness;
 pub mod sorted_table;
 
 pub use bounded_vec::BoundedVec;
+pub use limits::MEMBERS;
 pub use numbers::{Bits, ScId, ScTy, Sid, SubId};
 pub use parts::{Carrier, Component, Packet, Service, Sub};
 pub use sorted_table::{Keyed, SortedTable};

@@ -1,6 +1,6 @@
 //! What a configuration consists of: sub-channels, services with their components, packet components.
 
-ghost use Rattle.std.specs.Prelude.{◌≡◌, [], ◌↔◌, IsTrue};
+ghost use Rattle.std.specs.Prelude.{◌≡◌, []};
 ghost use Rattle.mux_types.specs.Configuration.{component_limit, carrier_of};
 ghost use Rattle.mux_types.specs.Sameness.{names};
 ghost use Rattle.std.specs.List.{list_any};

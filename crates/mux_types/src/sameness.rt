@@ -38,67 +38,96 @@ fn is_same_sid(a: Sid, b: Sid) -> bool
     a == b
 }
 
-fn is_same_component(m: Component, n: Component) -> bool
-    ensures { result ≡ is_same_component m n }
+/// A part of a configuration, which may be the same as another.
+trait Same {
+    ghost use Rattle.std.specs.Prelude.{◌≡◌, Bool};
+
+    /// The test of two of them.
+    ghost same: { Self → Self → Bool };
+
+    /// Whether it is the same as another.
+    fn is_same(&self, other: &Self) -> bool
+        ensures { result ≡ same self.now other.now };
+}
+
+impl Same for Component {
+    ghost use Rattle.mux_types.specs.Sameness.{is_same_component};
+
+    ghost same = { is_same_component };
+
+    fn is_same(&self, other: &Component) -> bool {
+        *self == *other
+    }
+}
+
+impl Same for Sub {
+    ghost use Rattle.mux_types.specs.Sameness.{is_same_sub};
+
+    ghost same = { is_same_sub };
+
+    fn is_same(&self, other: &Sub) -> bool {
+        is_same_sub(*self, *other)
+    }
+}
+
+impl Same for Service {
+    ghost use Rattle.mux_types.specs.Sameness.{is_same_service};
+
+    ghost same = { is_same_service };
+
+    fn is_same(&self, other: &Service) -> bool {
+        is_same_service(self, other)
+    }
+}
+
+impl Same for Packet {
+    ghost use Rattle.mux_types.specs.Sameness.{is_same_packet};
+
+    ghost same = { is_same_packet };
+
+    fn is_same(&self, other: &Packet) -> bool {
+        is_same_packet(*self, *other)
+    }
+}
+
+/// Whether two lists have the same parts in the same order.
+fn has_same<T: Same>(xs: &[T], ys: &[T]) -> bool
+    ensures { result ≡ is_same_list T.same xs.now ys.now }
 {
-    m == n
+    if xs.len() != ys.len() {
+        return false;
+    }
+    for place in 0..xs.len() {
+        if !xs[place].is_same(&ys[place]) {
+            return false;
+        }
+    }
+    true
 }
 
 fn has_same_components(ms: &[Component], ns: &[Component]) -> bool
     ensures { result ≡ is_same_list is_same_component ms.now ns.now }
 {
-    if ms.len() != ns.len() {
-        return false;
-    }
-    for place in 0..ms.len() {
-        if !is_same_component(ms[place], ns[place]) {
-            return false;
-        }
-    }
-    true
+    has_same(ms, ns)
 }
 
 /// Whether two lists have the same sub-channels.
 pub fn has_same_subs(xs: &[Sub], ys: &[Sub]) -> bool
     ensures { result ≡ is_same_list is_same_sub xs.now ys.now }
 {
-    if xs.len() != ys.len() {
-        return false;
-    }
-    for place in 0..xs.len() {
-        if !is_same_sub(xs[place], ys[place]) {
-            return false;
-        }
-    }
-    true
+    has_same(xs, ys)
 }
 
 /// Whether two lists have the same services.
 pub fn has_same_services(xs: &[Service], ys: &[Service]) -> bool
     ensures { result ≡ is_same_list is_same_service xs.now ys.now }
 {
-    if xs.len() != ys.len() {
-        return false;
-    }
-    for place in 0..xs.len() {
-        if !is_same_service(&xs[place], &ys[place]) {
-            return false;
-        }
-    }
-    true
+    has_same(xs, ys)
 }
 
 /// Whether two lists have the same packet components.
 pub fn has_same_packets(xs: &[Packet], ys: &[Packet]) -> bool
     ensures { result ≡ is_same_list is_same_packet xs.now ys.now }
 {
-    if xs.len() != ys.len() {
-        return false;
-    }
-    for place in 0..xs.len() {
-        if !is_same_packet(xs[place], ys[place]) {
-            return false;
-        }
-    }
-    true
+    has_same(xs, ys)
 }

@@ -1,8 +1,8 @@
 //! A finite set whose members have keys, held in ascending order without memory of its own.
 
 ghost use Rattle.std.specs.Prelude.{◌≡◌, ◌<◌, ◌≤◌, ◌++◌, ◌∷◌, [], ◌↔◌, length, Some, None, IfSome, IfNone, IfOk, IfErr, IsTrue, option_copied, slice_get, set};
-ghost use Rattle.std.specs.List.{insert, remove};
-ghost use Rattle.mux_types.specs.Configuration.{Each, IsAscending};
+ghost use Rattle.std.specs.List.{insert, remove, AllByRecursion};
+ghost use Rattle.mux_types.specs.Configuration.{IsAscending};
 ghost use Rattle.mux_types.specs.Tables.{entry_at, with_entry, without_entry, with_entry_changed};
 
 use arrayvec::ArrayVec;
@@ -148,7 +148,7 @@ impl<T: Keyed, const CAP: usize> SortedTable<T, CAP> {
 
     /// Takes in a member whose key is above the key of each other, where there is room.
     pub fn append(&mut self, entry: T)
-        requires above { Each (λ x. T.key x < T.key entry) self.old }
+        requires above { AllByRecursion (λ x. T.key x < T.key entry) self.old }
         requires room { length self.old < CAP }
         ensures { self.new ≡ self.old ++ entry ∷ [] }
     {

@@ -1,9 +1,9 @@
 -- Lists in ascending order of a key, read from the front, and searched by halves.
 use Rattle.std.proofs.Common.{◌≡◌, ◌≢◌, ℕ, zero, suc, ◌+◌, ◌<◌, ◌≤◌, ◌↔◌, List, [], ◌∷◌, length, get_or, drop, Some, None, refl, ap, arith, inl, inr, eqb}
-use Rattle.std.specs.List.{find}
+use Rattle.std.specs.List.{find, AllByRecursion}
 use Rattle.std.proofs.lemmas.Bool.{cases_lt, eq-eqb, ne_eqb}
 use Rattle.std.proofs.lemmas.List.{get_or_default, drop_more}
-use Rattle.mux_config.specs.Configuration.{Each, IsAscending}
+use Rattle.mux_config.specs.Configuration.{IsAscending}
 use Rattle.mux_types.proofs.Tables.{each_weaker}
 use Rattle.plan_code.specs.declared.label.Label.{Label}
 use Rattle.plan_code.specs.Program.{IsLabel, label_key}
@@ -13,7 +13,7 @@ abbrev pub AscendsFrom : {T : Type 0} → (T → ℕ) → ℕ → List T → Typ
 AscendsFrom key low [] = Unit {0}
 AscendsFrom key low (x ∷ xs) = (low ≤ key x) × AscendsFrom key (key x + 1) xs
 
-each_above : {T : Type 0} (key : T → ℕ) (low : ℕ) (xs : List T) → AscendsFrom key (low + 1) xs → Each (λ y. low < key y) xs
+each_above : {T : Type 0} (key : T → ℕ) (low : ℕ) (xs : List T) → AscendsFrom key (low + 1) xs → AllByRecursion (λ y. low < key y) xs
 each_above key low [] up = tt
 each_above key low (x ∷ xs) up =
     (omega (arith, up.0), each_weaker (λ y. key x < key y) (λ y. low < key y) (λ y h. omega (arith, h, up.0)) xs (each_above key (key x) xs up.1))
@@ -22,12 +22,12 @@ pub from_ascends : {T : Type 0} (key : T → ℕ) (low : ℕ) (xs : List T) → 
 from_ascends key low [] up = tt
 from_ascends key low (x ∷ xs) up = (each_above key (key x) xs up.1, from_ascends key (key x + 1) xs up.1)
 
-pub ascends_from : {T : Type 0} (key : T → ℕ) (low : ℕ) (xs : List T) → IsAscending key xs → Each (λ y. low ≤ key y) xs → AscendsFrom key low xs
+pub ascends_from : {T : Type 0} (key : T → ℕ) (low : ℕ) (xs : List T) → IsAscending key xs → AllByRecursion (λ y. low ≤ key y) xs → AscendsFrom key low xs
 ascends_from key low [] up above = tt
 ascends_from key low (x ∷ xs) up above =
     (above.0, ascends_from key (key x + 1) xs up.1 (each_weaker (λ y. key x < key y) (λ y. key x + 1 ≤ key y) (λ y h. omega (arith, h)) xs up.0))
 
-each_from_zero : {T : Type 0} (key : T → ℕ) (xs : List T) → Each (λ y. 0 ≤ key y) xs
+each_from_zero : {T : Type 0} (key : T → ℕ) (xs : List T) → AllByRecursion (λ y. 0 ≤ key y) xs
 each_from_zero key [] = tt
 each_from_zero key (x ∷ xs) = (omega arith, each_from_zero key xs)
 
@@ -37,10 +37,10 @@ ascends_from_zero key xs up = ascends_from key 0 xs up (each_from_zero key xs)
 -- ---- labels, as a loop tests them
 
 pub record AreLabels (count low : ℕ) (xs : List Label) : Type 0 where
-  pub formed : Each (IsLabel count) xs
+  pub formed : AllByRecursion (IsLabel count) xs
   pub ascending : AscendsFrom label_key low xs
 
-pub are_labels_start : (count : ℕ) (xs : List Label) → (Each (IsLabel count) xs × IsAscending label_key xs) ↔ AreLabels count 0 xs
+pub are_labels_start : (count : ℕ) (xs : List Label) → (AllByRecursion (IsLabel count) xs × IsAscending label_key xs) ↔ AreLabels count 0 xs
 are_labels_start count xs =
     (λ h. record { formed = h.0; ascending = ascends_from_zero label_key xs h.1 }, λ h. (h.formed, from_ascends label_key 0 xs h.ascending))
 
@@ -58,7 +58,7 @@ not_labels_below count low i pc xs d lt is below h =
 key_at : {T : Type 0} (key : T → ℕ) (xs : List T) (i : ℕ) (d : T) → ℕ
 key_at key xs i d = key (get_or xs i d)
 
-each_at : {T : Type 0} (P : T → Type 0) (xs : List T) (i : ℕ) (d : T) → Each P xs → i < length xs → P (get_or xs i d)
+each_at : {T : Type 0} (P : T → Type 0) (xs : List T) (i : ℕ) (d : T) → AllByRecursion P xs → i < length xs → P (get_or xs i d)
 each_at P [] i d all lt = absurd (omega (arith, lt))
 each_at P (x ∷ xs) zero d all lt = all.0
 each_at P (x ∷ xs) (suc i) d all lt = each_at P xs i d all.1 (omega (arith, lt))

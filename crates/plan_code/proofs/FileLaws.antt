@@ -1,13 +1,13 @@
 -- A code that is read is the one whose file it is, and the file of a code is read again.
 use Rattle.std.proofs.Common.{◌≡◌, ◌≢◌, ℕ, zero, suc, ◌+◌, ◌<◌, ◌≤◌, Bool, true, false, cond, eqb, ltb, not, List, [], ◌∷◌, ◌++◌, length, Result, Ok, Err, IfOk, refl, sym, ap, subst, ◌∙◌, append_assoc, arith, inl, inr}
 use Rattle.std.specs.Int.{w16, w32, to_be_bytes}
-use Rattle.std.specs.List.{flat_map}
+use Rattle.std.specs.List.{flat_map, AllByRecursion}
 use Rattle.std.proofs.lemmas.Bool.{ltb-false, le-ltb, eqb-true, eqb-false, ne_eqb, cases_eq, eq-eqb}
 use Rattle.std.proofs.lemmas.List.{append-nil, nil_from_length}
 use Rattle.fib_codec.specs.declared.modes.Mode.{Mode}
 use Rattle.fib_codec.specs.declared.modes.Mode.TheVariants.{I, II, III, IV}
 use Rattle.byte_fields.specs.declared.record.RecordFault.{RecordFault}
-use Rattle.mux_config.specs.Configuration.{Configuration, IsConfiguration, Each, IsAscending}
+use Rattle.mux_config.specs.Configuration.{Configuration, IsConfiguration, IsAscending}
 use Rattle.mux_config.specs.FieldSpelling.{word_bytes}
 use Rattle.mux_config.specs.Spelling.{config_bytes}
 use Rattle.mux_config.specs.FieldReading.{Reads, place, byte_at, number_at, byte_within}
@@ -207,7 +207,7 @@ pub record AreItemsRead {T : Type 0} (spell : T → List ℕ) (P : T → Type 0)
   pub is : x.0 ≡ before ++ more
   pub front : Front bytes (flat_map spell more) x.1
   pub many : length more ≡ count
-  pub formed : Each P more
+  pub formed : AllByRecursion P more
 
 items_front : {T : Type 0} (read : List ℕ → Parses T) (spell : T → List ℕ) (P : T → Type 0) → IsParsing read spell P
     → (before : List T) (count : ℕ) (bytes : List ℕ) (x : List T × List ℕ) → IsBytes bytes → items_at read before count bytes ≡ Ok x → AreItemsRead spell P before count bytes x
@@ -229,7 +229,7 @@ items_front read spell P parsing before (suc count) bytes x fits e =
     }
 
 items_again : {T : Type 0} (read : List ℕ → Parses T) (spell : T → List ℕ) (P : T → Type 0) → IsParsing read spell P
-    → (before more : List T) (rest : List ℕ) → Each P more → items_at read before (length more) (flat_map spell more ++ rest) ≡ Ok (before ++ more, rest)
+    → (before more : List T) (rest : List ℕ) → AllByRecursion P more → items_at read before (length more) (flat_map spell more ++ rest) ≡ Ok (before ++ more, rest)
 unfolding items_at
 items_again {T} read spell P parsing before [] rest all = ap (λ (ls : List T). let y : List T × List ℕ = (ls, rest) in made y) (sym (append-nil before))
 items_again {T} read spell P parsing before (l ∷ more) rest all =
@@ -238,7 +238,7 @@ items_again {T} read spell P parsing before (l ∷ more) rest all =
     ∙ rw (parsing.again l (flat_map spell more ++ rest) all.0) (items_again read spell P parsing (before ++ l ∷ []) more rest all.1
     ∙ ap (λ (ls : List T). let y : List T × List ℕ = (ls, rest) in made y) (append_assoc before (l ∷ []) more))
 
-any_place : (xs : List Label) → Each (λ l. 0 ≤ label_key l) xs
+any_place : (xs : List Label) → AllByRecursion (λ l. 0 ≤ label_key l) xs
 any_place [] = tt
 any_place (x ∷ xs) = (omega arith, any_place xs)
 
@@ -287,10 +287,10 @@ pub record AreTablesRead (h : Header) (bytes : List ℕ) (p : Program) (rest : L
   pub configuration_count : length p.configurations ≡ h.configurations
   pub label_count : length p.labels ≡ h.labels
   pub line_count : length p.lines ≡ h.lines
-  pub configurations : Each IsConfiguration p.configurations
-  pub labels : Each (IsLabel (length p.configurations)) p.labels
+  pub configurations : AllByRecursion IsConfiguration p.configurations
+  pub labels : AllByRecursion (IsLabel (length p.configurations)) p.labels
   pub ascend : IsAscending label_key p.labels
-  pub lines : Each IsLine p.lines
+  pub lines : AllByRecursion IsLine p.lines
 
 none_before : (n m : ℕ) → n ≡ 0 + m → n ≡ m
 none_before n m e = omega (arith, e)
@@ -299,7 +299,7 @@ none_before n m e = omega (arith, e)
 record IsRow {T : Type 0} (spell : T → List ℕ) (P : T → Type 0) (count : ℕ) (bytes : List ℕ) (xs : List T) (rest : List ℕ) : Type 0 where
   front : Front bytes (flat_map spell xs) rest
   many : length xs ≡ count
-  formed : Each P xs
+  formed : AllByRecursion P xs
 
 is_row : {T : Type 0} (spell : T → List ℕ) (P : T → Type 0) (count : ℕ) (bytes : List ℕ) (xs : List T) (rest : List ℕ) → AreItemsRead spell P [] count bytes (xs, rest) → IsRow spell P count bytes xs rest
 is_row {T} spell P count bytes xs rest r =
@@ -330,7 +330,7 @@ tables_made total h b0 b1 b2 b3 cs ls is known fits ec el ei =
       label_count = fl.0.many;
       line_count = fi.many;
       configurations = fc.formed;
-      labels = subst (λ (n : ℕ). Each (IsLabel n) ls) (sym fc.many) fl.0.formed;
+      labels = subst (λ (n : ℕ). AllByRecursion (IsLabel n) ls) (sym fc.many) fl.0.formed;
       ascend = fl.1;
       lines = fi.formed;
     }
@@ -422,7 +422,7 @@ header_again total h rest planned configurations labels lines =
       count_again total 4096 h.lines rest (omega arith) lines,
     ) refl
 
-labels_again : (total count : ℕ) (ls : List Label) (rest : List ℕ) → count ≤ 256 → Each (IsLabel count) ls → IsAscending label_key ls
+labels_again : (total count : ℕ) (ls : List Label) (rest : List ℕ) → count ≤ 256 → AllByRecursion (IsLabel count) ls → IsAscending label_key ls
     → labels_in total count (length ls) (flat_map label_bytes ls ++ rest) ≡ Ok (ls, rest)
 labels_again total count ls rest few all up =
     ok_read 0 _ (ls, rest) (members_again label_key label_bytes (IsLabel count) (label_from total count) (λ low l more is from. label_again total count low l more few is from) 0 [] ls rest up (any_place ls) all)

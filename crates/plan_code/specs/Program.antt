@@ -1,7 +1,8 @@
 -- What a plan code is: a plan, a table of configurations, a table of labels and instructions, with every field
 -- within its limits.
 use Rattle.std.specs.Prelude.{ℕ, ◌<◌, ◌≤◌, ◌==◌, List, length, Option, find, slice_get, option_map}
-use Rattle.mux_config.specs.Configuration.{Configuration, IsConfiguration, Each, IsAscending, IsSid, IsComponent}
+use Rattle.mux_config.specs.Configuration.{Configuration, IsConfiguration, IsAscending, IsSid, IsComponent}
+use Rattle.std.specs.List.{AllByRecursion}
 use Rattle.mux_types.specs.declared.parts.Sub.{Sub}
 use Rattle.mux_types.specs.declared.parts.Carrier.{Carrier}
 use Rattle.mux_types.specs.declared.parts.Carrier.TheVariants.{Sub as BySub, Packet as ByPacket}
@@ -116,11 +117,11 @@ pub record IsProgram (p : Program) : Type 0 where
   pub planned : IsPlan p.plan
   pub configurations_from : 1 ≤ length p.configurations
   pub configurations_to : length p.configurations ≤ MOST_CONFIGURATIONS
-  pub configurations_formed : Each IsConfiguration p.configurations
+  pub configurations_formed : AllByRecursion IsConfiguration p.configurations
   pub labels_from : 1 ≤ length p.labels
   pub labels_to : length p.labels ≤ MOST_LABELS
-  pub labels_formed : Each (IsLabel (length p.configurations)) p.labels
+  pub labels_formed : AllByRecursion (IsLabel (length p.configurations)) p.labels
   pub labels_ascend : IsAscending label_key p.labels
   pub lines_from : 1 ≤ length p.lines
   pub lines_to : length p.lines ≤ MOST_INSTRUCTIONS
-  pub lines_formed : Each IsLine p.lines
+  pub lines_formed : AllByRecursion IsLine p.lines

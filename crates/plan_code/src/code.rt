@@ -2,7 +2,8 @@
 
 ghost use Rattle.std.specs.Prelude.{◌≡◌, ◌≤◌, ◌<◌, ◌↔◌, IsTrue, IsSome, IfSome, length, slice_get, ◌==◌, find};
 ghost use Rattle.std.specs.Option.{option_copied};
-ghost use Rattle.mux_config.specs.Configuration.{Each, IsAscending, IsConfiguration};
+ghost use Rattle.mux_config.specs.Configuration.{IsAscending, IsConfiguration};
+ghost use Rattle.std.specs.List.{AllByRecursion};
 ghost use Rattle.plan_code.specs.Program.{Program, IsProgram, IsLabel, IsLine, label_key, label_at, instr_at, line_at};
 
 use crate::instr::{Instr, Line};
@@ -53,7 +54,7 @@ fn is_count(len: usize, limit: u16) -> bool
 /// Whether each label is within its limits, and their places ascend.
 fn are_labels(labels: &[Label], configs: usize) -> bool
     ensures { IsTrue result
-        ↔ (Each (IsLabel configs) labels.now × IsAscending label_key labels.now) }
+        ↔ (AllByRecursion (IsLabel configs) labels.now × IsAscending label_key labels.now) }
 {
     let mut low = 0u32;
     for label in labels {
@@ -111,8 +112,8 @@ impl Code {
           labels = labels.items;
           lines = lines.items;
         }) }
-        ensures configurations { Each IsConfiguration configs.items }
-        ensures lines { Each IsLine lines.items }
+        ensures configurations { AllByRecursion IsConfiguration configs.items }
+        ensures lines { AllByRecursion IsLine lines.items }
     {
         configs_in_range(&configs);
         lines_in_range(&lines);

@@ -1,6 +1,6 @@
 //! Reading a code file.
 
-ghost use Rattle.std.specs.Prelude.{◌≡◌, ◌≤◌, ◌<◌, ◌^◌, [], length, IfOk, Ok, Err};
+ghost use Rattle.std.specs.Prelude.{◌≡◌, ◌≤◌, ◌<◌, [], length, IfOk, Ok, Err};
 ghost use Rattle.plan_code.specs.Program.{Program, IsProgram};
 ghost use Rattle.plan_code.specs.Spelling.{code_bytes};
 ghost use Rattle.plan_code.specs.Reading.{Gives, GivesNext, magic_at, mode_at, plan_at, count_at, header_at, config_in, line_in, items_at, labels_in, code_of};

@@ -1,12 +1,12 @@
 //! Writing a code file.
 
-ghost use Rattle.std.specs.Prelude.{◌≡◌, ℕ, ◌++◌, ◌∷◌, [], List, length, Ok, OnOk, IfOk};
+ghost use Rattle.std.specs.Prelude.{◌≡◌, ◌++◌, ◌∷◌, [], Ok, OnOk, IfOk};
 ghost use Rattle.std.specs.List.{flat_map};
 ghost use Rattle.mux_config.specs.FieldSpelling.{word_bytes};
 ghost use Rattle.mux_config.specs.Spelling.{sub_record, packet_record, config_bytes};
 ghost use Rattle.plan_code.specs.Opcodes.{opcode_byte};
 ghost use Rattle.plan_code.specs.Program.{IsProgram};
-ghost use Rattle.plan_code.specs.Spelling.{mode_bytes, plan_bytes, header_bytes, swap_bytes, label_bytes, carrier_bytes, edit_bytes, instr_bytes, line_bytes, code_bytes};
+ghost use Rattle.plan_code.specs.Spelling.{mode_bytes, plan_bytes, swap_bytes, label_bytes, carrier_bytes, edit_bytes, instr_bytes, line_bytes, code_bytes};
 ghost use Rattle.plan_code.specs.Reading.{code_of};
 
 use crate::code::Code;

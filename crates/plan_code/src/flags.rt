@@ -1,6 +1,6 @@
 //! Sets of counters and of contacts, a bit for each.
 
-ghost use Rattle.std.specs.Prelude.{⊤, ◌≡◌, ◌≢◌, ◌<◌, ◌↔◌, ℕ, IsTrue, true, [], ◌∷◌, codes};
+ghost use Rattle.std.specs.Prelude.{⊤, ◌≡◌, ◌<◌, ◌↔◌, IsTrue, [], ◌∷◌, codes};
 ghost use Rattle.plan_code.specs.Flags.{is_set, is_closed, with_counter, without_counter, with_contact, Includes};
 
 use crate::numbers::{ContactId, CounterId};

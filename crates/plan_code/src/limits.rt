@@ -1,5 +1,7 @@
 //! Limits of plan codes. Code and definitions cite these names.
 
+pub use mux_entries::COUNTS;
+
 /// The most configurations that a code has.
 pub const MOST_CONFIGURATIONS: u16 = 256;
 
@@ -27,9 +29,6 @@ pub const CONTACTS: u8 = 16;
 
 /// How many counters there are, numbered from 0.
 pub const COUNTERS: u8 = 8;
-
-/// How many CIF counts there are: the count runs modulo this number (EN 300 401 clause 6.4).
-pub const COUNTS: u16 = 5000;
 
 /// How many frames of 24 ms a day has.
 pub const FRAMES_A_DAY: u32 = 3_600_000;

@@ -1,8 +1,7 @@
 //! What the types of operands say: each is within its range. These functions do nothing; a caller learns
 //! their contracts.
-
-ghost use Rattle.std.specs.Prelude.{◌<◌};
-ghost use Rattle.mux_config.specs.Configuration.{Each, IsConfiguration, IsSid, IsComponent};
+ghost use Rattle.mux_config.specs.Configuration.{IsConfiguration, IsSid, IsComponent};
+ghost use Rattle.std.specs.List.{AllByRecursion};
 ghost use Rattle.plan_code.specs.Program.{IsNewSub, IsNewPacket, IsCarrier, IsEdit, IsInstr, IsLine};
 
 use crate::instr::{Instr, Line};
@@ -129,7 +128,7 @@ fn instr_in_range(instr: Instr)
 
 /// Each line is formed.
 pub(crate) fn lines_in_range(lines: &[Line])
-    ensures { Each IsLine lines.now }
+    ensures { AllByRecursion IsLine lines.now }
 {
     for line in lines {
         let _number = line.number;
@@ -139,7 +138,7 @@ pub(crate) fn lines_in_range(lines: &[Line])
 
 /// Each configuration is one.
 pub(crate) fn configs_in_range(configs: &[Config])
-    ensures { Each IsConfiguration configs.now }
+    ensures { AllByRecursion IsConfiguration configs.now }
 {
     for config in configs {
         config.subs();

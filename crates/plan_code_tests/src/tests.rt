@@ -11,6 +11,27 @@ mod modes;
 mod seen;
 mod swaps;
 
+use plan_code::{Counters, Label, Mode, Plan, Swap};
+
+/// The plan of the files below.
+const PLAN: Plan = Plan {
+    eid: 0xE1C5,
+    mode: Mode::I,
+    period: 4,
+    notice: 24,
+    budget: 20,
+};
+
+/// A label at the start, where the first configuration is current and next, and no swap is pending.
+const LABEL: Label = Label {
+    pc: 0,
+    cur: 0,
+    next: 0,
+    pending: Swap::Idle,
+    counters: Counters(0),
+    cost: 1,
+};
+
 /// The file of a code of one instruction, `End` in line 7, with nothing in its one configuration.
 const SHORT_FILE: [u8; 35] = [
     0x44, 0x41, 0x42, 0x50, 0x01, 0xE1, 0xC5, 0x04, 0x18, 0x14, 0x00, 0x01, 0x00, 0x01, 0x00, 0x01,

@@ -1,7 +1,7 @@
 -- What FIG 0/0 of a frame announces is what the state says.
 use Rattle.std.proofs.Common.{rules, ◌≡◌, ℕ, zero, suc, ◌≤◌, ◌%◌, ◌==◌, Bool, true, false, if◌then◌else◌, List, [], ◌∷◌, map, Contains, Option, Some, None, refl, sym, ap, subst, ◌∙◌, arith}
 use Rattle.std.proofs.Math.Dec.{eqb-suc-zero}
-use Rattle.mux_config.specs.Configuration.{Each}
+use Rattle.std.specs.List.{AllByRecursion}
 use Rattle.mux_entries.specs.Entries.{EnsembleInformation}
 use Rattle.mux_entries.specs.Facts.{marked}
 use Rattle.mux_entries.specs.declared.entry.Entry.TheVariants.{Ensemble as EnsembleOf}
@@ -72,7 +72,7 @@ abbrev pub Headed : List ℕ → Option Announcement → Type 0
 Headed fib a = (header : Fig) (others : List Fig) (e : EnsembleInformation) → IsFib fib (header ∷ others) → IsInFig header (marked false (EnsembleOf e)) → a ≡ announced_by (Some e)
 
 abbrev pub Unheaded : List ℕ → Option Announcement → Type 0
-Unheaded fib a = (figs : List Fig) → IsFib fib figs → Each IsNoHeader figs → a ≡ None
+Unheaded fib a = (figs : List Fig) → IsFib fib figs → AllByRecursion IsNoHeader figs → a ≡ None
 
 due : (plan : Plan) (s : State) (bytes fib : List ℕ) (a : Option Announcement) (n : ℕ) → s.count % count_step plan.mode ≡ n → IsRight plan s bytes → fib ≡ fib_at bytes 0 → Headed fib a → Unheaded fib a → a ≡ shown_announcement plan s
 due plan s bytes fib a zero is right at headed unheaded =

@@ -1,8 +1,7 @@
 //! The debugger.
 
-ghost use Rattle.std.specs.Prelude.{◌≡◌, false, ◌↔◌, ◌⊎◌, ◌≤◌, [], ◌∷◌, ◌++◌, length, Some, None, IsTrue, IfOk, IfErr, slice_get};
+ghost use Rattle.std.specs.Prelude.{◌≡◌, false, ◌↔◌, ◌≤◌, [], ◌∷◌, ◌++◌, length, Some, None, IsTrue, IfOk, IfErr, slice_get};
 ghost use Rattle.circular_buffer.specs.Buffer.{keep_last};
-ghost use Rattle.plan_code.specs.Program.{line_at};
 ghost use Rattle.plan_runs.specs.declared.event.Event.TheVariants.{Frame};
 ghost use Rattle.plan_runs.specs.Frames.{frame_bytes};
 ghost use Rattle.plan_player.specs.Playing.{played};

@@ -1,7 +1,7 @@
 //! The announcement that the bytes of a frame make.
 
 ghost use Rattle.std.specs.Prelude.{◌≡◌, Some, None, List, ◌∷◌, false};
-ghost use Rattle.mux_config.specs.Configuration.{Each};
+ghost use Rattle.std.specs.List.{AllByRecursion};
 ghost use Rattle.mux_entries.specs.Entries.{EnsembleInformation};
 ghost use Rattle.mux_entries.specs.Facts.{marked};
 ghost use Rattle.mux_entries.specs.declared.entry.Entry.TheVariants.{Ensemble as EnsembleOf};
@@ -50,7 +50,7 @@ fn announcement_in_fib(fib: &[u8; 32]) -> Option<Announcement>
     ensures headed { (header : Fig) (others : List Fig) (e : EnsembleInformation)
         → IsFib fib.now (header ∷ others) → IsInFig header (marked false (EnsembleOf e))
         → result ≡ announced_by (Some e) }
-    ensures unheaded { (figs : List Fig) → IsFib fib.now figs → Each IsNoHeader figs
+    ensures unheaded { (figs : List Fig) → IsFib fib.now figs → AllByRecursion IsNoHeader figs
         → result ≡ None }
 {
     let mut figs = match check(fib) {

@@ -1,6 +1,6 @@
 //! The last announcements.
 
-ghost use Rattle.std.specs.Prelude.{◌≡◌, ◌≤◌, IfOk, [], ◌∷◌, ◌++◌, length, slice_get};
+ghost use Rattle.std.specs.Prelude.{◌≡◌, ◌≤◌, IfOk, [], ◌++◌, length, slice_get};
 ghost use Rattle.circular_buffer.specs.Buffer.{keep_last};
 ghost use Rattle.plan_debug.specs.Announcements.{announcement_list};
 

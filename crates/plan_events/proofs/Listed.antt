@@ -1,7 +1,7 @@
 -- Items that are spelled by words, one after another: their words tell them apart, and are read item by item.
 use Rattle.std.proofs.Common.{◌≡◌, ◌≢◌, ℕ, ◌++◌, List, [], ◌∷◌, flat_map, refl, sym, ap, ◌∙◌, subst, append_assoc}
 use Rattle.std.proofs.lemmas.List.{append-nil}
-use Rattle.mux_config.specs.Configuration.{Each}
+use Rattle.std.specs.List.{AllByRecursion}
 
 -- the words of an item at the front name it
 abbrev pub TellsApart : {T : Type 0} → (T → List (List ℕ)) → (T → Type 0) → Type 0
@@ -15,8 +15,8 @@ HasWords {T} words_of_item = (s : T) (xs : List (List ℕ)) → words_of_item s 
 -- words that are left spell its rest
 abbrev pub GoesOn : {T : Type 0} → (T → List (List ℕ)) → (T → Type 0) → List (List ℕ) → List T → List (List ℕ) → Type 0
 GoesOn {T} words_of_item IsItem words done left =
-    (all : List T) → Each IsItem all → words ≡ flat_map words_of_item all
-    → (rest : List T) × (all ≡ done ++ rest) × Each IsItem rest × (left ≡ flat_map words_of_item rest)
+    (all : List T) → AllByRecursion IsItem all → words ≡ flat_map words_of_item all
+    → (rest : List T) × (all ≡ done ++ rest) × AllByRecursion IsItem rest × (left ≡ flat_map words_of_item rest)
 
 module _ {T : Type 0} (words_of_item : T → List (List ℕ)) (IsItem : T → Type 0) where
   -- what was read so far, and what is left
@@ -31,27 +31,27 @@ module _ {T : Type 0} (words_of_item : T → List (List ℕ)) (IsItem : T → Ty
       ∙ ap (λ (xs : List (List ℕ)). xs ++ more) (sym (flat_pushed done s))
       ∙ ap (λ (xs : List T). flat_map words_of_item xs ++ more) (sym grown)
 
-  each_pushed : (done : List T) (s : T) → Each IsItem done → IsItem s → Each IsItem (done ++ s ∷ [])
+  each_pushed : (done : List T) (s : T) → AllByRecursion IsItem done → IsItem s → AllByRecursion IsItem (done ++ s ∷ [])
   each_pushed [] s h is = (is, tt)
   each_pushed (d ∷ ds) s h is = (h.0, each_pushed ds s h.1 is)
 
-  pub pushed_in_range : (done after : List T) (s : T) → after ≡ done ++ s ∷ [] → Each IsItem done → IsItem s → Each IsItem after
-  pushed_in_range done after s grown h is = subst (Each IsItem) (sym grown) (each_pushed done s h is)
+  pub pushed_in_range : (done after : List T) (s : T) → after ≡ done ++ s ∷ [] → AllByRecursion IsItem done → IsItem s → AllByRecursion IsItem after
+  pushed_in_range done after s grown h is = subst (AllByRecursion IsItem) (sym grown) (each_pushed done s h is)
 
   pub goes_first : (words : List (List ℕ)) → GoesOn words_of_item IsItem words [] words
   goes_first words = λ all h e. (all, refl, h, e)
 
-  none_by : (left : List (List ℕ)) (rest : List T) → left ≢ [] → ((s : T) (xs : List (List ℕ)) → IsItem s → left ≢ words_of_item s ++ xs) → Each IsItem rest → left ≡ flat_map words_of_item rest → ⊥
+  none_by : (left : List (List ℕ)) (rest : List T) → left ≢ [] → ((s : T) (xs : List (List ℕ)) → IsItem s → left ≢ words_of_item s ++ xs) → AllByRecursion IsItem rest → left ≡ flat_map words_of_item rest → ⊥
   none_by left [] some none h e = some e
   none_by left (t ∷ ts) some none h e = none t (flat_map words_of_item ts) h.0 e
 
   -- where words are left and no item stands at their front, the words spell no list of items
-  pub spells_none : (words : List (List ℕ)) (done : List T) (left : List (List ℕ)) → left ≢ [] → ((s : T) (xs : List (List ℕ)) → IsItem s → left ≢ words_of_item s ++ xs) → GoesOn words_of_item IsItem words done left → (all : List T) → Each IsItem all → words ≢ flat_map words_of_item all
+  pub spells_none : (words : List (List ℕ)) (done : List T) (left : List (List ℕ)) → left ≢ [] → ((s : T) (xs : List (List ℕ)) → IsItem s → left ≢ words_of_item s ++ xs) → GoesOn words_of_item IsItem words done left → (all : List T) → AllByRecursion IsItem all → words ≢ flat_map words_of_item all
   spells_none words done left some none on = λ all h e. let o = on all h e in none_by left o.0 some none o.2 o.3
 
 module _ {T : Type 0} (words_of_item : T → List (List ℕ)) (IsItem : T → Type 0) (told : TellsApart words_of_item IsItem) (has : HasWords words_of_item) where
   -- items that are spelled alike are the same
-  pub one_list : (ss ts : List T) → Each IsItem ss → Each IsItem ts → flat_map words_of_item ss ≡ flat_map words_of_item ts → ss ≡ ts
+  pub one_list : (ss ts : List T) → AllByRecursion IsItem ss → AllByRecursion IsItem ts → flat_map words_of_item ss ≡ flat_map words_of_item ts → ss ≡ ts
   one_list [] [] h k e = refl
   one_list [] (t ∷ ts) h k e = absurd (has t (flat_map words_of_item ts) (sym e))
   one_list (s ∷ ss) [] h k e = absurd (has s (flat_map words_of_item ss) e)
@@ -61,7 +61,7 @@ module _ {T : Type 0} (words_of_item : T → List (List ℕ)) (IsItem : T → Ty
       let first = both.0 in
       cc
 
-  goes_by : (words : List (List ℕ)) (done : List T) (left more : List (List ℕ)) (s : T) (all rest : List T) → IsItem s → left ≡ words_of_item s ++ more → all ≡ done ++ rest → Each IsItem rest → left ≡ flat_map words_of_item rest → (later : List T) × (all ≡ (done ++ s ∷ []) ++ later) × Each IsItem later × (more ≡ flat_map words_of_item later)
+  goes_by : (words : List (List ℕ)) (done : List T) (left more : List (List ℕ)) (s : T) (all rest : List T) → IsItem s → left ≡ words_of_item s ++ more → all ≡ done ++ rest → AllByRecursion IsItem rest → left ≡ flat_map words_of_item rest → (later : List T) × (all ≡ (done ++ s ∷ []) ++ later) × AllByRecursion IsItem later × (more ≡ flat_map words_of_item later)
   goes_by words done left more s all [] is read cut h spelled = absurd (has s more (sym read ∙ spelled))
   goes_by words done left more s all (t ∷ ts) is read cut h spelled =
       let both = told s t more (flat_map words_of_item ts) is h.0 (sym read ∙ spelled) in

@@ -1,7 +1,7 @@
 -- What the text of an event file holds: its tokens spell the steps one after another.
 use Rattle.std.specs.Prelude.{◌≡◌, ℕ, ◌<◌, ◌≤◌, Bool, true, false, List, [], ◌∷◌, map, flat_map, replicate, codes, slice_range, Ok}
 use Rattle.std.specs.Fmt.{decimal}
-use Rattle.mux_config.specs.Configuration.{Each}
+use Rattle.std.specs.List.{AllByRecursion}
 use Rattle.script_tokens.specs.declared.token.Token.{Token}
 use Rattle.script_tokens.specs.declared.token.Inside.TheVariants.{Nothing}
 use Rattle.script_tokens.specs.declared.token.TheConstants.{NO_LIMITS}
@@ -9,6 +9,7 @@ use Rattle.script_tokens.specs.Bytes.{first_place}
 use Rattle.script_tokens.specs.Lexing.{lexed}
 use Rattle.plan_runs.specs.declared.event.Event.{Event}
 use Rattle.plan_runs.specs.declared.event.Event.TheVariants.{Contact as ContactChanges, Frame}
+use Rattle.plan_code.specs.declared.limits.TheConstants.{FRAMES_A_DAY}
 use Rattle.plan_events.specs.declared.step.Step.{Step}
 use Rattle.plan_events.specs.declared.step.Step.TheVariants.{Contact, Frames}
 
@@ -16,7 +17,7 @@ use Rattle.plan_events.specs.declared.step.Step.TheVariants.{Contact, Frames}
 
 abbrev pub IsStep : Step → Type 0
 IsStep (Contact c closed) = c < 16
-IsStep (Frames n) = (1 ≤ n) × (n ≤ 3600000)
+IsStep (Frames n) = (1 ≤ n) × (n ≤ FRAMES_A_DAY)
 
 -- the words that spell a step
 abbrev pub contact_word : Bool → List ℕ
@@ -42,7 +43,7 @@ pub record Holds (text : List ℕ) (steps : List Step) : Type 0 where
   pub tokens : List Token
   pub cut : lexed NO_LIMITS Nothing first_place text ≡ Ok tokens
   pub spelled : words_of_text text tokens ≡ flat_map step_words steps
-  pub in_range : Each IsStep steps
+  pub in_range : AllByRecursion IsStep steps
 
 -- a text holds one list of steps at most
 abbrev pub HoldsOneList : Type 0

@@ -1,7 +1,7 @@
 //! Reading command files.
 
-ghost use Rattle.std.specs.Prelude.{◌≡◌, ◌≢◌, ℕ, ◌<◌, ◌≤◌, List, ◌∷◌, ◌++◌, length, flat_map, codes, [], OnOk, IfOk, IfErr, IfSome, IfNone};
-ghost use Rattle.mux_config.specs.Configuration.{Each};
+ghost use Rattle.std.specs.Prelude.{◌≡◌, ◌≢◌, ℕ, ◌<◌, List, ◌∷◌, ◌++◌, length, flat_map, codes, [], OnOk, IfOk, IfErr, IfSome, IfNone};
+ghost use Rattle.std.specs.List.{AllByRecursion};
 ghost use Rattle.plan_events.specs.declared.command.Command.{Command};
 ghost use Rattle.plan_events.specs.declared.commands.Keyword.{Keyword};
 ghost use Rattle.plan_events.specs.declared.fault.EventFault.TheVariants.{Memory};
@@ -14,6 +14,7 @@ use crate::fault::{EventFault, fault_of};
 use crate::reading::{level, number};
 use crate::words::Words;
 use plan_code::ContactId;
+use plan_code::limits::FRAMES_A_DAY;
 use script_words::token::NO_LIMITS;
 use script_words::{Token, cut};
 use std::alloc::Global;
@@ -69,7 +70,7 @@ fn run(words: &mut Words) -> Result<Command, EventFault>
         → codes "run" ∷ words.old ≢ command_words s ++ rest) }
     ensures named { IfErr result (λ e. e ≢ Memory) }
 {
-    let frames = number(words, 1, 3_600_000)?;
+    let frames = number(words, 1, FRAMES_A_DAY)?;
     Ok(Command::Run(frames))
 }
 
@@ -138,8 +139,9 @@ fn commands(alloc: Global, text: &[u8], tokens: &[Token]) -> Result<Vec<Command>
     requires { AreSpans (length text.now) tokens.now }
     ensures read { IfOk result (λ v.
         words_of_text text.now tokens.now ≡ flat_map command_words v.items) }
-    ensures range { IfOk result (λ v. Each IsCommand v.items) }
-    ensures none { IfErr result (λ e. e ≢ Memory → (all : List Command) → Each IsCommand all
+    ensures range { IfOk result (λ v. AllByRecursion IsCommand v.items) }
+    ensures none { IfErr result (λ e. e ≢ Memory
+        → (all : List Command) → AllByRecursion IsCommand all
         → words_of_text text.now tokens.now ≢ flat_map command_words all) }
 {
     let mut commands = Vec::new(alloc);

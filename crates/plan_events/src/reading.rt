@@ -2,7 +2,7 @@
 
 ghost use Rattle.std.specs.Prelude.{◌≡◌, ◌≢◌, ℕ, ◌<◌, ◌≤◌, Bool, List, ◌∷◌, ◌++◌, length, flat_map, codes, [], OnOk, IfOk, IfErr, IfSome, IfNone};
 ghost use Rattle.std.specs.Fmt.{decimal};
-ghost use Rattle.mux_config.specs.Configuration.{Each};
+ghost use Rattle.std.specs.List.{AllByRecursion};
 ghost use Rattle.plan_events.specs.declared.step.Step.{Step};
 ghost use Rattle.plan_events.specs.declared.fault.EventFault.TheVariants.{Memory};
 ghost use Rattle.plan_events.specs.Events.{IsStep, step_words, contact_word, first_word, words_of_text, Holds};
@@ -12,6 +12,7 @@ use crate::fault::{EventFault, fault_of};
 use crate::step::Step;
 use crate::words::Words;
 use plan_code::ContactId;
+use plan_code::limits::FRAMES_A_DAY;
 use script_words::number::decimal;
 use script_words::token::NO_LIMITS;
 use script_words::{Token, cut};
@@ -106,7 +107,7 @@ fn frames(words: &mut Words) -> Result<Step, EventFault>
         → codes "frames" ∷ words.old ≢ step_words s ++ rest) }
     ensures named { IfErr result (λ e. e ≢ Memory) }
 {
-    let number = number(words, 1, 3_600_000)?;
+    let number = number(words, 1, FRAMES_A_DAY)?;
     Ok(Step::Frames(number))
 }
 
@@ -160,8 +161,8 @@ fn steps(alloc: Global, text: &[u8], tokens: &[Token]) -> Result<Vec<Step>, Even
     requires { AreSpans (length text.now) tokens.now }
     ensures read { IfOk result (λ v.
         words_of_text text.now tokens.now ≡ flat_map step_words v.items) }
-    ensures range { IfOk result (λ v. Each IsStep v.items) }
-    ensures none { IfErr result (λ e. e ≢ Memory → (all : List Step) → Each IsStep all
+    ensures range { IfOk result (λ v. AllByRecursion IsStep v.items) }
+    ensures none { IfErr result (λ e. e ≢ Memory → (all : List Step) → AllByRecursion IsStep all
         → words_of_text text.now tokens.now ≢ flat_map step_words all) }
 {
     let mut steps = Vec::new(alloc);

@@ -45,7 +45,7 @@ impl<'a> Words<'a> {
     /// The position of the next word, or just past the text.
     pub(crate) fn position(&self) -> Position {
         match self.tokens.first() {
-            None => end_of(self.text),
+            None => Position::past(self.text),
             Some(first) => first.position,
         }
     }
@@ -69,19 +69,4 @@ impl<'a> Words<'a> {
             self.tokens = rest;
         }
     }
-}
-
-/// The position just past a text.
-fn end_of(text: &[u8]) -> Position {
-    let mut line = 1;
-    let mut column = 1;
-    for byte in text {
-        if *byte == b'\n' {
-            line += 1;
-            column = 1;
-        } else {
-            column += 1;
-        }
-    }
-    Position { line, column }
 }

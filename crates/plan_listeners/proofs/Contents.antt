@@ -2,7 +2,8 @@
 use Rattle.std.specs.Prelude.{Contains, flat_map, map, drop, ◌*◌}
 use Rattle.std.proofs.Common.{◌≡◌, ℕ, suc, ◌+◌, ◌==◌, Bool, true, false, cond, List, [], ◌∷◌, ◌++◌, length, Option, Some, None, inl, inr, ◌⊎◌, refl, ap, sym, ◌∙◌, subst, arith}
 use Rattle.std.proofs.lemmas.List.{drop-drop}
-use Rattle.mux_config.specs.Configuration.{Configuration, Each}
+use Rattle.mux_config.specs.Configuration.{Configuration}
+use Rattle.std.specs.List.{AllByRecursion}
 use Rattle.mux_entries.specs.Entries.{EnsembleInformation}
 use Rattle.mux_entries.specs.Facts.{Marked, facts_of}
 use Rattle.fib_codec.specs.declared.modes.Mode.{Mode}
@@ -35,15 +36,15 @@ pub record Laws : Type 0 where
 
 -- ---- what is sent
 
-each_from : {T : Type 0} (P : T → Type 0) (xs : List T) → ((x : T) → In x xs → P x) → Each P xs
+each_from : {T : Type 0} (P : T → Type 0) (xs : List T) → ((x : T) → In x xs → P x) → AllByRecursion P xs
 each_from P [] f = tt
 each_from P (x ∷ xs) f = (f x (inl refl), each_from P xs (λ y h. f y (inr h)))
 
-chosen : (P : Marked → Type 0) (e : Marked) (xs : List Marked) → P e → Each P xs → (b : Bool) → Each P (cond b (e ∷ xs) xs)
+chosen : (P : Marked → Type 0) (e : Marked) (xs : List Marked) → P e → AllByRecursion P xs → (b : Bool) → AllByRecursion P (cond b (e ∷ xs) xs)
 chosen P e xs h hs true = (h, hs)
 chosen P e xs h hs false = hs
 
-each_where : (P : Marked → Type 0) (test : ℕ → Bool) (es : List Marked) (ns : List ℕ) → Each P es → Each P (entries_where test es ns)
+each_where : (P : Marked → Type 0) (test : ℕ → Bool) (es : List Marked) (ns : List ℕ) → AllByRecursion P es → AllByRecursion P (entries_where test es ns)
 each_where P test [] ns h = tt
 each_where P test (e ∷ es) [] h = tt
 each_where P test (e ∷ es) (n ∷ ns) h = chosen P e (entries_where test es ns) h.0 (each_where P test es ns h.1) (test n)
@@ -56,10 +57,10 @@ sent_by c n true m h =
       | inr there ↦ (let fact = fact_in true (entries_of n) m there in inr (refl, sym fact.0, fact.1))
     ]
 
-set_sent : (plan : Plan) (u : State) → Each (IsSentOf (is_noticed plan.notice u.left) u.current u.next) (sent_entries plan u)
+set_sent : (plan : Plan) (u : State) → AllByRecursion (IsSentOf (is_noticed plan.notice u.left) u.current u.next) (sent_entries plan u)
 set_sent plan u = each_from (IsSentOf (is_noticed plan.notice u.left) u.current u.next) (sent_entries plan u) (sent_by u.current u.next (is_noticed plan.notice u.left))
 
-fib_sent : (plan : Plan) (u : State) (n : ℕ) → Each (IsSentOf (is_noticed plan.notice u.left) u.current u.next) (fib_entries plan.mode n (sent_entries plan u))
+fib_sent : (plan : Plan) (u : State) (n : ℕ) → AllByRecursion (IsSentOf (is_noticed plan.notice u.left) u.current u.next) (fib_entries plan.mode n (sent_entries plan u))
 fib_sent plan u n = each_where (IsSentOf (is_noticed plan.notice u.left) u.current u.next) (λ m. m == n) (sent_entries plan u) (packing plan.mode (sent_entries plan u)) (set_sent plan u)
 
 fibs_sent : (plan : Plan) (u : State) (ns : List ℕ) → AreSentOf (is_noticed plan.notice u.left) u.current u.next (map (λ n. fib_entries plan.mode n (sent_entries plan u)) ns)
@@ -86,7 +87,7 @@ pub record FrameSays (plan : Plan) (u : State) : Type 0 where
   pub more : List (List Marked)
   pub first : Says first_fib_is (ensemble_sent plan u) entries
   pub later : AllSay later_are more
-  pub entries_sent : Each (IsSentOf (is_noticed plan.notice u.left) u.current u.next) entries
+  pub entries_sent : AllByRecursion (IsSentOf (is_noticed plan.notice u.left) u.current u.next) entries
   pub more_sent : AreSentOf (is_noticed plan.notice u.left) u.current u.next more
   pub heard : (m : Marked) → IsHeardInRow (shown_bytes plan u) m → SaidIn m.next entries (raw_entry m.entry) ⊎ SaidInSome m.next more (raw_entry m.entry)
 

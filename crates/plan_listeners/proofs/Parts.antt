@@ -2,7 +2,8 @@
 use Rattle.std.specs.Prelude.{◌||◌, slice_get}
 use Rattle.std.proofs.Common.{◌≡◌, ◌≢◌, ℕ, suc, ◌<◌, ◌≤◌, ◌==◌, Bool, true, false, cond, List, [], ◌∷◌, length, Some, inl, inr, ◌⊎◌, refl, ap, sym, ◌∙◌, subst, lt-ltb, le-ltb, arith}
 use Rattle.std.proofs.lemmas.Bool.{eq-eqb, ne_eqb}
-use Rattle.mux_config.specs.Configuration.{Each, IsAscending}
+use Rattle.mux_config.specs.Configuration.{IsAscending}
+use Rattle.std.specs.List.{AllByRecursion}
 use Rattle.mux_config.specs.Tables.{with_entry}
 use Rattle.fib_reader.specs.Raw.{Raw}
 use Rattle.fib_reader.specs.Listening.{identifier_of, is_known, kept, has_room}
@@ -20,7 +21,7 @@ partly known (x ∷ xs) = cond (known (identifier_of x)) (x ∷ partly known xs)
 abbrev pub with_known : ℕ → (ℕ → Bool) → ℕ → Bool
 with_known id known k = known k || (k == id)
 
-pub each_in : {T : Type 0} (P : T → Type 0) (xs : List T) (x : T) → Each P xs → In x xs → P x
+pub each_in : {T : Type 0} (P : T → Type 0) (xs : List T) (x : T) → AllByRecursion P xs → In x xs → P x
 each_in P [] x all h = absurd h
 each_in P (y ∷ ys) x all (inl same) = subst P same all.0
 each_in P (y ∷ ys) x all (inr more) = each_in P ys x all.1 more
@@ -40,15 +41,15 @@ or_first false b e = absurd cc
 clash : {X : Type 0} (b : Bool) → b ≡ true → b ≡ false → X
 clash b e f = absurd cc
 
-each_cond : (P : Raw → Type 0) (x : Raw) (ys : List Raw) (b : Bool) → P x → Each P ys → Each P (cond b (x ∷ ys) ys)
+each_cond : (P : Raw → Type 0) (x : Raw) (ys : List Raw) (b : Bool) → P x → AllByRecursion P ys → AllByRecursion P (cond b (x ∷ ys) ys)
 each_cond P x ys true h hs = (h, hs)
 each_cond P x ys false h hs = hs
 
-each_partly : (P : Raw → Type 0) (known : ℕ → Bool) (xs : List Raw) → Each P xs → Each P (partly known xs)
+each_partly : (P : Raw → Type 0) (known : ℕ → Bool) (xs : List Raw) → AllByRecursion P xs → AllByRecursion P (partly known xs)
 each_partly P known [] h = tt
 each_partly P known (x ∷ xs) h = each_cond P x (partly known xs) (known (identifier_of x)) h.0 (each_partly P known xs h.1)
 
-ascends_cond : (x : Raw) (ys : List Raw) (b : Bool) → Each (λ y. identifier_of x < identifier_of y) ys → IsAscending identifier_of ys → IsAscending identifier_of (cond b (x ∷ ys) ys)
+ascends_cond : (x : Raw) (ys : List Raw) (b : Bool) → AllByRecursion (λ y. identifier_of x < identifier_of y) ys → IsAscending identifier_of ys → IsAscending identifier_of (cond b (x ∷ ys) ys)
 ascends_cond x ys true h hs = (h, hs)
 ascends_cond x ys false h hs = hs
 
@@ -59,7 +60,7 @@ ascends_partly known (x ∷ xs) up =
 
 -- ---- an entry that is not known yet
 
-with_front : (raw : Raw) (xs : List Raw) → Each (λ y. identifier_of raw < identifier_of y) xs → with_entry identifier_of raw xs ≡ raw ∷ xs
+with_front : (raw : Raw) (xs : List Raw) → AllByRecursion (λ y. identifier_of raw < identifier_of y) xs → with_entry identifier_of raw xs ≡ raw ∷ xs
 with_front raw [] h = refl
 with_front raw (x ∷ xs) h = ap (λ b. cond b (raw ∷ x ∷ xs) (x ∷ with_entry identifier_of raw xs)) (lt-ltb (identifier_of raw) (identifier_of x) h.0)
 
@@ -69,7 +70,7 @@ with_behind raw x xs less = ap (λ b. cond b (raw ∷ x ∷ xs) (x ∷ with_entr
 same_at : (known : ℕ → Bool) (id k : ℕ) → k ≢ id → with_known id known k ≡ known k
 same_at known id k apart = or_none (known k) (k == id) (ne_eqb k id apart)
 
-same_above : (known : ℕ → Bool) (id : ℕ) (xs : List Raw) → Each (λ y. id < identifier_of y) xs → partly (with_known id known) xs ≡ partly known xs
+same_above : (known : ℕ → Bool) (id : ℕ) (xs : List Raw) → AllByRecursion (λ y. id < identifier_of y) xs → partly (with_known id known) xs ≡ partly known xs
 same_above known id [] h = refl
 same_above known id (x ∷ xs) h =
     let apart : identifier_of x ≢ id = (let less = h.0 in λ e. omega (arith, less, e)) in

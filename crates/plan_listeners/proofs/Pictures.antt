@@ -2,7 +2,8 @@
 use Rattle.std.specs.Prelude.{Contains}
 use Rattle.std.proofs.Common.{◌≡◌, ℕ, zero, suc, ◌<◌, ◌≤◌, ◌==◌, Bool, cond, List, [], ◌∷◌, ◌++◌, length, map, Option, Some, None, inl, inr, ◌⊎◌, refl, ap, sym, ◌∙◌, subst, arith}
 use Rattle.std.proofs.lemmas.List.{length-map}
-use Rattle.mux_config.specs.Configuration.{Configuration, IsConfiguration, IsPlaced, IsService, IsAddressed, Each, IsAscending, sub_key, service_key, packet_key}
+use Rattle.mux_config.specs.Configuration.{Configuration, IsConfiguration, IsPlaced, IsService, IsAddressed, IsAscending, sub_key, service_key, packet_key}
+use Rattle.std.specs.List.{AllByRecursion}
 use Rattle.mux_entries.specs.Facts.{Marked, marked, sub_entry, service_entry, packet_entry, sub_entries, service_entries}
 use Rattle.mux_entries.specs.declared.entry.Entry.{Entry}
 use Rattle.fib_codec.specs.Spelling.{ext_of}
@@ -22,9 +23,9 @@ whole_of c = record {
 }
 
 pub record IsSet (full : Pictured) : Type 0 where
-  pub subs : Each (λ r. r.ext ≡ 1) full.subs
-  pub services : Each (λ r. r.ext ≡ 2) full.services
-  pub packets : Each (λ r. r.ext ≡ 3) full.packets
+  pub subs : AllByRecursion (λ r. r.ext ≡ 1) full.subs
+  pub services : AllByRecursion (λ r. r.ext ≡ 2) full.services
+  pub packets : AllByRecursion (λ r. r.ext ≡ 3) full.packets
   pub subs_ascend : IsAscending identifier_of full.subs
   pub services_ascend : IsAscending identifier_of full.services
   pub packets_ascend : IsAscending identifier_of full.packets
@@ -60,7 +61,7 @@ abbrev by_ext : ℕ → Option Pictured → Option Pictured → Option Pictured 
 by_ext n a b c = cond (n == 1) a (cond (n == 2) b c)
 
 -- an entry of another extension is none of this list
-others : (m n : ℕ) (C : Raw → Type 0) (raw : Raw) (full : List Raw) → raw.ext ≡ m → (m ≡ n → ⊥) → Each (λ r. r.ext ≡ n) full
+others : (m n : ℕ) (C : Raw → Type 0) (raw : Raw) (full : List Raw) → raw.ext ≡ m → (m ≡ n → ⊥) → AllByRecursion (λ r. r.ext ≡ n) full
     → (x : Raw) → In x full → Also C raw x → C x
 others m n C raw full is apart all x inside (inl old) = old
 others m n C raw full is apart all x inside (inr same) =
@@ -190,19 +191,19 @@ in_fact flag (x ∷ xs) e (inr more) = inr (in_fact flag xs e more)
 
 -- ---- the picture of a configuration is a set
 
-each_said : {T : Type 0} (f : T → Raw) (n : ℕ) (xs : List T) → ((x : T) → (f x).ext ≡ n) → Each (λ (r : Raw). r.ext ≡ n) (map f xs)
+each_said : {T : Type 0} (f : T → Raw) (n : ℕ) (xs : List T) → ((x : T) → (f x).ext ≡ n) → AllByRecursion (λ (r : Raw). r.ext ≡ n) (map f xs)
 each_said f n [] all = tt
 each_said f n (x ∷ xs) all = (all x, each_said f n xs all)
 
-above_said : {T : Type 0} (key : T → ℕ) (f : T → Raw) (P : T → Type 0) (k : ℕ) (xs : List T) → ((x : T) → P x → identifier_of (f x) ≡ key x) → Each P xs → Each (λ y. k < key y) xs
-    → Each (λ (r : Raw). k < identifier_of r) (map f xs)
+above_said : {T : Type 0} (key : T → ℕ) (f : T → Raw) (P : T → Type 0) (k : ℕ) (xs : List T) → ((x : T) → P x → identifier_of (f x) ≡ key x) → AllByRecursion P xs → AllByRecursion (λ y. k < key y) xs
+    → AllByRecursion (λ (r : Raw). k < identifier_of r) (map f xs)
 above_said key f P k [] same all up = tt
 above_said key f P k (x ∷ xs) same all up = (subst (λ (n : ℕ). k < n) (sym (same x all.0)) up.0, above_said key f P k xs same all.1 up.1)
 
-ascends_said : {T : Type 0} (key : T → ℕ) (f : T → Raw) (P : T → Type 0) (xs : List T) → ((x : T) → P x → identifier_of (f x) ≡ key x) → Each P xs → IsAscending key xs → IsAscending identifier_of (map f xs)
+ascends_said : {T : Type 0} (key : T → ℕ) (f : T → Raw) (P : T → Type 0) (xs : List T) → ((x : T) → P x → identifier_of (f x) ≡ key x) → AllByRecursion P xs → IsAscending key xs → IsAscending identifier_of (map f xs)
 ascends_said key f P [] same all up = tt
 ascends_said key f P (x ∷ xs) same all up = (
-  subst (λ (n : ℕ). Each (λ (r : Raw). n < identifier_of r) (map f xs)) (sym (same x all.0)) (above_said key f P (key x) xs same all.1 up.0),
+  subst (λ (n : ℕ). AllByRecursion (λ (r : Raw). n < identifier_of r) (map f xs)) (sym (same x all.0)) (above_said key f P (key x) xs same all.1 up.0),
   ascends_said key f P xs same all.1 up.1,
 )
 

@@ -1,6 +1,7 @@
 -- A listener that is tuned, and what entries of the current and of the next configuration make of it.
 use Rattle.std.proofs.Common.{◌≡◌, ℕ, ◌==◌, Bool, true, false, cond, List, [], ◌∷◌, take, zero, suc, Option, Some, None, inl, inr, ◌⊎◌, refl, ap, sym, ◌∙◌, subst}
-use Rattle.mux_config.specs.Configuration.{Configuration, Each}
+use Rattle.mux_config.specs.Configuration.{Configuration}
+use Rattle.std.specs.List.{AllByRecursion}
 use Rattle.mux_entries.specs.Entries.{EnsembleInformation}
 use Rattle.mux_entries.specs.Facts.{Marked}
 use Rattle.fib_codec.specs.Grammar.{Fig, IsFib, OneList}
@@ -139,7 +140,7 @@ only_left C D x f (inl a) = a
 only_left C D x f (inr a) = absurd (f a)
 
 pub hears_entries : (noticed : Bool) (c n : Configuration) (C N : Raw → Type 0) (awaited : Option ℕ) (ms : List Marked) (l : Listening) → IsSet (whole_of c) → IsSet (whole_of n)
-    → Each (IsSentOf noticed c n) ms → Tuned noticed c n C N awaited l → HearsEntries noticed c n C N awaited ms l
+    → AllByRecursion (IsSentOf noticed c n) ms → Tuned noticed c n C N awaited l → HearsEntries noticed c n C N awaited ms l
 hears_entries noticed c n C N awaited [] l set_c set_n sent h = record {
   after = l;
   is = refl;
@@ -160,7 +161,7 @@ sent_ext : (noticed : Bool) (c n : Configuration) (m : Marked) → IsSentOf noti
 sent_ext noticed c n m (inl h) = some_ext (raw_entry m.entry) (whole_of c) (entry_is_of c m.entry h.1)
 sent_ext noticed c n m (inr h) = some_ext (raw_entry m.entry) (whole_of n) (entry_is_of n m.entry h.2)
 
-pub passes_entries : (noticed : Bool) (c n : Configuration) (ms : List Marked) → Each (IsSentOf noticed c n) ms → hear_marked ms untuned ≡ Some untuned
+pub passes_entries : (noticed : Bool) (c n : Configuration) (ms : List Marked) → AllByRecursion (IsSentOf noticed c n) ms → hear_marked ms untuned ≡ Some untuned
 passes_entries noticed c n [] sent = refl
 passes_entries noticed c n (m ∷ ms) sent =
     ap (λ (o : Option Listening). where_heard o (hear_marked ms)) (heard_past m.next (raw_entry m.entry) (sent_ext noticed c n m sent.0)) ∙ passes_entries noticed c n ms sent.1
@@ -180,7 +181,7 @@ AllSay (f ∷ fs) [] = ⊥
 AllSay (f ∷ fs) (ms ∷ mss) = Says f None ms × AllSay fs mss
 
 abbrev pub AreSentOf : Bool → Configuration → Configuration → List (List Marked) → Type 0
-AreSentOf noticed c n mss = Each (Each (IsSentOf noticed c n)) mss
+AreSentOf noticed c n mss = AllByRecursion (AllByRecursion (IsSentOf noticed c n)) mss
 
 pub record HearsFibs (noticed : Bool) (c n : Configuration) (C N : Raw → Type 0) (awaited : Option ℕ) (fibs : List (List ℕ)) (mss : List (List Marked)) (l : Listening) : Type 0 where
   pub after : Listening

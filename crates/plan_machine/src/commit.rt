@@ -2,7 +2,6 @@
 
 ghost use Rattle.std.specs.Prelude.{◌≡◌, ◌≤◌, ◌<◌};
 ghost use Rattle.plan_code.specs.Machine.{left_in, left_at};
-ghost use Rattle.plan_code.specs.declared.limits.TheConstants.{COUNTS};
 
 use plan_code::limits::COUNTS;
 

@@ -36,14 +36,14 @@ fn hold_after_frame(hold: Hold) -> Hold
 
 /// The CIF count after this one: 0 again after 4999 (EN 300 401 clause 5.1).
 fn count_after(count: u16) -> u16
-    ensures { result ≡ (count + 1) % 5000 }
+    ensures { result ≡ (count + 1) % COUNTS }
 {
     ((u32::from(count) + 1) % u32::from(COUNTS)) as u16
 }
 
 /// The frame of the day after this one: 0 again after 3,599,999.
 fn day_after(day: u32) -> u32
-    ensures { result ≡ (day + 1) % 3600000 }
+    ensures { result ≡ (day + 1) % FRAMES_A_DAY }
 {
     ((u64::from(day) + 1) % u64::from(FRAMES_A_DAY)) as u32
 }

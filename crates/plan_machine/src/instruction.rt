@@ -8,6 +8,7 @@ ghost use Rattle.plan_machine.specs.Positions.{state_of};
 use crate::commit::{left_at, left_in};
 use crate::machine::Machine;
 use mux_config::{Edit, Store};
+use plan_code::limits::COUNTS;
 use plan_code::{ContactId, CounterId, Delay, Hold, Instr, Plan, Times};
 
 /// Suspends; the next instruction runs when the hold has ended.
@@ -32,7 +33,7 @@ fn commit_in<S: Store>(plan: &Plan, delay: Delay, machine: &mut Machine<S>)
 /// Commits the next configuration, for a swap at this CIF count.
 fn commit_at<S: Store>(plan: &Plan, count: u16, machine: &mut Machine<S>)
     requires within { machine.old.pc < 65535 }
-    requires count { count < 5000 }
+    requires count { count < COUNTS }
     ensures { state_of S.content machine.new ≡ effect plan.now (CommitAt count)
         (state_of S.content machine.old) }
 {
@@ -74,7 +75,7 @@ fn edit<S: Store>(plan: &Plan, edit: Edit, machine: &mut Machine<S>)
     machine.pc += 1;
 }
 
-/// Goes on where the contact is closed; else jumps to the target.
+/// Continues where the contact is closed; else jumps to the target.
 fn test<S: Store>(plan: &Plan, contact: ContactId, target: u16, machine: &mut Machine<S>)
     requires { machine.old.pc < 65535 }
     ensures { state_of S.content machine.new ≡ effect plan.now (Test contact target)

@@ -11,6 +11,7 @@ use crate::machine::Machine;
 use fib_carousel::pages;
 use mux_config::{Ensemble, Store};
 use plan_code::Plan;
+use plan_code::limits::COUNTS;
 
 /// Whether a frame is one of the notice: from this many frames before the swap to the last one before it.
 pub fn is_noticed(notice: u8, left: Option<u16>) -> bool
@@ -72,7 +73,7 @@ fn low_of_swap(count: u16, left: Option<u16>) -> u8
 {
     match left {
         None => 0,
-        Some(left) => ((u32::from(count) + u32::from(left)) % 5000 % 250) as u8,
+        Some(left) => ((u32::from(count) + u32::from(left)) % u32::from(COUNTS) % 250) as u8,
     }
 }
 

@@ -16,7 +16,8 @@ use Rattle.plan_runs.specs.Runs.{happens, run, run_frames}
 use Rattle.plan_runs.specs.RightBytes.{FrameIsRight, FramesAreRight}
 use Rattle.plan_runs.specs.Headline.{HeadlineHolds}
 use Rattle.plan_runs.specs.TypedRuns.{StartsAreReached}
-use Rattle.plan_code.specs.declared.limits.TheConstants.{COUNTS, FRAMES_A_DAY}
+use Rattle.mux_entries.specs.declared.limits.TheConstants.{COUNTS}
+use Rattle.plan_code.specs.declared.limits.TheConstants.{FRAMES_A_DAY}
 use Rattle.plan_player.specs.Playing.{Playing, played}
 use Rattle.plan_player.specs.Delivery.{frames_of, played_bytes, next_frame, Stopped}
 use Rattle.plan_player.specs.declared.fault.StartFault.{StartFault}

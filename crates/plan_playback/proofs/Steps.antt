@@ -1,7 +1,7 @@
 -- The events of steps: those of the first of them, of the next, and of the rest.
 use Rattle.std.specs.Prelude.{get_or}
 use Rattle.std.proofs.Common.{◌≡◌, ℕ, zero, suc, ◌+◌, ◌<◌, ◌≤◌, List, [], ◌∷◌, ◌++◌, length, take, drop, refl, sym, ap, subst, ◌∙◌, arith, append_assoc, take-append-drop}
-use Rattle.mux_config.specs.Configuration.{Each}
+use Rattle.std.specs.List.{AllByRecursion}
 use Rattle.plan_runs.specs.declared.event.Event.{Event}
 use Rattle.plan_events.specs.declared.step.Step.{Step}
 use Rattle.plan_events.specs.declared.step.Step.TheVariants.{Contact, Frames}
@@ -32,10 +32,10 @@ few_of_step : (step : Step) → IsStep step → length (events_of_step step) ≤
 few_of_step (Contact c closed) h = omega arith
 few_of_step (Frames n) h = omega (arith, length_replicate n, h.1)
 
-step_at : (steps : List Step) (i : ℕ) (d : Step) → Each IsStep steps → i < length steps → IsStep (get_or steps i d)
+step_at : (steps : List Step) (i : ℕ) (d : Step) → AllByRecursion IsStep steps → i < length steps → IsStep (get_or steps i d)
 step_at [] i d all inside = absurd (omega (arith, inside))
 step_at (x ∷ xs) zero d all inside = all.0
 step_at (x ∷ xs) (suc j) d all inside = step_at xs j d all.1 (omega (arith, inside))
 
-pub few_events : (steps : List Step) (i : ℕ) (step : Step) → Each IsStep steps → i < length steps → step ≡ get_or steps i step → length (events_of_step step) ≤ 3600000
+pub few_events : (steps : List Step) (i : ℕ) (step : Step) → AllByRecursion IsStep steps → i < length steps → step ≡ get_or steps i step → length (events_of_step step) ≤ 3600000
 few_events steps i step all inside is = few_of_step step (subst (λ (s : Step). IsStep s) (sym is) (step_at steps i step all inside))

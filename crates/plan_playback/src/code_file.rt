@@ -2,7 +2,7 @@
 
 ghost use Rattle.std.specs.Prelude.{◌≡◌, IfOk, IfErr};
 ghost use Rattle.plan_code.specs.declared.fault.CodeFault.TheVariants.{Memory as NoMemoryForCode};
-ghost use Rattle.plan_code.specs.Program.{Program, IsProgram, line_at};
+ghost use Rattle.plan_code.specs.Program.{Program, line_at};
 ghost use Rattle.plan_playback.specs.declared.fault.RunFault.TheVariants.{Code as OfCode};
 ghost use Rattle.plan_playback.specs.Parts.{IsCodeFault};
 ghost use Rattle.plan_playback.specs.Playback.{IsTypedFileOf, or_zero};

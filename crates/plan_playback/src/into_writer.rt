@@ -1,7 +1,6 @@
 //! A playback written to a writer, through a buffer.
 
 ghost use Rattle.std.specs.Prelude.{◌≡◌, List, [], length, get_or, Some, IfOk, IfErr, OnOk};
-ghost use Rattle.plan_code.specs.Program.{Program};
 ghost use Rattle.plan_player.specs.Playing.{Playing};
 ghost use Rattle.plan_player.specs.Delivery.{frames_of};
 ghost use Rattle.plan_events.specs.declared.step.Step.{Step};

@@ -1,8 +1,6 @@
 //! A code's file and the text of an event file, played.
 
-ghost use Rattle.std.specs.Prelude.{◌≡◌, ℕ, List, true, false, Some, IfOk, IfErr, OnOk};
-ghost use Rattle.std.specs.Io.KnownBytes.{Appends};
-ghost use Rattle.plan_code.specs.Program.{Program};
+ghost use Rattle.std.specs.Prelude.{◌≡◌, List, false, IfErr, OnOk};
 ghost use Rattle.plan_player.specs.Playing.{Playing};
 ghost use Rattle.plan_events.specs.declared.step.Step.{Step};
 ghost use Rattle.plan_events.specs.Events.{events_of};

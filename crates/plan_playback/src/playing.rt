@@ -1,7 +1,7 @@
 //! The steps of an event file, played into a sink.
 
 ghost use Rattle.std.specs.Prelude.{◌≡◌, ◌≤◌, false, true, replicate, IfOk, OnOk, IfErr, OnErr};
-ghost use Rattle.mux_config.specs.Configuration.{Each};
+ghost use Rattle.std.specs.List.{AllByRecursion};
 ghost use Rattle.plan_runs.specs.declared.event.Event.TheVariants.{Frame};
 ghost use Rattle.plan_player.specs.Delivery.{Stopped};
 ghost use Rattle.plan_events.specs.Events.{IsStep, events_of_step, events_of};
@@ -122,7 +122,7 @@ pub(crate) fn play_steps<'a, S: Store, K: Sink>(
     sink: &mut K,
 ) -> Result<u128, Cut>
     requires working { K.has_failed sink.old ≡ false }
-    requires steps { Each IsStep steps.now }
+    requires steps { AllByRecursion IsStep steps.now }
     ensures done { IfOk result (λ n. Delivered player.old player.new (events_of steps.now)
         (K.taken sink.old) (K.taken sink.new) n) }
     ensures works { OnOk result (K.has_failed sink.new ≡ false) }

@@ -2,7 +2,8 @@
 use Rattle.std.specs.Prelude.{slice_get, option_map}
 use Rattle.std.proofs.Common.{◌≡◌, ℕ, zero, suc, ◌+◌, ◌-◌, ◌≤◌, Bool, true, false, cond, List, [], ◌∷◌, Option, Some, None, refl, sym, ap, subst, arith, inl, inr}
 use Rattle.std.proofs.lemmas.Bool.{eqb-true, eqb-false}
-use Rattle.mux_config.specs.Configuration.{Configuration, Each}
+use Rattle.mux_config.specs.Configuration.{Configuration}
+use Rattle.std.specs.List.{AllByRecursion}
 use Rattle.plan_code.specs.declared.hold.Hold.{Hold}
 use Rattle.plan_code.specs.declared.hold.Hold.TheVariants.{Waits, WaitsDay, WaitsContact, WaitsSwap, Ended}
 use Rattle.plan_code.specs.declared.instr.Line.{Line}
@@ -27,7 +28,7 @@ pub record Bursts (p : Program) (ts : List Known) (b : ℕ) (s : State) : Type 0
   pub within : steps ≤ b
   pub after : Suspends p ts end
 
-pub each_get : {X : Type 0} (P : X → Type 0) (xs : List X) (k : ℕ) (x : X) → Each P xs → slice_get xs k ≡ Some x → P x
+pub each_get : {X : Type 0} (P : X → Type 0) (xs : List X) (k : ℕ) (x : X) → AllByRecursion P xs → slice_get xs k ≡ Some x → P x
 each_get P [] k x h e = absurd cc
 each_get P (y ∷ ys) zero x h e = let same : y ≡ x = cc e in subst P same h.0
 each_get P (y ∷ ys) (suc k) x h e = each_get P ys k x h.1 e
@@ -36,7 +37,7 @@ line_by : (o : Option Line) (i : Instr) → option_map (λ (l : Line). l.instr) 
 line_by None i e h = absurd cc
 line_by (Some l) i e h = let same : l.instr ≡ i = cc e in subst (λ (j : Instr). IsInstr j) same (h l refl).formed
 
-pub line_formed : (lines : List Line) (pc : ℕ) (i : Instr) → Each IsLine lines → option_map (λ (l : Line). l.instr) (slice_get lines pc) ≡ Some i → IsInstr i
+pub line_formed : (lines : List Line) (pc : ℕ) (i : Instr) → AllByRecursion IsLine lines → option_map (λ (l : Line). l.instr) (slice_get lines pc) ≡ Some i → IsInstr i
 line_formed lines pc i h e = line_by (slice_get lines pc) i e (λ l at. each_get IsLine lines pc l h at)
 
 pub step_is : (p : Program) (s : State) (i : Instr) → instr_at p s.pc ≡ Some i → step p s ≡ effect p.plan i s

@@ -4,7 +4,7 @@ use Rattle.std.specs.Int.{bit_at}
 use Rattle.std.proofs.lemmas.Nat.{pow_below, or_lt, and_le_l}
 use Rattle.std.proofs.lemmas.Nat.Bits.{bit_at-lt, same_from_bits_below}
 use Rattle.std.proofs.lemmas.Bool.{eqb-true, eqb-false}
-use Rattle.mux_config.specs.Configuration.{Each}
+use Rattle.std.specs.List.{AllByRecursion}
 use Rattle.plan_code.specs.declared.flags.Contacts.{Contacts}
 use Rattle.plan_code.specs.Flags.{is_closed, with_contact}
 use Rattle.plan_code.proofs.Bits.{contacts_change_alone}
@@ -30,7 +30,7 @@ with_contact_below : (contacts : Contacts) (c : ℕ) (closed : Bool) → c < 16 
 with_contact_below contacts c true within below = or_lt 16 contacts.0 (2 ^ c) below (pow_below c 16 within)
 with_contact_below contacts c false within below = omega (arith, and_le_l contacts.0 (2 ^ 16 - 1 - 2 ^ c), below)
 
-below_after : (xs : List Setting) (contacts : Contacts) → Each IsSetting xs → contacts.0 < 2 ^ 16 → (contacts_after xs contacts).0 < 2 ^ 16
+below_after : (xs : List Setting) (contacts : Contacts) → AllByRecursion IsSetting xs → contacts.0 < 2 ^ 16 → (contacts_after xs contacts).0 < 2 ^ 16
 below_after [] contacts within below = below
 below_after (x ∷ xs) contacts within below =
     below_after xs (with_contact x.contact x.closed contacts) within.1 (with_contact_below contacts x.contact x.closed within.0 below)
@@ -53,7 +53,7 @@ level_joined : (earlier later : Option Bool) (before : Bool) → level_or later 
 level_joined earlier None before = refl
 level_joined earlier (Some closed) before = refl
 
-level_after : (xs : List Setting) (contacts : Contacts) (c : ℕ) → Each IsSetting xs → c < 16
+level_after : (xs : List Setting) (contacts : Contacts) (c : ℕ) → AllByRecursion IsSetting xs → c < 16
     → is_closed (contacts_after xs contacts) c ≡ level_or (last_level c xs) (is_closed contacts c)
 level_after [] contacts c within low = refl
 level_after (x ∷ xs) contacts c within low =
@@ -69,7 +69,7 @@ one_bit a b below_a below_b same = grind (arith, below_a, below_b, same)
 same_contacts : (a b : Contacts) → a.0 ≡ b.0 → a ≡ b
 same_contacts a b e = ap (λ (n : ℕ). let r : Contacts = record { 0 = n } in r) e
 
-alike_contacts : (xs ys : List Setting) (contacts : Contacts) → Each IsSetting xs → Each IsSetting ys → contacts.0 < 2 ^ 16 → AgreeOnContacts xs ys
+alike_contacts : (xs ys : List Setting) (contacts : Contacts) → AllByRecursion IsSetting xs → AllByRecursion IsSetting ys → contacts.0 < 2 ^ 16 → AgreeOnContacts xs ys
     → contacts_after xs contacts ≡ contacts_after ys contacts
 alike_contacts xs ys contacts in_xs in_ys below alike =
     let a = contacts_after xs contacts in

@@ -1,6 +1,6 @@
 -- The start is a reached state, and what follows a reached state is reached.
 use Rattle.std.proofs.Common.{List, [], ◌∷◌, ◌++◌, refl, ap, ◌∙◌}
-use Rattle.mux_config.specs.Configuration.{Each}
+use Rattle.std.specs.List.{AllByRecursion}
 use Rattle.plan_runs.specs.declared.event.Event.{Event}
 use Rattle.plan_runs.specs.Runs.{IsEvent, run}
 use Rattle.plan_runs.specs.TypedRuns.{StartsAreReached, ReachedIsKept}
@@ -17,7 +17,7 @@ starts_are_reached p start s in_range started = record {
   leads = refl;
 }
 
-each_joined : (es fs : List Event) → Each IsEvent es → Each IsEvent fs → Each IsEvent (es ++ fs)
+each_joined : (es fs : List Event) → AllByRecursion IsEvent es → AllByRecursion IsEvent fs → AllByRecursion IsEvent (es ++ fs)
 each_joined [] fs h g = g
 each_joined (e ∷ es) fs h g = (h.0, each_joined es fs h.1 g)
 

@@ -4,7 +4,8 @@ use Rattle.std.proofs.Common.{◌≡◌, ◌≢◌, ℕ, zero, suc, ◌+◌, ◌
 use Rattle.std.proofs.lemmas.List.{drop-drop}
 use Rattle.std.proofs.lemmas.List.Elements.{Contains-append_cases}
 use Rattle.std.proofs.lemmas.Bool.{eqb-true, eq-eqb}
-use Rattle.mux_config.specs.Configuration.{Configuration, IsConfiguration, Each}
+use Rattle.mux_config.specs.Configuration.{Configuration, IsConfiguration}
+use Rattle.std.specs.List.{AllByRecursion}
 use Rattle.mux_entries.specs.Entries.{EnsembleInformation}
 use Rattle.mux_entries.specs.Facts.{Marked, marked, facts_of}
 use Rattle.mux_config.specs.Change.{change_of, bits_of, has_same_subs, has_same_services}
@@ -168,16 +169,16 @@ ext_low (PacketOf p) = omega arith
 head_organized : (m : Marked) (es : List Entry) → 1 ≤ ext_of m.entry → IsOrganized (record { head = head_of m; entries = es })
 head_organized m es some = (some, ext_low m.entry, refl)
 
-join_by : (m : Marked) (f : Written) (fs : List Written) → 1 ≤ ext_of m.entry → IsOrganized f → Each IsOrganized fs → (b : Bool)
-    → Each IsOrganized (cond b ((let w : Written = record { head = f.head; entries = m.entry ∷ f.entries } in w) ∷ fs) ((let w : Written = record { head = head_of m; entries = m.entry ∷ [] } in w) ∷ f ∷ fs))
+join_by : (m : Marked) (f : Written) (fs : List Written) → 1 ≤ ext_of m.entry → IsOrganized f → AllByRecursion IsOrganized fs → (b : Bool)
+    → AllByRecursion IsOrganized (cond b ((let w : Written = record { head = f.head; entries = m.entry ∷ f.entries } in w) ∷ fs) ((let w : Written = record { head = head_of m; entries = m.entry ∷ [] } in w) ∷ f ∷ fs))
 join_by m f fs some h hs true = (h, hs)
 join_by m f fs some h hs false = (head_organized m (m.entry ∷ []) some, (h, hs))
 
-join_organized : (m : Marked) (fs : List Written) → 1 ≤ ext_of m.entry → Each IsOrganized fs → Each IsOrganized (joined m fs)
+join_organized : (m : Marked) (fs : List Written) → 1 ≤ ext_of m.entry → AllByRecursion IsOrganized fs → AllByRecursion IsOrganized (joined m fs)
 join_organized m [] some h = (head_organized m (m.entry ∷ []) some, tt)
 join_organized m (f ∷ fs) some h = join_by m f fs some h.0 h.1 (same_head (head_of m) f.head)
 
-figs_organized : (ms : List Marked) → AreSendable ms → Each IsOrganized (figs_of ms)
+figs_organized : (ms : List Marked) → AreSendable ms → AllByRecursion IsOrganized (figs_of ms)
 figs_organized [] h = tt
 figs_organized (m ∷ ms) h = join_organized m (figs_of ms) h.0.organization (figs_organized ms h.1)
 
@@ -198,7 +199,7 @@ no_header w h =
     let some : 1 ≤ head_byte w.head % 32 = omega (arith, ext, h.0) in
     not_ours w.head.oe (head_byte w.head) (fig_bytes w.head w.entries) (map entry_bytes w.entries) some
 
-no_headers : (fs : List Written) → Each IsOrganized fs → Each IsNoHeader (map fig_of fs)
+no_headers : (fs : List Written) → AllByRecursion IsOrganized fs → AllByRecursion IsNoHeader (map fig_of fs)
 no_headers [] h = tt
 no_headers (w ∷ ws) h = (no_header w h.0, no_headers ws h.1)
 
@@ -234,14 +235,14 @@ page_length III o k ms = refl
 page_length IV o k ms = refl
 
 mapped_organized : (mode : Mode) (ms : List Marked) → AreSendable ms → (ns : List ℕ) (n : ℕ) (figs : List Written)
-    → slice_get (map (λ m. figs_of (entries_in_fib m ms (packing mode ms))) ns) n ≡ Some figs → Each IsOrganized figs
+    → slice_get (map (λ m. figs_of (entries_in_fib m ms (packing mode ms))) ns) n ≡ Some figs → AllByRecursion IsOrganized figs
 mapped_organized mode ms h [] n figs e = absurd cc
 mapped_organized mode ms h (m ∷ ns) zero figs e =
     let same : figs_of (entries_in_fib m ms (packing mode ms)) ≡ figs = cc e in
-    subst (λ (f : List Written). Each IsOrganized f) same (figs_organized (entries_in_fib m ms (packing mode ms)) (sendable_where (λ x. x == m) ms (packing mode ms) h))
+    subst (λ (f : List Written). AllByRecursion IsOrganized f) same (figs_organized (entries_in_fib m ms (packing mode ms)) (sendable_where (λ x. x == m) ms (packing mode ms) h))
 mapped_organized mode ms h (m ∷ ns) (suc n) figs e = mapped_organized mode ms h ns n figs e
 
-later_figs : (mode : Mode) (o : Option EnsembleInformation) (k : ℕ) (ms : List Marked) → AreSendable ms → (n : ℕ) (figs : List Written) → 1 ≤ n → slice_get (page_figs mode o k ms) n ≡ Some figs → Each IsOrganized figs
+later_figs : (mode : Mode) (o : Option EnsembleInformation) (k : ℕ) (ms : List Marked) → AreSendable ms → (n : ℕ) (figs : List Written) → 1 ≤ n → slice_get (page_figs mode o k ms) n ≡ Some figs → AllByRecursion IsOrganized figs
 later_figs mode o k ms h zero figs some e = absurd (omega (arith, some))
 later_figs mode o k ms h (suc n) figs some e = mapped_organized mode ms h (later_fibs mode k) n figs e
 
@@ -276,7 +277,7 @@ first_valid laws plan s h o e =
     subst (λ (f : List Written). IsValid (fib_at (shown_bytes plan s) 0) (map fig_of f)) (sym now) at.valid
 
 others_organized : PageLaws → (plan : Plan) (s : State) → Airs plan s
-    → Each IsOrganized (figs_of (entries_in_fib (first_fib plan.mode s.turn) (sent_entries plan s) (packing plan.mode (sent_entries plan s))))
+    → AllByRecursion IsOrganized (figs_of (entries_in_fib (first_fib plan.mode s.turn) (sent_entries plan s) (packing plan.mode (sent_entries plan s))))
 others_organized laws plan s h =
     let es : List Marked = sent_entries plan s in
     figs_organized (entries_in_fib (first_fib plan.mode s.turn) es (packing plan.mode es)) (sendable_where (λ x. x == first_fib plan.mode s.turn) es (packing plan.mode es) (first_sendable laws plan s h))

@@ -1,7 +1,7 @@
 -- Frames of one sub-channel and of a notice that lowers its rate: what has to be heard in them, where it is and where not.
 use Rattle.std.proofs.Common.{◌≡◌, ℕ, zero, suc, ◌<◌, Bool, true, false, List, [], ◌∷◌, Contains, Option, Some, None, replicate, refl, sym, ap, subst, ◌∙◌, arith}
 use Rattle.std.proofs.lemmas.Option.{slice_get_within}
-use Rattle.mux_config.specs.Configuration.{Each}
+use Rattle.std.specs.List.{AllByRecursion}
 use Rattle.mux_entries.specs.Entries.{EnsembleInformation}
 use Rattle.mux_entries.specs.Facts.{Marked, marked, sub_entry}
 use Rattle.mux_entries.specs.declared.entry.Entry.TheVariants.{Ensemble as EnsembleOf}
@@ -273,7 +273,7 @@ says_header (Other bytes) e h = h
 not_both : (plan : Plan) (s : State) (fib : List ℕ) → IsHeadedBy plan s fib → IsUnheaded fib → ⊥
 not_both plan s fib h u =
     let same : u.0 ≡ h.header ∷ h.others = one_fib fib u.0 (h.header ∷ h.others) u.1 h.first in
-    let each : Each IsNoHeader (h.header ∷ h.others) = subst (λ (figs : List Fig). Each IsNoHeader figs) same u.2 in
+    let each : AllByRecursion IsNoHeader (h.header ∷ h.others) = subst (λ (figs : List Fig). AllByRecursion IsNoHeader figs) same u.2 in
     each.0 (says_header h.header h.information h.says)
 
 headed_without_one : (s : State) → IsHeadedBy (plan I) s (fib_at bare 0) → ⊥

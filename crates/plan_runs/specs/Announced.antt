@@ -5,6 +5,7 @@ use Rattle.mux_entries.specs.Entries.{EnsembleInformation}
 use Rattle.mux_entries.specs.Facts.{Marked, facts_of}
 use Rattle.mux_config.specs.Change.{change_of, bits_of}
 use Rattle.fib_codec.specs.Heard.{IsHeardInRow, IsEnsembleHeardInRow}
+use Rattle.mux_entries.specs.declared.limits.TheConstants.{COUNTS}
 use Rattle.plan_code.specs.declared.plan.Plan.{Plan}
 use Rattle.plan_code.specs.Program.{Program}
 use Rattle.plan_code.specs.Machine.{State}
@@ -41,7 +42,7 @@ notice_frames plan (suc n) s = shown_bytes plan s ∷ notice_frames plan n (with
 -- the first frame of the notice whose swap comes after this many frames more
 abbrev pub notice_begin : Plan → ℕ → State → State
 notice_begin plan frames s =
-    record s { count = (s.count + frames + 5000 - plan.notice) % 5000; left = Some plan.notice; turn = 0 }
+    record s { count = (s.count + frames + COUNTS - plan.notice) % COUNTS; left = Some plan.notice; turn = 0 }
 
 abbrev pub heard_left : Plan → State → Option ℕ → List (List ℕ)
 heard_left plan s None = []

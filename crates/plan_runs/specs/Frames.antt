@@ -8,6 +8,8 @@ use Rattle.mux_config.specs.Sameness.{is_same_flag}
 use Rattle.fib_codec.specs.Modes.{count_step}
 use Rattle.fib_carousel.specs.Pages.{page_set, rounds, page_after}
 use Rattle.fib_carousel.specs.Bytes.{page_bytes}
+use Rattle.mux_entries.specs.declared.limits.TheConstants.{COUNTS}
+use Rattle.plan_code.specs.declared.limits.TheConstants.{FRAMES_A_DAY}
 use Rattle.plan_code.specs.declared.hold.Hold.{Hold}
 use Rattle.plan_code.specs.declared.hold.Hold.TheVariants.{Waits, WaitsDay, WaitsContact, WaitsSwap, Ended}
 use Rattle.plan_code.specs.declared.plan.Plan.{Plan}
@@ -130,7 +132,7 @@ sent_rounds plan s = rounds plan.mode (sent_entries plan s)
 -- the low part of the count of a swap that comes after this many frames
 abbrev pub low_of_swap : ℕ → Option ℕ → ℕ
 low_of_swap count None = 0
-low_of_swap count (Some left) = (count + left) % 5000 % 250
+low_of_swap count (Some left) = (count + left) % COUNTS % 250
 
 -- FIG 0/0: without change flags, or in a notice with those of the change and the low part of the swap's count
 abbrev pub ensemble_of : Plan → State → EnsembleInformation
@@ -167,8 +169,8 @@ with_next_counts plan s =
     record s {
       left = left_after_frame s.left;
       hold = hold_after_frame s.hold;
-      count = (s.count + 1) % 5000;
-      day = (s.day + 1) % 3600000;
+      count = (s.count + 1) % COUNTS;
+      day = (s.day + 1) % FRAMES_A_DAY;
       turn = page_after (sent_rounds plan s) s.turn;
     }
 

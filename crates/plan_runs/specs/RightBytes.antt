@@ -1,12 +1,13 @@
 -- What the bytes of a frame have to be, and of the frames of a phase (EN 300 401 clauses 5.2.1, 6.4 and 6.5).
 use Rattle.std.specs.Prelude.{◌≡◌, ◌≢◌, ℕ, ◌+◌, ◌*◌, ◌%◌, ◌<◌, ◌≤◌, ◌⊎◌, true, false, List, [], ◌∷◌, length, Contains, Option, Some, None}
-use Rattle.mux_config.specs.Configuration.{Each}
+use Rattle.std.specs.List.{AllByRecursion}
 use Rattle.mux_entries.specs.Entries.{EnsembleInformation}
 use Rattle.mux_entries.specs.Facts.{Marked, marked, facts_of}
 use Rattle.mux_entries.specs.declared.entry.Entry.TheVariants.{Ensemble as EnsembleOf}
 use Rattle.fib_codec.specs.Grammar.{Fig, Open, Other, IsFib, IsValid}
 use Rattle.fib_codec.specs.Modes.{fib_count, count_step}
 use Rattle.fib_codec.specs.Heard.{IsInFig, IsHeardInRow, fib_at}
+use Rattle.mux_entries.specs.declared.limits.TheConstants.{COUNTS}
 use Rattle.plan_code.specs.declared.plan.Plan.{Plan}
 use Rattle.plan_code.specs.Program.{Program}
 use Rattle.plan_code.specs.Machine.{State}
@@ -28,7 +29,7 @@ IsNoHeader fig = IsEnsembleFig fig → ⊥
 -- the count of the swap that comes after this many frames
 abbrev pub IsFlaggedBy : State → Option ℕ → EnsembleInformation → Type 0
 IsFlaggedBy s None e = ⊥
-IsFlaggedBy s (Some left) e = IsFlagged s.current s.next ((s.count + left) % 5000) e
+IsFlaggedBy s (Some left) e = IsFlagged s.current s.next ((s.count + left) % COUNTS) e
 
 -- ensemble information as the state has it: flagged exactly in the frames of a notice
 pub record IsEnsembleOf (plan : Plan) (s : State) (e : EnsembleInformation) : Type 0 where
@@ -46,11 +47,11 @@ pub record IsHeadedBy (plan : Plan) (s : State) (bytes : List ℕ) : Type 0 wher
   pub first : IsFib bytes (header ∷ others)
   pub says : IsInFig header (marked false (EnsembleOf information))
   pub right : IsEnsembleOf plan s information
-  pub alone : Each IsNoHeader others
+  pub alone : AllByRecursion IsNoHeader others
 
 -- none of these FIGs is FIG 0/0
 abbrev pub IsUnheaded : List ℕ → Type 0
-IsUnheaded bytes = (figs : List Fig) × IsFib bytes figs × Each IsNoHeader figs
+IsUnheaded bytes = (figs : List Fig) × IsFib bytes figs × AllByRecursion IsNoHeader figs
 
 -- ---- the bytes of a frame
 

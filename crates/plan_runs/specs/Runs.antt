@@ -1,6 +1,8 @@
 -- Runs: what the states and the bytes are over a list of events, and that no trap is met.
 use Rattle.std.specs.Prelude.{◌≡◌, ℕ, ◌<◌, List, [], ◌∷◌, Some, None, slice_get, replicate}
-use Rattle.mux_config.specs.Configuration.{Each}
+use Rattle.std.specs.List.{AllByRecursion}
+use Rattle.mux_entries.specs.declared.limits.TheConstants.{COUNTS}
+use Rattle.plan_code.specs.declared.limits.TheConstants.{FRAMES_A_DAY}
 use Rattle.plan_code.specs.declared.hold.Hold.TheVariants.{Waits}
 use Rattle.plan_code.specs.declared.label.Label.{Label}
 use Rattle.plan_code.specs.Flags.{with_contact}
@@ -15,8 +17,8 @@ use Rattle.plan_runs.specs.Frames.{after_frame, frame_bytes, FrameIsAllowed}
 
 pub record StartIsInRange (start : Start) : Type 0 where
   pub eid : start.eid < 65536
-  pub count : start.count < 5000
-  pub day : start.day < 3600000
+  pub count : start.count < COUNTS
+  pub day : start.day < FRAMES_A_DAY
   pub contacts : start.contacts.0 < 65536
 
 abbrev pub IsEvent : Event → Type 0
@@ -82,5 +84,5 @@ pub record IsReached (p : Program) (s : State) : Type 0 where
   pub events : List Event
   pub in_range : StartIsInRange start
   pub started : IsStart p start first
-  pub within : Each IsEvent events
+  pub within : AllByRecursion IsEvent events
   pub leads : run p first events ≡ s

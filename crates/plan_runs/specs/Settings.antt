@@ -1,6 +1,6 @@
 -- Contact settings between frames: only the last level of each contact counts.
 use Rattle.std.specs.Prelude.{◌≡◌, ℕ, ◌<◌, ◌^◌, ◌==◌, Bool, if◌then◌else◌, List, [], ◌∷◌, ◌++◌, Option, Some, None}
-use Rattle.mux_config.specs.Configuration.{Each}
+use Rattle.std.specs.List.{AllByRecursion}
 use Rattle.plan_code.specs.Program.{Program}
 use Rattle.plan_code.specs.Machine.{State}
 use Rattle.plan_runs.specs.declared.event.Event.{Event}
@@ -52,7 +52,7 @@ abbrev pub LastLevelsCount : Type 0
 LastLevelsCount =
     (p : Program) (s : State) (these those : List (List Setting)) (last other : List Setting)
     → s.contacts.0 < 2 ^ 16
-    → Each (Each IsSetting) these → Each (Each IsSetting) those → Each IsSetting last → Each IsSetting other
+    → AllByRecursion (AllByRecursion IsSetting) these → AllByRecursion (AllByRecursion IsSetting) those → AllByRecursion IsSetting last → AllByRecursion IsSetting other
     → AreAllAlike these those → AgreeOnContacts last other
     → (run_frames p s (schedule these last) ≡ run_frames p s (schedule those other))
     × (run_states p s (schedule these last) ≡ run_states p s (schedule those other))

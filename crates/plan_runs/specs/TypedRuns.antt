@@ -1,8 +1,10 @@
 -- A typed code doesn't go wrong: the statements.
 use Rattle.std.specs.Prelude.{◌<◌, List, IfSome}
-use Rattle.mux_config.specs.Configuration.{Each, IsConfiguration}
+use Rattle.mux_config.specs.Configuration.{IsConfiguration}
+use Rattle.std.specs.List.{AllByRecursion}
 use Rattle.mux_config.specs.Sound.{IsSound}
 use Rattle.fib_codec.specs.Ranges.{IsEnsembleInformation}
+use Rattle.mux_entries.specs.declared.limits.TheConstants.{COUNTS}
 use Rattle.plan_code.specs.declared.plan.Plan.{Plan}
 use Rattle.plan_code.specs.Program.{Program, IsProgram}
 use Rattle.plan_code.specs.Machine.{State}
@@ -32,7 +34,7 @@ pub record CanBeSent (plan : Plan) (s : State) : Type 0 where
   pub turn : s.turn < sent_rounds plan s
   pub current : IsConfiguration s.current
   pub next : IsConfiguration s.next
-  pub count : s.count < 5000
+  pub count : s.count < COUNTS
   pub ensemble : IfSome (ensemble_sent plan s) IsEnsembleInformation
 
 abbrev pub FramesCanBeSent : Type 0
@@ -43,4 +45,4 @@ abbrev pub StartsAreReached : Type 0
 StartsAreReached = (p : Program) (start : Start) (s : State) → StartIsInRange start → IsStart p start s → IsReached p s
 
 abbrev pub ReachedIsKept : Type 0
-ReachedIsKept = (p : Program) (s : State) (events : List Event) → IsReached p s → Each IsEvent events → IsReached p (run p s events)
+ReachedIsKept = (p : Program) (s : State) (events : List Event) → IsReached p s → AllByRecursion IsEvent events → IsReached p (run p s events)

@@ -8,7 +8,7 @@ use Rattle.plan_code.specs.declared.plan.Plan.{Plan}
 use Rattle.plan_code.specs.declared.flags.Counters.{Counters}
 use Rattle.plan_code.specs.declared.label.Swap.{Swap}
 use Rattle.plan_code.specs.declared.label.Swap.TheVariants.{Idle, Within, Perhaps}
-use Rattle.plan_code.specs.declared.limits.TheConstants.{COUNTS}
+use Rattle.mux_entries.specs.declared.limits.TheConstants.{COUNTS}
 use Rattle.plan_code.specs.Machine.{IsSwapCount}
 use Rattle.plan_code.specs.Flags.{Includes}
 use Rattle.plan_code.proofs.Bits.{all_included, included_all}

@@ -1,6 +1,7 @@
 -- Small codes: which are typed, and why and where others are refused.
 use Rattle.std.proofs.Common.{◌≡◌, ℕ, ◌<◌, ◌≤◌, true, List, [], ◌∷◌, length, refl, arith}
-use Rattle.mux_config.specs.Configuration.{IsConfiguration, Each, IsAscending, nothing}
+use Rattle.mux_config.specs.Configuration.{IsConfiguration, IsAscending, nothing}
+use Rattle.std.specs.List.{AllByRecursion}
 use Rattle.mux_config.specs.declared.edit.Edit.TheVariants.{AddSub, DropSub, AddService}
 use Rattle.mux_config.specs.declared.fault.EditFault.TheVariants.{IdAbsent}
 use Rattle.mux_config.specs.declared.fault.ConfigFault.TheVariants.{EmptyService}
@@ -81,8 +82,8 @@ label_is pc cost counters low set from to = record {
 line_is : (i : Instr) → IsInstr i → IsLine (line i)
 line_is i h = record { numbered = omega arith; formed = h }
 
-code_is : (labels : List Label) (lines : List Line) → Each (IsLabel 1) labels → IsAscending label_key labels → 1 ≤ length labels → length labels ≤ 1024
-    → Each IsLine lines → 1 ≤ length lines → length lines ≤ 4096 → IsProgram (code labels lines)
+code_is : (labels : List Label) (lines : List Line) → AllByRecursion (IsLabel 1) labels → IsAscending label_key labels → 1 ≤ length labels → length labels ≤ 1024
+    → AllByRecursion IsLine lines → 1 ≤ length lines → length lines ≤ 4096 → IsProgram (code labels lines)
 code_is labels lines formed ascend from to each first last = record {
   planned = plan_is;
   configurations_from = omega arith;
@@ -98,7 +99,7 @@ code_is labels lines formed ascend from to each first last = record {
 }
 
 -- one label, and instructions
-first_is : (cost : ℕ) (lines : List Line) → 1 ≤ cost → cost ≤ 255 → Each IsLine lines → 1 ≤ length lines → length lines ≤ 4096
+first_is : (cost : ℕ) (lines : List Line) → 1 ≤ cost → cost ≤ 255 → AllByRecursion IsLine lines → 1 ≤ length lines → length lines ≤ 4096
     → IsProgram (code (label 0 no_counters cost ∷ []) lines)
 first_is cost lines from to each first last =
     code_is (label 0 no_counters cost ∷ []) lines (label_is 0 cost no_counters (omega arith) (omega arith) from to, tt) (tt, tt) (omega arith) (omega arith) each first last

@@ -1,7 +1,8 @@
 -- Why small codes are refused: each definition of refusals where it holds, and where it fails.
 use Rattle.std.proofs.Common.{◌≡◌, ◌≢◌, ℕ, zero, suc, ◌<◌, ◌≤◌, List, [], ◌∷◌, length, slice_get, Contains, Some, None, inl, inr, refl, sym, ap, subst, arith}
 use Rattle.std.proofs.lemmas.Bool.{false≢true}
-use Rattle.mux_config.specs.Configuration.{Configuration, IsConfiguration, Each, IsAscending, nothing}
+use Rattle.mux_config.specs.Configuration.{Configuration, IsConfiguration, IsAscending, nothing}
+use Rattle.std.specs.List.{AllByRecursion}
 use Rattle.mux_config.specs.declared.edit.Edit.TheVariants.{AddSub, DropSub}
 use Rattle.mux_config.specs.declared.fault.EditFault.TheVariants.{IdAbsent}
 use Rattle.plan_code.specs.declared.label.Label.{Label}
@@ -65,8 +66,8 @@ label_at_pc pc low = record {
   cost_to = omega arith;
 }
 
-code_is : (labels : List Label) (lines : List Line) → Each (IsLabel 1) labels → IsAscending label_key labels → 1 ≤ length labels → length labels ≤ 1024
-    → Each IsLine lines → 1 ≤ length lines → length lines ≤ 4096 → IsProgram (code labels lines)
+code_is : (labels : List Label) (lines : List Line) → AllByRecursion (IsLabel 1) labels → IsAscending label_key labels → 1 ≤ length labels → length labels ≤ 1024
+    → AllByRecursion IsLine lines → 1 ≤ length lines → length lines ≤ 4096 → IsProgram (code labels lines)
 code_is labels lines formed ascend from to each first last = record {
   planned = plan_is;
   configurations_from = omega arith;
@@ -82,7 +83,7 @@ code_is labels lines formed ascend from to each first last = record {
 }
 
 -- with a label at the first instruction
-first_is : (lines : List Line) → Each IsLine lines → 1 ≤ length lines → length lines ≤ 4096 → IsProgram (code (label 0 3 ∷ []) lines)
+first_is : (lines : List Line) → AllByRecursion IsLine lines → 1 ≤ length lines → length lines ≤ 4096 → IsProgram (code (label 0 3 ∷ []) lines)
 first_is lines each first last = code_is (label 0 3 ∷ []) lines (label_at_pc 0 (omega arith), tt) (tt, tt) (omega arith) (omega arith) each first last
 
 line_is : (i : Instr) → IsInstr i → IsLine (line i)
@@ -312,7 +313,7 @@ at_no_instruction h = let e : 1 ≡ 2 = h.0.each in omega (arith, e)
 so_it_is_refused : IsRefused unjoined 1 JoinIdle
 so_it_is_refused = ((opened ∷ []), refused_at_the_join)
 
-labels_past_are : Each (IsLabel 1) labels_past.labels
+labels_past_are : AllByRecursion (IsLabel 1) labels_past.labels
 labels_past_are = (label_at_pc 0 (omega arith), (label_at_pc 7 (omega arith), (label_at_pc 9 (omega arith), tt)))
 
 labels_past_is : IsProgram labels_past

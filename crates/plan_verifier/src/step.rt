@@ -1,13 +1,12 @@
 //! One instruction: why it is refused, and what it leaves.
 
 ghost use Rattle.std.specs.Prelude.{◌≡◌, ◌≤◌, ◌<◌, ◌+◌, ◌==◌, ◌&&◌, OnOk, None, length};
-ghost use Rattle.mux_config.specs.Sound.{first_fault};
-ghost use Rattle.plan_code.specs.Program.{IsProgram, instr_at, label_at};
+ghost use Rattle.plan_code.specs.Program.{instr_at, label_at};
 ghost use Rattle.plan_code.specs.declared.instr.Instr.TheVariants.{Edit as Edits, CommitIn, CommitAt, Wait, Join, Loop};
 ghost use Rattle.plan_verifier.specs.Held.{known_of};
 ghost use Rattle.plan_verifier.specs.Typing.{leaves, spent, rested, continues};
-ghost use Rattle.plan_verifier.specs.Walking.{unless, ◌first_or◌, cause_if, cause_of, is_same, is_swap_count, has_room_for_notice, change_cause, instr_cause, known_cause, jump_cause, instr_or_end};
-ghost use Rattle.plan_verifier.specs.declared.cause.Cause.TheVariants.{Config as OfConfig, NoChange, Round};
+ghost use Rattle.plan_verifier.specs.Walking.{unless, is_same, is_swap_count, has_room_for_notice, change_cause, instr_cause, known_cause, jump_cause, instr_or_end};
+ghost use Rattle.plan_verifier.specs.declared.cause.Cause.TheVariants.{NoChange, Round};
 
 use crate::cause::Cause;
 use crate::known::{KnownState, is_idle, is_same};

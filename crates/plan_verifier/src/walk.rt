@@ -1,9 +1,9 @@
 //! The walk over a code: what is known at each instruction, and the first that is refused.
 
-ghost use Rattle.std.specs.Prelude.{◌≡◌, IfErr, OnOk, Ok, Err, Some, None, length, drop};
+ghost use Rattle.std.specs.Prelude.{◌≡◌, IfErr, OnOk, Ok, Err, Some, None, length};
 ghost use Rattle.plan_code.specs.Program.{IsProgram, instr_at, label_at};
 ghost use Rattle.plan_verifier.specs.Held.{known_of};
-ghost use Rattle.plan_verifier.specs.Typing.{Known, leaves, continues};
+ghost use Rattle.plan_verifier.specs.Typing.{leaves, continues};
 ghost use Rattle.plan_verifier.specs.Walking.{whole_cause, opening_known, place_of, entered, came_of, known_cause, past_end, walk, refusal_of, opening_cause, is_initial, unless, PassesInstr, instr_or_end};
 
 use crate::cause::{Cause, Refusal};

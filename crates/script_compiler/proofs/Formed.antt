@@ -3,7 +3,8 @@ use Rattle.std.proofs.Common.{◌≡◌, ◌≢◌, ℕ, zero, suc, ◌+◌, ◌
 use Rattle.std.specs.Prelude.{slice_get, slice_index, Contains}
 use Rattle.std.specs.Option.{option_map}
 use Rattle.std.proofs.lemmas.Option.{slice_get-map, slice_get_within}
-use Rattle.mux_config.specs.Configuration.{Configuration, IsConfiguration, Each}
+use Rattle.mux_config.specs.Configuration.{Configuration, IsConfiguration}
+use Rattle.std.specs.List.{AllByRecursion}
 use Rattle.plan_code.proofs.Ascending.{AscendsFrom, from_ascends}
 use Rattle.plan_code.specs.Program.{IsPlan, AreBounds, IsLabel, IsLine, IsProgram, label_key}
 use Rattle.plan_code.specs.declared.flags.Counters.{Counters}
@@ -49,11 +50,11 @@ plan_formed s h = record {
 
 -- ---- what holds of each member of a list
 
-each_from : {A : Type 0} (P : A → Type 0) (xs : List A) → ((x : A) → Contains xs x → P x) → Each P xs
+each_from : {A : Type 0} (P : A → Type 0) (xs : List A) → ((x : A) → Contains xs x → P x) → AllByRecursion P xs
 each_from P [] h = tt
 each_from P (x ∷ xs) h = (h x (0, omega arith, refl), each_from P xs (λ y c. h y (suc c.0, omega (arith, c.1), c.2)))
 
-each_at : {A : Type 0} (P : A → Type 0) (xs : List A) (i : ℕ) (x d : A) → Each P xs → i < length xs → get_or xs i d ≡ x → P x
+each_at : {A : Type 0} (P : A → Type 0) (xs : List A) (i : ℕ) (x d : A) → AllByRecursion P xs → i < length xs → get_or xs i d ≡ x → P x
 each_at P [] i x d all lt e = absurd (omega (arith, lt))
 each_at P (y ∷ xs) zero x d all lt e = subst P e all.0
 each_at P (y ∷ xs) (suc i) x d all lt e = each_at P xs i x d all.1 (omega (arith, lt)) e
@@ -83,8 +84,8 @@ module _ (table : List Configuration) where
   counters_few (suc (suc (suc (suc (suc (suc (suc (suc zero)))))))) le = omega arith
   counters_few (suc (suc (suc (suc (suc (suc (suc (suc (suc r))))))))) le = absurd (omega (arith, le))
 
-  counters_within : (ms : List Mark) (ls : List Label) → AreLabelsOf table ms ls → IsDeepAtMost 8 ms → Each (λ (l : Label). l.counters.0 < 256) ls
-  counters_within [] ls are deep = subst (λ (xs : List Label). Each (λ (l : Label). l.counters.0 < 256) xs) (sym are) tt
+  counters_within : (ms : List Mark) (ls : List Label) → AreLabelsOf table ms ls → IsDeepAtMost 8 ms → AllByRecursion (λ (l : Label). l.counters.0 < 256) ls
+  counters_within [] ls are deep = subst (λ (xs : List Label). AllByRecursion (λ (l : Label). l.counters.0 < 256) xs) (sym are) tt
   counters_within (m ∷ ms) [] are deep = absurd are
   counters_within (m ∷ ms) (l ∷ ls) are deep =
       (subst (λ (c : Counters). c.0 < 256) (sym are.0.counters) (counters_few m.repeats deep.0), counters_within ms ls are.1 deep.1)
@@ -121,7 +122,7 @@ module _ (s : Tree) (script : IsScript s) (accepted : IsAccepted s) where
       bounded_both (places plan 0 0 (body_of s) start) (onward a [] (alone s.last_line End 0)) (places_bounded plan (body_of s) 0 0 start least accepted.judged tt)
       (bounded_alone a s.last_line End 0 (after_bounded plan (body_of s) start least accepted.judged tt))
 
-  places_in_range : Each IsLine (lines_of_places (places_of s)) → AllRanged (places_of s)
+  places_in_range : AllByRecursion IsLine (lines_of_places (places_of s)) → AllRanged (places_of s)
   places_in_range h = all_ranged (plan_of s) s.last_line (body_of s) start script.headed.notice_to (instrs_from_lines (places_of s) h) tt
 
 -- ---- counts
@@ -135,7 +136,7 @@ some_marks p ps qs e l =
 some_places : (p : Place) (ps qs : List Place) → qs ≡ p ∷ ps → 1 ≤ length qs
 some_places p ps qs e = let n = ap length e in omega (arith, n)
 
-some_table : (n : ℕ) (ls : List Label) → 1 ≤ length ls → Each (IsLabel n) ls → 1 ≤ n
+some_table : (n : ℕ) (ls : List Label) → 1 ≤ length ls → AllByRecursion (IsLabel n) ls → 1 ≤ n
 some_table n [] h all = absurd (omega (arith, h))
 some_table n (l ∷ ls) h all = let c = all.0.current in omega (arith, c)
 
@@ -170,13 +171,13 @@ module _ (s : Tree) (plan : Plan) (config : Configuration) (lines : List Line) (
       ap (λ (ls : List Line). slice_get (instrs_of ls) k) lines_of_all ∙ slice_get-map (λ (l : Line). l.instr) (lines_of_places all) k
       ∙ ap (λ x. option_map (λ (l : Line). l.instr) x) (slice_get-map (λ (x : Place). record { number = x.line; instr = x.instr }) all k ∙ ap (λ x. option_map (λ (x : Place). record { number = x.line; instr = x.instr }) x) e)
 
-  label_formed : Each IsLine lines → (l : Label) → Contains labels l → IsLabel (length configs) l
+  label_formed : AllByRecursion IsLine lines → (l : Label) → Contains labels l → IsLabel (length configs) l
   label_formed formed l has =
       let at = label_contained configs all labels 0 l labels_of_all has in
       let within = slice_get_within all at.index at.place at.there in
       let few = accepted.instructions in
       let pc = at.is.place in
-      let bounds = bounded_at all at.index at.place (places_in_bounds s script accepted) (places_in_range s script accepted (subst (λ (ls : List Line). Each IsLine ls) lines_of_all formed)) at.there in
+      let bounds = bounded_at all at.index at.place (places_in_bounds s script accepted) (places_in_range s script accepted (subst (λ (ls : List Line). AllByRecursion IsLine ls) lines_of_all formed)) at.there in
       let pc_is : at.index ≡ l.pc = omega (arith, pc) in
       let cost = label_cost l has at.place.instr (subst (λ k. slice_get (instrs_of lines) k ≡ Some at.place.instr) pc_is (instr_there at.index at.place at.there)) in
       record {
@@ -190,7 +191,7 @@ module _ (s : Tree) (plan : Plan) (config : Configuration) (lines : List Line) (
       }
 
   -- where configurations and lines are within their ranges
-  pub parts_formed : Each IsConfiguration configs → Each IsLine lines → IsProgram (code_from plan configs labels lines)
+  pub parts_formed : AllByRecursion IsConfiguration configs → AllByRecursion IsLine lines → IsProgram (code_from plan configs labels lines)
   parts_formed made formed =
       let first = first_of_all (plan_of s) s.last_line (body_of s) (beginning (opening_of s)) in
       let labels_are = each_from (IsLabel (length configs)) labels (label_formed formed) in

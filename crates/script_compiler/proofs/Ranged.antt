@@ -4,7 +4,7 @@ use Rattle.std.proofs.lemmas.Bool.{lt-ltb, le-ltb, cases_lt}
 use Rattle.fib_codec.specs.declared.modes.Mode.{Mode}
 use Rattle.fib_codec.specs.declared.modes.Mode.TheVariants.{I, II, III, IV}
 use Rattle.fib_codec.specs.Modes.{count_step}
-use Rattle.mux_config.specs.Configuration.{Each}
+use Rattle.std.specs.List.{AllByRecursion}
 use Rattle.plan_code.specs.Program.{IsInstr, IsLine}
 use Rattle.plan_code.specs.declared.instr.Instr.{Instr}
 use Rattle.plan_code.specs.declared.instr.Instr.TheVariants.{Wait, Until, WaitContact, CommitIn, CommitAt, Join, Settle, End, Edit, Test, Jump, Set, Loop}
@@ -109,7 +109,7 @@ abbrev pub AllInstrs : List Place → Type 0
 AllInstrs [] = Unit {0}
 AllInstrs (p ∷ ps) = IsInstr p.instr × AllInstrs ps
 
-pub instrs_from_lines : (ps : List Place) → Each IsLine (lines_of_places ps) → AllInstrs ps
+pub instrs_from_lines : (ps : List Place) → AllByRecursion IsLine (lines_of_places ps) → AllInstrs ps
 instrs_from_lines [] h = tt
 instrs_from_lines (p ∷ ps) h = (h.0.formed, instrs_from_lines ps h.1)
 

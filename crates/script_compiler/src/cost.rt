@@ -1,6 +1,6 @@
 //! Why a code is refused in which more instructions can run in one frame than the budget.
 
-ghost use Rattle.std.specs.Prelude.{◌≡◌, ◌≤◌, ◌<◌, length, OnOk};
+ghost use Rattle.std.specs.Prelude.{◌<◌, length};
 
 use plan_code::{Instr, Line};
 use std::alloc::{AllocError, Global};

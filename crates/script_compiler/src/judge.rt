@@ -3,7 +3,6 @@
 ghost use Rattle.std.specs.Prelude.{◌≡◌, ◌≢◌, ◌↔◌, None, IsOk, IfErr, IsTrue, OnOk};
 ghost use Rattle.mux_config.specs.Edits.{changed, edit_fault};
 ghost use Rattle.mux_config.specs.Sound.{IsSound};
-ghost use Rattle.plan_code.specs.Machine.{IsSwapCount};
 ghost use Rattle.plan_code.specs.declared.instr.Instr.TheVariants.{CommitIn, CommitAt};
 ghost use Rattle.plan_code.specs.declared.label.Swap.TheVariants.{Idle};
 ghost use Rattle.plan_verifier.specs.Typing.{pages_alone, known_after_swap, waited, paused, perhaps_swapped, settled, HasRoom, IsCertain, IsSurelyPending, IsFine};

@@ -1,6 +1,6 @@
 //! Reading items and the statements without a block.
 
-ghost use Rattle.std.specs.Prelude.{◌≡◌, ℕ, ◌+◌, ◌++◌, ◌∷◌, [], ◌<◌, ◌≤◌, length, IfOk, OnOk};
+ghost use Rattle.std.specs.Prelude.{◌≡◌, ℕ, ◌+◌, ◌∷◌, [], ◌<◌, ◌≤◌, length, IfOk, OnOk};
 ghost use Rattle.std.specs.List.{All};
 ghost use Rattle.mux_config.specs.Configuration.{IsSid, IsComponent};
 ghost use Rattle.plan_code.specs.Program.{IsEdit, IsNewSub, IsNewPacket, IsCarrier};
@@ -8,8 +8,8 @@ ghost use Rattle.std.specs.Fmt.{decimal};
 ghost use Rattle.mux_config.specs.declared.edit.Edit.TheVariants.{AddSub, AddPacket, AddComponent, MoveSub, RateSub};
 ghost use Rattle.script_tokens.specs.declared.keyword.Keyword.TheVariants as the;
 ghost use Rattle.script_tokens.specs.Words.{letters};
-ghost use Rattle.script_tokens.specs.Reading.{Passes, behind, line_of};
-ghost use Rattle.script_front.specs.Spelled.{in_words, groups_word, carried_words, carrier_words, edit_words, level_word, act_words, items_words};
+ghost use Rattle.script_tokens.specs.Reading.{Passes, behind};
+ghost use Rattle.script_front.specs.Spelled.{in_words, groups_word, carried_words, carrier_words, edit_words, level_word, act_words};
 ghost use Rattle.script_front.specs.Tree.{IsAct, IsItem, Adds};
 ghost use Rattle.script_front.specs.Parsing.{IsOneMore, AreItems, NoneOf, BeginsItem, BeginsNoItem, NoItems};
 ghost use Rattle.std.specs.Prelude.{true, false, ◌≢◌, OnErr, IfErr, Bool};

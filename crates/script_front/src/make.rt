@@ -2,7 +2,7 @@
 
 ghost use Rattle.std.specs.Prelude.{◌≡◌, []};
 ghost use Rattle.script_front.specs.Block.{Block, basic, stop, when, either, repeat, forever, apply, before, block_of};
-ghost use Rattle.script_front.specs.Block.{nothing, named_at};
+ghost use Rattle.script_front.specs.Block.{nothing};
 
 use crate::tree::{Act, BlockId, Statement};
 use plan_code::{ContactId, Times};

@@ -1,6 +1,6 @@
 //! The names of defined blocks.
 
-ghost use Rattle.std.specs.Prelude.{◌≡◌, ◌≢◌, ℕ, ◌<◌, ◌++◌, ◌∷◌, [], length, slice_get, Some, IfSome, IfOk, OnOk, IfErr, List, option_map};
+ghost use Rattle.std.specs.Prelude.{◌≡◌, ◌≢◌, ℕ, ◌<◌, ◌++◌, ◌∷◌, [], length, slice_get, Some, IfSome, OnOk, List, option_map};
 
 use indexmap::IndexSet;
 use std::alloc::{AllocError, Global};

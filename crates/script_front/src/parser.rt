@@ -1,7 +1,6 @@
 //! Reading a whole script.
 
-ghost use Rattle.std.specs.Prelude.{◌≡◌, ◌≢◌, ℕ, ◌+◌, ◌++◌, ◌∷◌, [], ◌<◌, ◌≤◌, true, length, slice_get, Some, IfOk, OnOk, map};
-ghost use Rattle.std.specs.List.{All};
+ghost use Rattle.std.specs.Prelude.{◌≡◌, ◌≢◌, ℕ, ◌∷◌, [], ◌<◌, length, slice_get, Some, IfOk, OnOk};
 ghost use Rattle.script_front.specs.Block.{block_of};
 ghost use Rattle.script_tokens.specs.declared.keyword.Keyword.TheVariants as the;
 ghost use Rattle.script_tokens.specs.Words.{letters, IsName};
@@ -10,7 +9,6 @@ ghost use Rattle.script_front.specs.Parsing.{AreDefined, IsDefined, SpellsTree, 
 ghost use Rattle.script_front.specs.Denoting.{IsScriptOf, IsNoScript};
 ghost use Rattle.std.specs.Prelude.{IfErr, OnErr, List};
 ghost use Rattle.script_tokens.specs.declared.fault.ScriptFault.TheVariants.{Memory};
-ghost use Rattle.script_front.specs.Tree.{IsItem};
 
 use crate::header::header;
 use crate::items::items;

@@ -1,8 +1,7 @@
 //! Printing items and the statements without a block, each without its indentation and its line's end.
 
-ghost use Rattle.std.specs.Prelude.{◌≡◌, ◌++◌, ◌∷◌, [], ◌<◌, ◌≤◌, OnOk, string_bytes};
+ghost use Rattle.std.specs.Prelude.{◌≡◌, ◌++◌, ◌<◌, OnOk, string_bytes};
 ghost use Rattle.std.specs.Fmt.{decimal};
-ghost use Rattle.mux_config.specs.Configuration.{IsSid};
 ghost use Rattle.mux_config.specs.declared.edit.Edit.TheVariants.{AddSub, AddPacket, AddComponent, DropComponent};
 ghost use Rattle.script_front.specs.declared.tree.Act.TheVariants.{Until, WaitContact};
 ghost use Rattle.script_words.specs.Spelling.{hex_byte, hex_word, sid_word, profile_word, two_digits, time_word};

@@ -1,7 +1,8 @@
 -- What a script says: its own machine, whose control is the list of statements that are still to do. It knows no place
 -- in a code, no label and no counter.
 use Rattle.std.specs.Prelude.{◌≡◌, ◌↔◌, ℕ, zero, suc, Bool, true, false, if◌then◌else◌, List, [], ◌∷◌, Option, None}
-use Rattle.mux_config.specs.Configuration.{Configuration, Each}
+use Rattle.mux_config.specs.Configuration.{Configuration}
+use Rattle.std.specs.List.{AllByRecursion}
 use Rattle.plan_code.specs.declared.flags.Contacts.{Contacts}
 use Rattle.plan_code.specs.declared.hold.Hold.{Hold}
 use Rattle.plan_code.specs.declared.hold.Hold.TheVariants.{Waits}
@@ -203,7 +204,7 @@ pub record PlaysAlong (s : Tree) (start : Start) (events : List Event) (state : 
 abbrev pub PlaysAsItReads : Tree → Program → Type 0
 PlaysAsItReads s code =
     (start : Start) (first : State) (events : List Event)
-    → StartIsInRange start → IsStart code start first → Each IsEvent events
+    → StartIsInRange start → IsStart code start first → AllByRecursion IsEvent events
     → PlaysAlong s start events (run code first events)
 
 -- so does every typed code of a script

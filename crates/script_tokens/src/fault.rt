@@ -11,6 +11,23 @@ pub struct Position {
     pub column: usize,
 }
 
+impl Position {
+    /// The position just past a text.
+    pub fn past(text: &[u8]) -> Position {
+        let mut line = 1;
+        let mut column = 1;
+        for byte in text {
+            if *byte == b'\n' {
+                line += 1;
+                column = 1;
+            } else {
+                column += 1;
+            }
+        }
+        Position { line, column }
+    }
+}
+
 impl Display for Position {
     /// Line and column with a colon between them.
     fn fmt<W: Write>(&self, f: &mut Formatter<W>) -> fmt::Result {

@@ -1,6 +1,6 @@
 //! Cutting a text into tokens.
 
-ghost use Rattle.std.specs.Prelude.{◌≡◌, ◌≢◌, ◌+◌, ◌++◌, ◌∷◌, [], ◌<◌, ◌≤◌, true, false, length, List, OnOk, IfOk, IfErr, Ok, Err, Result};
+ghost use Rattle.std.specs.Prelude.{◌≡◌, ◌≢◌, ◌+◌, ◌∷◌, [], ◌<◌, ◌≤◌, true, false, length, List, IfOk, IfErr, Ok, Err, Result};
 ghost use Rattle.script_tokens.specs.Bytes.{kind_of, place_after, first_place, token_at};
 ghost use Rattle.script_tokens.specs.Lexing.{inside_after, is_bad, atom_ended, made, fits, lexed, Pushes};
 ghost use Rattle.script_tokens.specs.Reading.{AreWithin};

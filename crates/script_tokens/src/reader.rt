@@ -30,7 +30,7 @@ impl<'a> Model for Reader<'a> {
 }
 
 impl<'a> Reader<'a> {
-    ghost use Rattle.std.specs.Prelude.{◌≡◌, ◌≢◌, ℕ, ◌<◌, ◌≤◌, length, drop, List, [], ◌∷◌, MatchOption, IsSome, IfSome, None, Some, true, false, IfOk, OnOk, OnErr};
+    ghost use Rattle.std.specs.Prelude.{◌≡◌, ◌≢◌, ℕ, ◌<◌, length, drop, List, [], ◌∷◌, MatchOption, IsSome, IfSome, None, Some, true, false, IfOk, OnOk, OnErr};
     ghost use Rattle.script_tokens.specs.Reading.{words_of, lines_of, line_of_left, line_of, AreWithin, BeginsWith, Passes};
     ghost use Rattle.script_tokens.specs.Words.{letters};
     ghost use Rattle.script_tokens.specs.Texts.{AreLetters};
@@ -55,7 +55,7 @@ impl<'a> Reader<'a> {
     /// The position of the next word, or just past the text.
     pub fn position(&self) -> Position {
         match self.tokens.first() {
-            None => end_of(self.text),
+            None => Position::past(self.text),
             Some(first) => first.position,
         }
     }
@@ -175,19 +175,4 @@ impl<'a> Reader<'a> {
         self.advance();
         Ok(())
     }
-}
-
-/// The position just past a text.
-fn end_of(text: &[u8]) -> Position {
-    let mut line = 1;
-    let mut column = 1;
-    for byte in text {
-        if *byte == b'\n' {
-            line += 1;
-            column = 1;
-        } else {
-            column += 1;
-        }
-    }
-    Position { line, column }
 }

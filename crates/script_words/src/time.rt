@@ -1,6 +1,6 @@
 //! Times of the day as a script writes them.
 
-ghost use Rattle.std.specs.Prelude.{◌≡◌, ◌+◌, ◌*◌, ◌/◌, ◌<◌, ◌↔◌, IsSome, IfSome};
+ghost use Rattle.std.specs.Prelude.{◌≡◌, ◌*◌, ◌/◌, ◌<◌, ◌↔◌, IsSome, IfSome};
 ghost use Rattle.script_words.specs.Times.{frame_at};
 
 use plan_code::DayFrame;

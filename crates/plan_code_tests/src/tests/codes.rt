@@ -1,20 +1,13 @@
 //! Codes made of their parts.
 
+use super::{LABEL, PLAN};
 use mux_config::Config;
 use plan_code::{
     Code, ContactId, Contacts, CounterId, Counters, DayFrame, Delay, Frames, Instr, Label, Line,
-    Mode, Plan, Swap, Times,
+    Plan, Swap, Times,
 };
 use std::alloc::{AllocError, Global};
 use std::test::Fail;
-
-const PLAN: Plan = Plan {
-    eid: 0xE1C5,
-    mode: Mode::I,
-    period: 4,
-    notice: 24,
-    budget: 20,
-};
 
 /// A code of one configuration and one instruction.
 fn one(alloc: Global, plan: Plan, label: Label) -> Result<Option<Code>, AllocError> {
@@ -29,15 +22,6 @@ fn one(alloc: Global, plan: Plan, label: Label) -> Result<Option<Code>, AllocErr
     })?;
     Ok(Code::new(plan, configs, labels, lines))
 }
-
-const LABEL: Label = Label {
-    pc: 0,
-    cur: 0,
-    next: 0,
-    pending: Swap::Idle,
-    counters: Counters(0),
-    cost: 1,
-};
 
 /// Whether a code may have this plan and this label.
 fn may_have(alloc: Global, plan: Plan, label: Label) -> Result<bool, AllocError> {

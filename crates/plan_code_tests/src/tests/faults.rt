@@ -1,12 +1,10 @@
 //! The first fault of a file in which one byte was changed.
 
+use super::seen::{Row, changed, fault_of, fault_of_front, first_front_not_truncated, first_wrong};
 use super::{LONG_FILE, LOOP_FILE, SHORT_FILE};
 use plan_code::{CodeFault, decode, encode};
 use std::alloc::Global;
 use std::test::Fail;
-
-/// A place, the byte that it is changed to, and the fault.
-type Row = (usize, u8, CodeFault);
 
 const SHORT_ROWS: [Row; 29] = [
     // the header: the letters, the version, the period, the notice, the budget and the three numbers
@@ -82,33 +80,11 @@ const LOOP_ROWS: [Row; 7] = [
 ];
 
 #[test]
-fn faults_of_a_code_of_one_instruction(rt: HostRuntime) {
-    for (place, byte, fault) in SHORT_ROWS {
-        let mut bytes = SHORT_FILE;
-        assert!(rt; place < 35);
-        bytes[place] = byte;
-        assert_eq!(rt; decode(rt.alloc(), &bytes).err(), Some(fault));
-    }
-}
-
-#[test]
-fn faults_of_a_configuration_and_of_instructions(rt: HostRuntime) {
-    for (place, byte, fault) in LONG_ROWS {
-        let mut bytes = LONG_FILE;
-        assert!(rt; place < 89);
-        bytes[place] = byte;
-        assert_eq!(rt; decode(rt.alloc(), &bytes).err(), Some(fault));
-    }
-}
-
-#[test]
-fn faults_of_labels_and_counters(rt: HostRuntime) {
-    for (place, byte, fault) in LOOP_ROWS {
-        let mut bytes = LOOP_FILE;
-        assert!(rt; place < 65);
-        bytes[place] = byte;
-        assert_eq!(rt; decode(rt.alloc(), &bytes).err(), Some(fault));
-    }
+fn faults_of_one_byte(rt: HostRuntime) -> Result<(), Fail> {
+    assert_eq!(rt; first_wrong(rt.alloc(), &SHORT_FILE, &SHORT_ROWS)?, None);
+    assert_eq!(rt; first_wrong(rt.alloc(), &LONG_FILE, &LONG_ROWS)?, None);
+    assert_eq!(rt; first_wrong(rt.alloc(), &LOOP_FILE, &LOOP_ROWS)?, None);
+    Ok(())
 }
 
 /// A place, the byte that it is changed to, where its field ends, and the fault.
@@ -140,40 +116,24 @@ const CUTS: [Cut; 22] = [
     (34, 0x24, 35, CodeFault::Field(34)),
 ];
 
-/// The fault of this many bytes at the front.
-fn fault_of_front(alloc: Global, bytes: &[u8], length: usize) -> Option<CodeFault> {
-    if length > bytes.len() {
-        return None;
-    }
-    decode(alloc, &bytes[..length]).err()
-}
-
 /// A field is judged as soon as its bytes are there, and is missing before.
 #[test]
-fn files_that_are_cut_at_a_fault(rt: HostRuntime) {
+fn files_that_are_cut_at_a_fault(rt: HostRuntime) -> Result<(), Fail> {
     for (place, byte, end, fault) in CUTS {
-        let mut bytes = SHORT_FILE;
-        assert!(rt; place < 35 && 1 <= end);
-        bytes[place] = byte;
+        let bytes = changed(rt.alloc(), &SHORT_FILE, place, byte)?;
         assert_eq!(rt; fault_of_front(rt.alloc(), &bytes, end), Some(fault));
-        assert_eq!(rt;
-            fault_of_front(rt.alloc(), &bytes, end - 1),
-            Some(CodeFault::Truncated)
-        );
+        assert_eq!(rt; first_front_not_truncated(rt.alloc(), &bytes), end);
     }
+    Ok(())
 }
 
 #[test]
-fn each_other_first_byte(rt: HostRuntime) {
+fn each_other_first_byte(rt: HostRuntime) -> Result<(), Fail> {
     for byte in 0..=255u8 {
-        let mut bytes = SHORT_FILE;
-        bytes[0] = byte;
-        let is_first = byte == 0x44;
-        assert_eq!(rt;
-            decode(rt.alloc(), &bytes).err() == Some(CodeFault::Magic),
-            !is_first
-        );
+        let fault = fault_of(rt.alloc(), &changed(rt.alloc(), &SHORT_FILE, 0, byte)?);
+        assert_eq!(rt; fault == Some(CodeFault::Magic), byte != 0x44);
     }
+    Ok(())
 }
 
 /// Whether the bytes are refused by a fault that has a name, or are the file of the code that they are read as;

@@ -1,39 +1,23 @@
 //! Whole files, read and written back.
 
-use super::seen::{label, line, parts, plan, read, sizes, written};
-use super::{LONG_FILE, LOOP_FILE, SHORT_FILE};
-use mux_config::{Edit, SubId};
-use plan_code::{
-    CodeFault, ContactId, CounterId, Counters, Delay, Frames, Instr, Label, Mode, Plan, Swap,
-    Times, decode,
+use super::seen::{
+    fault_of, first_front_not_truncated, label, line, parts, plan, read, sizes, written,
 };
+use super::{LABEL, LONG_FILE, LOOP_FILE, PLAN, SHORT_FILE};
+use mux_config::{Edit, SubId};
+use plan_code::{CodeFault, ContactId, CounterId, Counters, Delay, Frames, Instr, Times};
 use std::test::Fail;
 
 #[test]
 fn a_code_of_one_instruction(rt: HostRuntime) -> Result<(), Fail> {
     let code = read(rt.alloc(), &SHORT_FILE)?;
-    let wanted = Plan {
-        eid: 0xE1C5,
-        mode: Mode::I,
-        period: 4,
-        notice: 24,
-        budget: 20,
-    };
-    assert_eq!(rt; plan(&code), wanted);
+    assert_eq!(rt; plan(&code), PLAN);
     assert_eq!(rt; sizes(&code), (1, 1, 1));
     assert_eq!(rt; parts(&code, 0), Some((0, 0, 0)));
     assert_eq!(rt; parts(&code, 1), None);
     assert_eq!(rt; line(&code, 0), (Some(Instr::End), Some(1)));
     assert_eq!(rt; line(&code, 1), (None, None));
-    let wanted = Label {
-        pc: 0,
-        cur: 0,
-        next: 0,
-        pending: Swap::Idle,
-        counters: Counters(0),
-        cost: 1,
-    };
-    assert_eq!(rt; label(&code, 0), Some(wanted));
+    assert_eq!(rt; label(&code, 0), Some(LABEL));
     assert_eq!(rt; label(&code, 1), None);
     assert_eq!(rt;
         written(rt.alloc(), &code)?.as_slice(),
@@ -111,27 +95,17 @@ fn a_code_with_two_labels(rt: HostRuntime) -> Result<(), Fail> {
 
 #[test]
 fn files_that_are_cut(rt: HostRuntime) {
-    for length in 0..35usize {
-        assert_eq!(rt;
-            decode(rt.alloc(), &SHORT_FILE[..length]).err(),
-            Some(CodeFault::Truncated)
-        );
-    }
-    for length in 0..89usize {
-        assert_eq!(rt;
-            decode(rt.alloc(), &LONG_FILE[..length]).err(),
-            Some(CodeFault::Truncated)
-        );
-    }
+    assert_eq!(rt; first_front_not_truncated(rt.alloc(), &SHORT_FILE), 35);
+    assert_eq!(rt; first_front_not_truncated(rt.alloc(), &LONG_FILE), 89);
 }
 
 #[test]
 fn a_byte_too_many(rt: HostRuntime) -> Result<(), Fail> {
     let mut short = SHORT_FILE.to_vec(rt.alloc())?;
     short.push(0)?;
-    assert_eq!(rt; decode(rt.alloc(), &short).err(), Some(CodeFault::Trailing));
+    assert_eq!(rt; fault_of(rt.alloc(), &short), Some(CodeFault::Trailing));
     let mut long = LONG_FILE.to_vec(rt.alloc())?;
     long.push(0x07)?;
-    assert_eq!(rt; decode(rt.alloc(), &long).err(), Some(CodeFault::Trailing));
+    assert_eq!(rt; fault_of(rt.alloc(), &long), Some(CodeFault::Trailing));
     Ok(())
 }

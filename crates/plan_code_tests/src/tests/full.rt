@@ -1,8 +1,10 @@
 //! A file with a member of each kind in its tables: what it says, and the first fault of each of its fields.
 
-use super::seen::{config, label, line, parts, read, sizes, written};
+use super::seen::{
+    Row, config, first_front_not_truncated, first_wrong, label, line, parts, read, sizes, written,
+};
 use mux_config::{Component, Config, ScId, ScTy, Sid, SubId};
-use plan_code::{CodeFault, Counters, Instr, Label, Swap, decode};
+use plan_code::{CodeFault, Counters, Instr, Label, Swap};
 use std::test::Fail;
 
 /// The file of a code of two configurations and two labels; its configurations are the empty one, and one with
@@ -29,82 +31,79 @@ const FULL_FILE: [u8; 102] = [
     0xFF, 0xFF, 0x07,
 ];
 
-/// A place, the byte that it is changed to, and the place of the field that is then at fault.
-type Row = (usize, u8, usize);
-
 const CONFIGURATION_ROWS: [Row; 40] = [
     // the numbers of sub-channels, services and packet components
-    (19, 65, 19),
-    (20, 65, 20),
-    (21, 65, 21),
+    (19, 65, CodeFault::Field(19)),
+    (20, 65, CodeFault::Field(20)),
+    (21, 65, CodeFault::Field(21)),
     // a sub-channel: identifier, end past the multiplex, set, level, rates that have no size
-    (22, 64, 22),
-    (30, 0x03, 30),
-    (25, 2, 25),
-    (32, 2, 32),
-    (33, 0, 33),
-    (33, 5, 33),
-    (35, 0x21, 34),
-    (35, 0x00, 34),
+    (22, 64, CodeFault::Field(22)),
+    (30, 0x03, CodeFault::Field(30)),
+    (25, 2, CodeFault::Field(25)),
+    (32, 2, CodeFault::Field(32)),
+    (33, 0, CodeFault::Field(33)),
+    (33, 5, CodeFault::Field(33)),
+    (35, 0x21, CodeFault::Field(34)),
+    (35, 0x00, CodeFault::Field(34)),
     // a service: kind of its identifier, number of components of a short one and of a long one
-    (36, 2, 36),
-    (39, 13, 39),
-    (46, 0xFF, 46),
-    (55, 12, 55),
+    (36, 2, CodeFault::Field(36)),
+    (39, 13, CodeFault::Field(39)),
+    (46, 0xFF, CodeFault::Field(46)),
+    (55, 12, CodeFault::Field(55)),
     // a component: TMId, type, sub-channel, packet component, the carrier of the one before it
-    (40, 2, 40),
-    (40, 4, 40),
-    (43, 0xFF, 43),
-    (41, 64, 41),
-    (42, 64, 42),
-    (44, 64, 44),
-    (45, 64, 45),
-    (56, 2, 56),
-    (57, 0x10, 57),
-    (45, 1, 43),
+    (40, 2, CodeFault::Field(40)),
+    (40, 4, CodeFault::Field(40)),
+    (43, 0xFF, CodeFault::Field(43)),
+    (41, 64, CodeFault::Field(41)),
+    (42, 64, CodeFault::Field(42)),
+    (44, 64, CodeFault::Field(44)),
+    (45, 64, CodeFault::Field(45)),
+    (56, 2, CodeFault::Field(56)),
+    (57, 0x10, CodeFault::Field(57)),
+    (45, 1, CodeFault::Field(43)),
     // a packet component: identifier, DG flag, type, sub-channel, address
-    (59, 0x10, 59),
-    (61, 2, 61),
-    (62, 64, 62),
-    (63, 64, 63),
-    (65, 0, 64),
-    (64, 0x04, 64),
-    (68, 0xFF, 68),
-    (69, 64, 69),
-    (70, 64, 70),
-    (71, 0x04, 71),
+    (59, 0x10, CodeFault::Field(59)),
+    (61, 2, CodeFault::Field(61)),
+    (62, 64, CodeFault::Field(62)),
+    (63, 64, CodeFault::Field(63)),
+    (65, 0, CodeFault::Field(64)),
+    (64, 0x04, CodeFault::Field(64)),
+    (68, 0xFF, CodeFault::Field(68)),
+    (69, 64, CodeFault::Field(69)),
+    (70, 64, CodeFault::Field(70)),
+    (71, 0x04, CodeFault::Field(71)),
     // an identifier that is not above the one before it: the record's first byte
-    (29, 1, 19),
-    (29, 0, 19),
-    (38, 0x22, 19),
-    (48, 0x20, 19),
-    (66, 0x00, 19),
+    (29, 1, CodeFault::Field(19)),
+    (29, 0, CodeFault::Field(19)),
+    (38, 0x22, CodeFault::Field(19)),
+    (48, 0x20, CodeFault::Field(19)),
+    (66, 0x00, CodeFault::Field(19)),
 ];
 
 const LABEL_ROWS: [Row; 17] = [
     // the configurations, of which there are two
-    (76, 2, 75),
-    (75, 1, 75),
-    (78, 2, 77),
-    (77, 1, 77),
-    (89, 2, 88),
+    (76, 2, CodeFault::Field(75)),
+    (75, 1, CodeFault::Field(75)),
+    (78, 2, CodeFault::Field(77)),
+    (77, 1, CodeFault::Field(77)),
+    (89, 2, CodeFault::Field(88)),
     // whether a swap is pending, and the least bound of one that perhaps is
-    (79, 3, 79),
-    (79, 2, 80),
-    (79, 0xFF, 79),
+    (79, 3, CodeFault::Field(79)),
+    (79, 2, CodeFault::Field(80)),
+    (79, 0xFF, CodeFault::Field(79)),
     // the bounds of a swap: the least from 1, the greatest from the least on; zeros where none is pending, and
     // the least is judged first
-    (79, 0, 80),
-    (81, 0, 80),
-    (83, 0x17, 82),
-    (92, 1, 93),
-    (94, 1, 93),
-    (96, 1, 95),
+    (79, 0, CodeFault::Field(80)),
+    (81, 0, CodeFault::Field(80)),
+    (83, 0x17, CodeFault::Field(82)),
+    (92, 1, CodeFault::Field(93)),
+    (94, 1, CodeFault::Field(93)),
+    (96, 1, CodeFault::Field(95)),
     // the cost
-    (85, 0, 85),
-    (98, 0, 98),
+    (85, 0, CodeFault::Field(85)),
+    (98, 0, CodeFault::Field(98)),
     // the opcode
-    (101, 0x09, 101),
+    (101, 0x09, CodeFault::Field(101)),
 ];
 
 /// The identifiers of the services of a configuration, each with its first component.
@@ -178,37 +177,21 @@ fn its_labels(rt: HostRuntime) -> Result<(), Fail> {
 }
 
 #[test]
-fn faults_of_a_configuration(rt: HostRuntime) {
-    for (place, byte, field) in CONFIGURATION_ROWS {
-        let mut bytes = FULL_FILE;
-        assert!(rt; place < 102);
-        bytes[place] = byte;
-        assert_eq!(rt;
-            decode(rt.alloc(), &bytes).err(),
-            Some(CodeFault::Field(field))
-        );
-    }
+fn faults_of_a_configuration(rt: HostRuntime) -> Result<(), Fail> {
+    assert_eq!(rt;
+        first_wrong(rt.alloc(), &FULL_FILE, &CONFIGURATION_ROWS)?,
+        None
+    );
+    Ok(())
 }
 
 #[test]
-fn faults_of_labels(rt: HostRuntime) {
-    for (place, byte, field) in LABEL_ROWS {
-        let mut bytes = FULL_FILE;
-        assert!(rt; place < 102);
-        bytes[place] = byte;
-        assert_eq!(rt;
-            decode(rt.alloc(), &bytes).err(),
-            Some(CodeFault::Field(field))
-        );
-    }
+fn faults_of_labels(rt: HostRuntime) -> Result<(), Fail> {
+    assert_eq!(rt; first_wrong(rt.alloc(), &FULL_FILE, &LABEL_ROWS)?, None);
+    Ok(())
 }
 
 #[test]
 fn cuts(rt: HostRuntime) {
-    for length in 0..102usize {
-        assert_eq!(rt;
-            decode(rt.alloc(), &FULL_FILE[..length]).err(),
-            Some(CodeFault::Truncated)
-        );
-    }
+    assert_eq!(rt; first_front_not_truncated(rt.alloc(), &FULL_FILE), 102);
 }

@@ -1,15 +1,12 @@
 //! Each kind of instruction, made, written and read, with its operands at their least and greatest values.
 
-use super::SHORT_FILE;
 use super::seen::{read, written};
+use super::{LABEL, PLAN, SHORT_FILE};
 use mux_config::{
     Carrier, Component, Config, Edit, NewSub, Packet, ScId, ScTy, Sid, StartAddress, SubId,
 };
 use mux_eep::{EepSet, Protection};
-use plan_code::{
-    Code, ContactId, CounterId, Counters, DayFrame, Delay, Frames, Instr, Label, Line, Mode, Plan,
-    Swap, Times,
-};
+use plan_code::{Code, ContactId, CounterId, DayFrame, Delay, Frames, Instr, Line, Times};
 use std::alloc::{AllocError, Global};
 use std::test::Fail;
 
@@ -205,26 +202,11 @@ fn append(lines: &mut Vec<Line>, number: u16, instrs: &[Instr]) -> Result<(), Al
 
 /// The code of these lines, with the empty configuration and a label at its start.
 fn code_of(alloc: Global, lines: Vec<Line>) -> Result<Code, Fail> {
-    let plan = Plan {
-        eid: 0xE1C5,
-        mode: Mode::I,
-        period: 4,
-        notice: 24,
-        budget: 20,
-    };
-    let label = Label {
-        pc: 0,
-        cur: 0,
-        next: 0,
-        pending: Swap::Idle,
-        counters: Counters(0),
-        cost: 1,
-    };
     let mut configs = Vec::new(alloc);
     configs.push(Config::new())?;
     let mut labels = Vec::new(alloc);
-    labels.push(label)?;
-    Ok(Code::new(plan, configs, labels, lines).ok_or("a code")?)
+    labels.push(LABEL)?;
+    Ok(Code::new(PLAN, configs, labels, lines).ok_or("a code")?)
 }
 
 /// The file of a code of 22 lines with these bytes: the header says so, else it begins as the shortest does.

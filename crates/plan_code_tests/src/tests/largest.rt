@@ -1,18 +1,11 @@
 //! The largest tables: 256 configurations, 1,024 labels, 4,096 instructions.
 
 use super::seen::{label, line, read, sizes, written};
+use super::{LABEL, PLAN};
 use mux_config::Config;
-use plan_code::{Code, Counters, Instr, Label, Line, Mode, Plan, Swap};
+use plan_code::{Code, Instr, Label, Line};
 use std::alloc::{AllocError, Global};
 use std::test::Fail;
-
-const PLAN: Plan = Plan {
-    eid: 0xE1C5,
-    mode: Mode::I,
-    period: 4,
-    notice: 24,
-    budget: 20,
-};
 
 /// A code of this many empty configurations, labels and instructions, where these are within the limits.
 fn sized(
@@ -37,10 +30,7 @@ fn labels_of(alloc: Global, count: u16) -> Result<Vec<Label>, AllocError> {
         labels.push(Label {
             pc,
             cur: pc % 1024 / 4,
-            next: 0,
-            pending: Swap::Idle,
-            counters: Counters(0),
-            cost: 1,
+            ..LABEL
         })?;
     }
     Ok(labels)

@@ -1,7 +1,7 @@
 //! A label of a swap that is perhaps pending, and settling.
 
-use super::seen::{label, line, read, written};
-use plan_code::{CodeFault, Counters, Instr, Label, Swap, decode};
+use super::seen::{Row, first_wrong, label, line, read, written};
+use plan_code::{CodeFault, Counters, Instr, Label, Swap};
 use std::test::Fail;
 
 /// The file of a code that lowers a rate, waits for an hour during the notice, and settles: its second label,
@@ -41,26 +41,19 @@ fn a_swap_that_is_perhaps_pending(rt: HostRuntime) -> Result<(), Fail> {
     Ok(())
 }
 
-/// A place, the byte that it is changed to, and the place of the field that is then at fault.
-const ROWS: [(usize, u8, usize); 5] = [
+/// The first faults of its label.
+const ROWS: [Row; 5] = [
     // the kind of the swap; the least bound, which is 0; the greatest, which is 1 or more
-    (69, 3, 69),
-    (70, 1, 70),
-    (71, 1, 70),
-    (73, 0, 72),
+    (69, 3, CodeFault::Field(69)),
+    (70, 1, CodeFault::Field(70)),
+    (71, 1, CodeFault::Field(70)),
+    (73, 0, CodeFault::Field(72)),
     // bounds of a swap that is pending for certain begin at 1
-    (69, 1, 70),
+    (69, 1, CodeFault::Field(70)),
 ];
 
 #[test]
-fn faults_of_its_label(rt: HostRuntime) {
-    for (place, byte, field) in ROWS {
-        let mut bytes = SETTLED_FILE;
-        assert!(rt; place < 111);
-        bytes[place] = byte;
-        assert_eq!(rt;
-            decode(rt.alloc(), &bytes).err(),
-            Some(CodeFault::Field(field))
-        );
-    }
+fn faults_of_its_label(rt: HostRuntime) -> Result<(), Fail> {
+    assert_eq!(rt; first_wrong(rt.alloc(), &SETTLED_FILE, &ROWS)?, None);
+    Ok(())
 }

@@ -29,7 +29,7 @@ fn third_is(closed: bool) -> Event {
     Event::Contact(third(), closed)
 }
 
-/// So many frames more.
+/// Puts this many frames more.
 fn put_frames(events: &mut Vec<Event>, frames: u8) -> Result<(), Fail> {
     for _ in 0..frames {
         events.push(Event::Frame)?;

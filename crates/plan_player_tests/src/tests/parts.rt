@@ -102,7 +102,7 @@ pub fn commit_in(delay: u16) -> Instr {
     }
 }
 
-/// Goes on where the contact is closed, else at the target.
+/// Continues where the contact is closed, else at the target.
 pub fn test(contact: u8, target: u16) -> Instr {
     match ContactId::new(contact) {
         Some(contact) => Instr::Test { contact, target },

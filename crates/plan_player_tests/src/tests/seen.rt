@@ -111,7 +111,7 @@ pub fn has_steps<S: Store>(rt: &impl Abort, player: &Player<S>, wanted: u8) {
     same(rt, "steps", u32::from(player.steps()), u32::from(wanted));
 }
 
-/// So many frames are left until the swap.
+/// The frames that are left until the swap.
 pub fn has_left<S: Store>(rt: &impl Abort, player: &Player<S>, wanted: Option<u16>) {
     assert_eq!(rt; remaining(player), wanted);
 }

@@ -1,5 +1,5 @@
 use Rattle.std.proofs.Common.{◌≡◌, ◌++◌, take}
-use Rattle.mux_types.specs.Configuration.{Each}
+use Rattle.std.specs.List.{AllByRecursion}
 use Rattle.fib_codec.specs.Ranges.{IsWithin}
 use Rattle.fib_codec.specs.Spelling.{entries_bytes}
 use Rattle.fib_codec.proofs.fib.put_entries.Given as goal
@@ -7,5 +7,5 @@ use Rattle.fib_codec.proofs.fib.put_entries.Given as goal
 abbrev pub invariant-loop-entry : goal.invariant-loop-entry
 invariant-loop-entry l = record {
   written : l.out ≡ l.fn.out ++ entries_bytes (take l.entry-index l.entries);
-  within : Each IsWithin (take l.entry-index l.entries);
+  within : AllByRecursion IsWithin (take l.entry-index l.entries);
 }

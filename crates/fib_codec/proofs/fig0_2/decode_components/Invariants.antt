@@ -1,5 +1,5 @@
 use Rattle.std.proofs.Common.{◌≡◌, ◌+◌, ◌*◌, ◌++◌, length}
-use Rattle.mux_types.specs.Configuration.{Each}
+use Rattle.std.specs.List.{AllByRecursion}
 use Rattle.fib_codec.specs.Ranges.{IsComponentEntry}
 use Rattle.fib_codec.specs.Spelling.{components_bytes}
 use Rattle.fib_codec.proofs.fig0_2.decode_components.Given as goal
@@ -8,7 +8,7 @@ abbrev pub invariant-loop-rest : goal.invariant-loop-rest
 invariant-loop-rest l = record {
   spelled : components_bytes l.components ++ l.rest ≡ l.bytes;
   count : 2 * length l.components + length l.rest ≡ length l.bytes;
-  within : Each IsComponentEntry l.components;
+  within : AllByRecursion IsComponentEntry l.components;
 }
 
 abbrev pub decreases-loop-rest : goal.decreases-loop-rest

@@ -1,5 +1,6 @@
 use Rattle.std.proofs.Common.{◌≡◌, length, take}
-use Rattle.mux_config.specs.Configuration.{Each, IsComponent, AreDifferent}
+use Rattle.mux_config.specs.Configuration.{IsComponent, AreDifferent}
+use Rattle.std.specs.List.{AllByRecursion}
 use Rattle.mux_entries.specs.Facts.{component_entries}
 use Rattle.fib_reader.proofs.from_entry.components_from_entry.Given as goal
 
@@ -7,6 +8,6 @@ abbrev pub invariant-loop-place : goal.invariant-loop-place
 invariant-loop-place l = record {
   count : length l.components ≡ l.place;
   value : component_entries l.components ≡ take l.place l.entries;
-  members : Each IsComponent l.components;
+  members : AllByRecursion IsComponent l.components;
   different : AreDifferent l.components;
 }

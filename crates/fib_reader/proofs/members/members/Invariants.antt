@@ -1,10 +1,10 @@
 use Rattle.std.proofs.Common.{◌≡◌, map, take}
-use Rattle.mux_config.specs.Configuration.{Each}
+use Rattle.std.specs.List.{AllByRecursion}
 use Rattle.fib_reader.specs.Raw.{raw_entry}
 use Rattle.fib_reader.proofs.members.members.Given as goal
 
 abbrev pub invariant-loop-entry : goal.invariant-loop-entry
 invariant-loop-entry g l = record {
   said : map (λ x. raw_entry (g.T.FromEntry.entry_of x)) l.table ≡ take l.entry-index l.kept;
-  members : Each g.T.FromEntry.is_member l.table;
+  members : AllByRecursion g.T.FromEntry.is_member l.table;
 }

@@ -1,5 +1,5 @@
 use Rattle.std.proofs.Common.{◌≡◌, ◌<◌, ◌-◌, [], length}
-use Rattle.mux_types.specs.Configuration.{Each}
+use Rattle.std.specs.List.{AllByRecursion}
 use Rattle.mux_config.specs.Reading.{members_at}
 use Rattle.mux_config.proofs.record_reader.members.Given as goal
 
@@ -8,4 +8,4 @@ invariant-loop g l =
     (members_at g.T.Keyed.key (g.T.Member.member_at l.reader.total) l.low l.members (l.count - l.counter) l.reader.rest
     ≡ members_at g.T.Keyed.key (g.T.Member.member_at l.initial.reader.total) 0 [] l.count l.initial.reader.rest)
     × (length l.members ≡ l.counter) × (l.reader.total ≡ l.initial.reader.total)
-    × Each (λ x. g.T.Keyed.key x < l.low) l.members
+    × AllByRecursion (λ x. g.T.Keyed.key x < l.low) l.members

@@ -1,5 +1,5 @@
 use Rattle.std.proofs.Common.{◌≡◌, ◌++◌, length, flat_map}
-use Rattle.mux_config.specs.Configuration.{Each}
+use Rattle.std.specs.List.{AllByRecursion}
 use Rattle.plan_events.specs.Commands.{IsCommand, command_words}
 use Rattle.plan_events.specs.Events.{words_of_text}
 use Rattle.plan_events.proofs.Listed.{GoesOn}
@@ -8,7 +8,7 @@ use Rattle.plan_events.proofs.commands.commands.Given as goal
 abbrev pub invariant-loop-words : goal.invariant-loop-words
 invariant-loop-words l = record {
   read : words_of_text l.fn.text l.fn.tokens ≡ flat_map command_words l.commands.items ++ l.words;
-  range : Each IsCommand l.commands.items;
+  range : AllByRecursion IsCommand l.commands.items;
   on : GoesOn command_words IsCommand (words_of_text l.fn.text l.fn.tokens) l.commands.items l.words;
 }
 

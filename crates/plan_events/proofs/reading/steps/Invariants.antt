@@ -1,5 +1,5 @@
 use Rattle.std.proofs.Common.{◌≡◌, ◌++◌, length, flat_map}
-use Rattle.mux_config.specs.Configuration.{Each}
+use Rattle.std.specs.List.{AllByRecursion}
 use Rattle.plan_events.specs.Events.{IsStep, step_words, words_of_text}
 use Rattle.plan_events.proofs.Listed.{GoesOn}
 use Rattle.plan_events.proofs.reading.steps.Given as goal
@@ -7,7 +7,7 @@ use Rattle.plan_events.proofs.reading.steps.Given as goal
 abbrev pub invariant-loop-words : goal.invariant-loop-words
 invariant-loop-words l = record {
   read : words_of_text l.fn.text l.fn.tokens ≡ flat_map step_words l.steps.items ++ l.words;
-  range : Each IsStep l.steps.items;
+  range : AllByRecursion IsStep l.steps.items;
   on : GoesOn step_words IsStep (words_of_text l.fn.text l.fn.tokens) l.steps.items l.words;
 }
 

@@ -1,0 +1,214 @@
+//! Why an edit of a configuration is refused, whatever holds the configuration: the first of its faults, in the order
+//! in which the edits of [`Store`] name them.
+
+ghost use Rattle.std.specs.Prelude.{◌≡◌, if◌then◌else◌, Some, None, IfSome};
+ghost use Rattle.mux_types.specs.Configuration.{IsPlaced, sub_key, service_key, packet_key, sid_key};
+ghost use Rattle.mux_types.specs.Tables.{has_entry};
+ghost use Rattle.mux_config.specs.Edits.{sub_at, at_start, placing_fault, component_fault, is_past_end, add_sub_fault, drop_sub_fault, move_sub_fault, rate_sub_fault, add_service_fault, drop_service_fault, add_component_fault, drop_component_fault, add_packet_fault, drop_packet_fault};
+ghost use Rattle.mux_config.specs.declared.fault.EditFault.TheVariants.{PastEnd};
+
+use crate::fault::EditFault;
+use crate::store::Store;
+use mux_eep::{CAPACITY_UNITS, size_of};
+use mux_types::{Carrier, Component, MEMBERS, Packet, ScId, Service, Sid, Sub, SubId};
+
+/// The greatest packet address, which has 10 bits (EN 300 401 clause 6.3.2).
+const LAST_ADDRESS: u16 = 1023;
+
+/// Whether there is a sub-channel of this identifier.
+fn has_sub<S: Store>(store: &S, id: SubId) -> bool
+    ensures { let c = S.content store.now in result ≡ has_entry sub_key id c.subs }
+{
+    store.sub(id).is_some()
+}
+
+/// Whether there is a service of this identifier.
+fn has_service<S: Store>(store: &S, sid: Sid) -> bool
+    ensures { let c = S.content store.now in
+        result ≡ has_entry service_key (sid_key sid) c.services }
+{
+    store.service(sid).is_some()
+}
+
+/// Whether there is a packet component of this identifier.
+fn has_packet<S: Store>(store: &S, scid: ScId) -> bool
+    ensures { let c = S.content store.now in result ≡ has_entry packet_key scid c.packets }
+{
+    store.packet(scid).is_some()
+}
+
+/// The sub-channel of an identifier, which has a size and stands within the multiplex.
+fn placed_sub<S: Store>(store: &S, id: SubId) -> Option<Sub>
+    ensures value { result ≡ sub_at id (S.content store.now) }
+    ensures placed { IfSome result (λ s. IsPlaced s) }
+{
+    match store.sub(id) {
+        Some(found) => Some(found),
+        None => None,
+    }
+}
+
+/// Why a sub-channel can't stand where it is, if it can't.
+fn placing_fault(sub: &Sub) -> Option<EditFault>
+    ensures { result ≡ placing_fault sub.now }
+{
+    match size_of(sub.protection, sub.kbits) {
+        Ok(size) => {
+            if u32::from(sub.start) + u32::from(size) > u32::from(CAPACITY_UNITS) {
+                return Some(EditFault::PastEnd);
+            }
+            None
+        }
+        Err(_) => Some(EditFault::BadRate),
+    }
+}
+
+/// Why a sub-channel that stands somewhere can't stand at another start address, if it can't.
+fn start_fault(sub: &Sub, start: u16) -> Option<EditFault>
+    requires { IsPlaced sub.now }
+    ensures { result ≡ (if is_past_end (at_start start sub.now) then Some PastEnd else None) }
+{
+    match placing_fault(&Sub { start, ..*sub }) {
+        Some(EditFault::PastEnd) => Some(EditFault::PastEnd),
+        _ => None,
+    }
+}
+
+/// Why [`Store::add_sub`] is refused, if it is.
+pub(crate) fn add_sub_fault<S: Store>(store: &S, sub: &Sub) -> Option<EditFault>
+    ensures { result ≡ add_sub_fault sub.now (S.content store.now) }
+{
+    if has_sub(store, sub.id) {
+        return Some(EditFault::IdUsed);
+    }
+    placing_fault(sub)
+}
+
+/// Why [`Store::drop_sub`] is refused, if it is.
+pub(crate) fn drop_sub_fault<S: Store>(store: &S, id: SubId) -> Option<EditFault>
+    ensures { result ≡ drop_sub_fault id (S.content store.now) }
+{
+    match store.sub(id) {
+        Some(_) => None,
+        None => Some(EditFault::IdAbsent),
+    }
+}
+
+/// Why [`Store::move_sub`] is refused, if it is.
+pub(crate) fn move_sub_fault<S: Store>(store: &S, id: SubId, start: u16) -> Option<EditFault>
+    ensures { result ≡ move_sub_fault id start (S.content store.now) }
+{
+    match placed_sub(store, id) {
+        Some(sub) => start_fault(&sub, start),
+        None => Some(EditFault::IdAbsent),
+    }
+}
+
+/// Why [`Store::rate_sub`] is refused, if it is.
+pub(crate) fn rate_sub_fault<S: Store>(store: &S, id: SubId, kbits: u16) -> Option<EditFault>
+    ensures { result ≡ rate_sub_fault id kbits (S.content store.now) }
+{
+    match store.sub(id) {
+        Some(sub) => placing_fault(&Sub { kbits, ..sub }),
+        None => Some(EditFault::IdAbsent),
+    }
+}
+
+/// Why [`Store::add_service`] is refused, if it is.
+pub(crate) fn add_service_fault<S: Store>(store: &S, sid: Sid) -> Option<EditFault>
+    ensures { result ≡ add_service_fault sid (S.content store.now) }
+{
+    if has_service(store, sid) {
+        return Some(EditFault::IdUsed);
+    }
+    if store.service_count() >= MEMBERS {
+        return Some(EditFault::TableFull);
+    }
+    None
+}
+
+/// Why [`Store::drop_service`] is refused, if it is.
+pub(crate) fn drop_service_fault<S: Store>(store: &S, sid: Sid) -> Option<EditFault>
+    ensures { result ≡ drop_service_fault sid (S.content store.now) }
+{
+    match store.service(sid) {
+        Some(_) => None,
+        None => Some(EditFault::IdAbsent),
+    }
+}
+
+/// Why [`Store::add_component`] is refused, if it is.
+pub(crate) fn add_component_fault<S: Store>(
+    store: &S,
+    sid: Sid,
+    component: &Component,
+) -> Option<EditFault>
+    ensures { result ≡ add_component_fault sid component.now (S.content store.now) }
+{
+    match store.service(sid) {
+        Some(service) => component_fault(service, component),
+        None => Some(EditFault::IdAbsent),
+    }
+}
+
+/// Why a service can't have one more component, if it can't.
+fn component_fault(service: &Service, component: &Component) -> Option<EditFault>
+    ensures { result ≡ component_fault component.now service.now }
+{
+    let named = component.carrier();
+    if named.is_named_by(service.components.as_slice()) {
+        return Some(EditFault::IdUsed);
+    }
+    if service.components.len() >= service.limit() {
+        return Some(EditFault::TooManyComponents);
+    }
+    None
+}
+
+/// Why [`Store::drop_component`] is refused, if it is.
+pub(crate) fn drop_component_fault<S: Store>(
+    store: &S,
+    sid: Sid,
+    carrier: &Carrier,
+) -> Option<EditFault>
+    ensures { result ≡ drop_component_fault sid carrier.now (S.content store.now) }
+{
+    match store.service(sid) {
+        Some(service) => {
+            if carrier.is_named_by(service.components.as_slice()) {
+                return None;
+            }
+            Some(EditFault::IdAbsent)
+        }
+        None => Some(EditFault::IdAbsent),
+    }
+}
+
+/// Why [`Store::add_packet`] is refused, if it is.
+pub(crate) fn add_packet_fault<S: Store>(store: &S, packet: &Packet) -> Option<EditFault>
+    ensures { result ≡ add_packet_fault packet.now (S.content store.now) }
+{
+    if has_packet(store, packet.scid) {
+        return Some(EditFault::IdUsed);
+    }
+    if packet.address == 0 {
+        return Some(EditFault::BadAddress);
+    }
+    if packet.address > LAST_ADDRESS {
+        return Some(EditFault::BadAddress);
+    }
+    if store.packet_count() >= MEMBERS {
+        return Some(EditFault::TableFull);
+    }
+    None
+}
+
+/// Why [`Store::drop_packet`] is refused, if it is.
+pub(crate) fn drop_packet_fault<S: Store>(store: &S, scid: ScId) -> Option<EditFault>
+    ensures { result ≡ drop_packet_fault scid (S.content store.now) }
+{
+    match store.packet(scid) {
+        Some(_) => None,
+        None => Some(EditFault::IdAbsent),
+    }
+}

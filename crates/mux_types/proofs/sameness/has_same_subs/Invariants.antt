@@ -1,9 +1,0 @@
-use Rattle.std.proofs.Common.{◌≡◌, length, drop}
-use Rattle.mux_types.specs.Sameness.{is_same_sub, is_same_list}
-use Rattle.mux_types.proofs.sameness.has_same_subs.Given as goal
-
-abbrev pub invariant-loop-place : goal.invariant-loop-place
-invariant-loop-place l = record {
-  lengths : length l.xs ≡ length l.ys;
-  left : is_same_list is_same_sub (drop l.place l.xs) (drop l.place l.ys) ≡ is_same_list is_same_sub l.xs l.ys;
-}
