@@ -5,6 +5,20 @@ cd "$(dirname "${BASH_SOURCE[0]}")/.."
 work=$(mktemp -d)
 trap 'rm -rf "$work"' EXIT
 
+# copy_crate CRATE: copies a crate to $work/top. What was proved of it here is linked, and holds there as long as its text
+# and that of the crates below it are the same; what was not is proved there.
+copy_crate() {
+  local crate=$1 part
+  mkdir -p "$work/top/crates/$crate/out"
+  for part in src specs proofs; do
+    if [ -d "crates/$crate/$part" ]; then cp -r "crates/$crate/$part" "$work/top/crates/$crate/"; fi
+  done
+  if [ -d "crates/$crate/out/rlib" ]; then
+    cp -al "crates/$crate/out/rlib" "$work/top/crates/$crate/out/" 2>/dev/null ||
+      cp -a "crates/$crate/out/rlib" "$work/top/crates/$crate/out/"
+  fi
+}
+
 # run_program NAME INPUT CRATE..: proves, builds and runs the program on standard input, over copies of these
 # crates and with INPUT as its own standard input. What it prints is printed; what the proof says only if it fails.
 run_program() {
@@ -14,7 +28,7 @@ run_program() {
   cat >"$work/top/crates/$name/src/main.rt"
   git init -q "$work/top"
   for crate in "$@"; do
-    cp -r "crates/$crate" "$work/top/crates/"
+    copy_crate "$crate"
     grep "^$crate:" crates.txt
   done >"$work/top/crates.txt"
   echo "$name: $*" >>"$work/top/crates.txt"

@@ -1,0 +1,13 @@
+#!/usr/bin/env bash
+# Runs every benchmark of this folder, one after another, and says of each what it measured and whether it met its
+# yardstick. Nothing else should run beside it. What ./dabplan or 'rt lib' proved of the crates is not proved again.
+set -uo pipefail
+cd "$(dirname "${BASH_SOURCE[0]}")"
+passed=0 failed=0
+for script in *.sh; do
+  case $script in all.sh | common.sh) continue ;; esac
+  echo "== $script"
+  if "./$script"; then passed=$((passed + 1)); else failed=$((failed + 1)) && echo "$script: missed"; fi
+done
+echo "$passed passed, $failed failed"
+[ "$failed" -eq 0 ]
