@@ -1,5 +1,6 @@
 #!/usr/bin/env python3
 """Command lines that are wrong, help, and the example that help shows. The last line is 'N passed, M failed'."""
+import pathlib
 import re
 
 import rows
@@ -77,6 +78,14 @@ def help_is_no_fault(rows):
         rows.tally.same(line, (0, True), (ended.status, usage in ended.printed.decode()))
 
 
+def the_names_in_the_help(rows):
+    """Each name of a fault that a help page has stands in the document of the commands too."""
+    document = (pathlib.Path(__file__).resolve().parent.parent / "docs/COMMANDS.md").read_text(encoding="utf-8")
+    for line in ("help", *(f"help {command}" for command in ("frame", "listen", "compile", "verify", "play", "debug"))):
+        names = set(re.findall(r"\b[A-Za-z]*[a-z][A-Z][A-Za-z]*\b", rows.run(line).printed.decode()))
+        rows.tally.same(f"names in {line}", [], sorted(name for name in names if name not in document))
+
+
 def the_example_of_the_help(rows):
     """The example that help shows can be pasted: it prints one frame of one audio service."""
     first = b"0500E1C500000501040088600602C221013F06FF000000000000000000002369"
@@ -90,4 +99,4 @@ def the_example_of_the_help(rows):
 
 
 if __name__ == "__main__":
-    rows.main([wrong_command_lines, wrong_options, help_is_no_fault, the_example_of_the_help])
+    rows.main([wrong_command_lines, wrong_options, help_is_no_fault, the_names_in_the_help, the_example_of_the_help])

@@ -246,7 +246,7 @@ pub const DEBUG: &str = "Plays a plan of reconfigurations by commands";
 pub const LONG_DEBUG: &str = "\
 Plays a plan of reconfigurations by commands.
 
-In go a code file, the binary form of a plan, and a text of commands. AllByRecursion command is carried out
+In go a code file, the binary form of a plan, and a text of commands. Each command is carried out
 and answered by a line: how many frames of 24 ms it played, and where the plan stands after it.";
 
 pub const DEBUG_USAGE: &str =
