@@ -13,7 +13,7 @@ use Rattle.script_tokens.proofs.Digits.{own}
 use Rattle.std.specs.Fmt.{decimal}
 use Rattle.script_tokens.specs.declared.keyword.Keyword.{Keyword}
 use Rattle.script_tokens.specs.declared.keyword.Keyword.TheVariants.{Ensemble, Mode, Period, Notice, Budget, Define, Begin, Sub, At, Eep, Service, Audio, In, Data, Carry, Packet, Groups, Raw, TypeWord, Address, Drop, Component, Move, Rate, Wait, Contact, Closed, Open, Until, Commit, Join, Settle, End, If, Else, Repeat, Forever, Apply, OpenBrace, CloseBrace}
-use Rattle.script_tokens.specs.Words.{the, text, letters, keywords, word_among, word_of, IsNoKeyword}
+use Rattle.script_tokens.specs.Words.{the, text, letters, head_words, item_words, packet_words, change_words, wait_words, flow_words, keywords, word_among, word_of, IsNoneOf, IsNoKeyword}
 use Rattle.script_tokens.specs.Reading.{Spelled}
 
 pub word_the : (k : Keyword) → word_of (letters k) ≡ the k
@@ -153,3 +153,47 @@ found_is r words found h is k rest e = some_is found k (sym is ∙ h k rest e)
   where
     some_is : (x y : Keyword) → Some x ≡ Some y → x ≡ y
     some_is x y f = cc
+
+-- bytes that spell no word of any subject spell no word
+pub no_keyword : (w : List ℕ) → IsNoneOf head_words w → IsNoneOf item_words w → IsNoneOf packet_words w
+    → IsNoneOf change_words w → IsNoneOf wait_words w → IsNoneOf flow_words w → IsNoKeyword w
+no_keyword w h i p c t f Ensemble = h.0
+no_keyword w h i p c t f Mode = h.1.0
+no_keyword w h i p c t f Period = h.1.1.0
+no_keyword w h i p c t f Notice = h.1.1.1.0
+no_keyword w h i p c t f Budget = h.1.1.1.1.0
+no_keyword w h i p c t f Define = h.1.1.1.1.1.0
+no_keyword w h i p c t f Begin = h.1.1.1.1.1.1.0
+no_keyword w h i p c t f Sub = i.0
+no_keyword w h i p c t f At = i.1.0
+no_keyword w h i p c t f Eep = i.1.1.0
+no_keyword w h i p c t f Service = i.1.1.1.0
+no_keyword w h i p c t f Audio = i.1.1.1.1.0
+no_keyword w h i p c t f In = i.1.1.1.1.1.0
+no_keyword w h i p c t f Data = i.1.1.1.1.1.1.0
+no_keyword w h i p c t f Carry = i.1.1.1.1.1.1.1.0
+no_keyword w h i p c t f Packet = p.0
+no_keyword w h i p c t f Groups = p.1.0
+no_keyword w h i p c t f Raw = p.1.1.0
+no_keyword w h i p c t f TypeWord = p.1.1.1.0
+no_keyword w h i p c t f Address = p.1.1.1.1.0
+no_keyword w h i p c t f Drop = c.0
+no_keyword w h i p c t f Component = c.1.0
+no_keyword w h i p c t f Move = c.1.1.0
+no_keyword w h i p c t f Rate = c.1.1.1.0
+no_keyword w h i p c t f Commit = c.1.1.1.1.0
+no_keyword w h i p c t f Join = c.1.1.1.1.1.0
+no_keyword w h i p c t f Settle = c.1.1.1.1.1.1.0
+no_keyword w h i p c t f Wait = t.0
+no_keyword w h i p c t f Contact = t.1.0
+no_keyword w h i p c t f Closed = t.1.1.0
+no_keyword w h i p c t f Open = t.1.1.1.0
+no_keyword w h i p c t f Until = t.1.1.1.1.0
+no_keyword w h i p c t f End = f.0
+no_keyword w h i p c t f If = f.1.0
+no_keyword w h i p c t f Else = f.1.1.0
+no_keyword w h i p c t f Repeat = f.1.1.1.0
+no_keyword w h i p c t f Forever = f.1.1.1.1.0
+no_keyword w h i p c t f Apply = f.1.1.1.1.1.0
+no_keyword w h i p c t f OpenBrace = f.1.1.1.1.1.1.0
+no_keyword w h i p c t f CloseBrace = f.1.1.1.1.1.1.1.0

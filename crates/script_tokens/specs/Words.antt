@@ -1,6 +1,6 @@
 -- The words of the grammar, as the bytes that spell them, and the names of blocks, which are none of them.
-use Rattle.std.specs.Prelude.{◌≡◌, ◌≢◌, ℕ, ◌≤◌, ◌||◌, ◌&&◌, ◌==◌, Bool, true, false, List, [], ◌∷◌, length, nat_le, codes, if◌then◌else◌}
-use Rattle.std.specs.List.{list_all}
+use Rattle.std.specs.Prelude.{◌≡◌, ◌≢◌, ℕ, ◌≤◌, ◌||◌, ◌&&◌, ◌==◌, Bool, true, false, List, [], ◌∷◌, ◌++◌, length, nat_le, codes, if◌then◌else◌}
+use Rattle.std.specs.List.{list_all, AllByRecursion}
 use Rattle.std.specs.Str.{bytes_eq}
 use Rattle.script_tokens.specs.declared.keyword.Keyword.{Keyword}
 use Rattle.script_tokens.specs.declared.keyword.Keyword.TheVariants.{Ensemble, Mode, Period, Notice, Budget, Define, Begin, Sub, At, Eep, Service, Audio, In, Data, Carry, Packet, Groups, Raw, TypeWord, Address, Drop, Component, Move, Rate, Wait, Contact, Closed, Open, Until, Commit, Join, Settle, End, If, Else, Repeat, Forever, Apply, OpenBrace, CloseBrace}
@@ -52,9 +52,28 @@ pub data Word : Type 0 where
   the : (keyword : Keyword) → Word
   text : (bytes : List ℕ) → Word
 
+-- the words by their subjects: of the head of a script, of its items, of packet components, of changes, of waiting, and
+-- of what comes next
+abbrev pub head_words : List Keyword
+head_words = Ensemble ∷ Mode ∷ Period ∷ Notice ∷ Budget ∷ Define ∷ Begin ∷ []
+
+abbrev pub item_words : List Keyword
+item_words = Sub ∷ At ∷ Eep ∷ Service ∷ Audio ∷ In ∷ Data ∷ Carry ∷ []
+
+abbrev pub packet_words : List Keyword
+packet_words = Packet ∷ Groups ∷ Raw ∷ TypeWord ∷ Address ∷ []
+
+abbrev pub change_words : List Keyword
+change_words = Drop ∷ Component ∷ Move ∷ Rate ∷ Commit ∷ Join ∷ Settle ∷ []
+
+abbrev pub wait_words : List Keyword
+wait_words = Wait ∷ Contact ∷ Closed ∷ Open ∷ Until ∷ []
+
+abbrev pub flow_words : List Keyword
+flow_words = End ∷ If ∷ Else ∷ Repeat ∷ Forever ∷ Apply ∷ OpenBrace ∷ CloseBrace ∷ []
+
 abbrev pub keywords : List Keyword
-keywords =
-    Ensemble ∷ Mode ∷ Period ∷ Notice ∷ Budget ∷ Define ∷ Begin ∷ Sub ∷ At ∷ Eep ∷ Service ∷ Audio ∷ In ∷ Data ∷ Carry ∷ Packet ∷ Groups ∷ Raw ∷ TypeWord ∷ Address ∷ Drop ∷ Component ∷ Move ∷ Rate ∷ Wait ∷ Contact ∷ Closed ∷ Open ∷ Until ∷ Commit ∷ Join ∷ Settle ∷ End ∷ If ∷ Else ∷ Repeat ∷ Forever ∷ Apply ∷ OpenBrace ∷ CloseBrace ∷ []
+keywords = head_words ++ (item_words ++ (packet_words ++ (change_words ++ (wait_words ++ flow_words))))
 
 abbrev pub word_among : List Keyword → List ℕ → Word
 word_among [] bytes = text bytes
@@ -63,6 +82,10 @@ word_among (k ∷ ks) bytes = if bytes_eq bytes (letters k) then the k else word
 -- the word of these bytes
 unfoldable pub word_of : List ℕ → Word
 word_of bytes = word_among keywords bytes
+
+-- these bytes spell none of some words
+abbrev pub IsNoneOf : List Keyword → List ℕ → Type 0
+IsNoneOf ks bytes = AllByRecursion (λ k. bytes ≢ letters k) ks
 
 abbrev pub IsNoKeyword : List ℕ → Type 0
 IsNoKeyword bytes = (k : Keyword) → bytes ≢ letters k

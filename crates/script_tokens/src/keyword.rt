@@ -1,6 +1,7 @@
 //! The words of the grammar.
 
 ghost use Rattle.std.specs.Prelude.{◌≡◌, IfSome, None};
+ghost use Rattle.script_tokens.specs.Words.{letters, IsNoneOf, head_words, item_words, packet_words, change_words, wait_words, flow_words};
 
 /// A word of the grammar, or a brace.
 #[derive(Clone, Copy, Debug, PartialEq, Eq)]
@@ -91,54 +92,27 @@ impl Keyword {
     ghost use Rattle.script_tokens.specs.Words.{letters, IsNoKeyword, begins_item, begins_statement};
 
     /// The word of these bytes; None where they are neither a word of the grammar nor a brace.
-    #[tactic(auto, unfolding(crate::specs::Words::letters))]
+    #[tactic(auto, using(crate::proofs::Keys::no_keyword))]
     pub fn of(bytes: &[u8]) -> Option<Keyword>
         ensures found { IfSome result (λ k. bytes.now ≡ letters k) }
         ensures none { result ≡ None → IsNoKeyword bytes.now }
     {
-        match bytes {
-            b"ensemble" => Some(Keyword::Ensemble),
-            b"mode" => Some(Keyword::Mode),
-            b"period" => Some(Keyword::Period),
-            b"notice" => Some(Keyword::Notice),
-            b"budget" => Some(Keyword::Budget),
-            b"define" => Some(Keyword::Define),
-            b"begin" => Some(Keyword::Begin),
-            b"sub" => Some(Keyword::Sub),
-            b"at" => Some(Keyword::At),
-            b"eep" => Some(Keyword::Eep),
-            b"service" => Some(Keyword::Service),
-            b"audio" => Some(Keyword::Audio),
-            b"in" => Some(Keyword::In),
-            b"data" => Some(Keyword::Data),
-            b"carry" => Some(Keyword::Carry),
-            b"packet" => Some(Keyword::Packet),
-            b"groups" => Some(Keyword::Groups),
-            b"raw" => Some(Keyword::Raw),
-            b"type" => Some(Keyword::TypeWord),
-            b"address" => Some(Keyword::Address),
-            b"drop" => Some(Keyword::Drop),
-            b"component" => Some(Keyword::Component),
-            b"move" => Some(Keyword::Move),
-            b"rate" => Some(Keyword::Rate),
-            b"wait" => Some(Keyword::Wait),
-            b"contact" => Some(Keyword::Contact),
-            b"closed" => Some(Keyword::Closed),
-            b"open" => Some(Keyword::Open),
-            b"until" => Some(Keyword::Until),
-            b"commit" => Some(Keyword::Commit),
-            b"join" => Some(Keyword::Join),
-            b"settle" => Some(Keyword::Settle),
-            b"end" => Some(Keyword::End),
-            b"if" => Some(Keyword::If),
-            b"else" => Some(Keyword::Else),
-            b"repeat" => Some(Keyword::Repeat),
-            b"forever" => Some(Keyword::Forever),
-            b"apply" => Some(Keyword::Apply),
-            b"{" => Some(Keyword::OpenBrace),
-            b"}" => Some(Keyword::CloseBrace),
-            _ => None,
+        if let Some(word) = head_word(bytes) {
+            return Some(word);
         }
+        if let Some(word) = item_word(bytes) {
+            return Some(word);
+        }
+        if let Some(word) = packet_word(bytes) {
+            return Some(word);
+        }
+        if let Some(word) = change_word(bytes) {
+            return Some(word);
+        }
+        if let Some(word) = wait_word(bytes) {
+            return Some(word);
+        }
+        flow_word(bytes)
     }
 
     /// Whether an item begins with it.
@@ -176,5 +150,113 @@ impl Keyword {
             | Keyword::Apply => true,
             _ => self.begins_item(),
         }
+    }
+}
+
+// The words by their subjects, a function each: to the prover a list of words costs the square of its length.
+
+/// The word of these bytes, where it is one of the head of a script, or of what stands before its statements.
+#[tactic(auto, unfolding(crate::specs::Words::letters))]
+fn head_word(bytes: &[u8]) -> Option<Keyword>
+    ensures found { IfSome result (λ k. bytes.now ≡ letters k) }
+    ensures none { result ≡ None → IsNoneOf head_words bytes.now }
+{
+    match bytes {
+        b"ensemble" => Some(Keyword::Ensemble),
+        b"mode" => Some(Keyword::Mode),
+        b"period" => Some(Keyword::Period),
+        b"notice" => Some(Keyword::Notice),
+        b"budget" => Some(Keyword::Budget),
+        b"define" => Some(Keyword::Define),
+        b"begin" => Some(Keyword::Begin),
+        _ => None,
+    }
+}
+
+/// The word of these bytes, where it is one of a sub-channel, or of a service and its components in stream mode.
+#[tactic(auto, unfolding(crate::specs::Words::letters))]
+fn item_word(bytes: &[u8]) -> Option<Keyword>
+    ensures found { IfSome result (λ k. bytes.now ≡ letters k) }
+    ensures none { result ≡ None → IsNoneOf item_words bytes.now }
+{
+    match bytes {
+        b"sub" => Some(Keyword::Sub),
+        b"at" => Some(Keyword::At),
+        b"eep" => Some(Keyword::Eep),
+        b"service" => Some(Keyword::Service),
+        b"audio" => Some(Keyword::Audio),
+        b"in" => Some(Keyword::In),
+        b"data" => Some(Keyword::Data),
+        b"carry" => Some(Keyword::Carry),
+        _ => None,
+    }
+}
+
+/// The word of these bytes, where it is one of a packet component.
+#[tactic(auto, unfolding(crate::specs::Words::letters))]
+fn packet_word(bytes: &[u8]) -> Option<Keyword>
+    ensures found { IfSome result (λ k. bytes.now ≡ letters k) }
+    ensures none { result ≡ None → IsNoneOf packet_words bytes.now }
+{
+    match bytes {
+        b"packet" => Some(Keyword::Packet),
+        b"groups" => Some(Keyword::Groups),
+        b"raw" => Some(Keyword::Raw),
+        b"type" => Some(Keyword::TypeWord),
+        b"address" => Some(Keyword::Address),
+        _ => None,
+    }
+}
+
+/// The word of these bytes, where it is one of a change, or of its swap.
+#[tactic(auto, unfolding(crate::specs::Words::letters))]
+fn change_word(bytes: &[u8]) -> Option<Keyword>
+    ensures found { IfSome result (λ k. bytes.now ≡ letters k) }
+    ensures none { result ≡ None → IsNoneOf change_words bytes.now }
+{
+    match bytes {
+        b"drop" => Some(Keyword::Drop),
+        b"component" => Some(Keyword::Component),
+        b"move" => Some(Keyword::Move),
+        b"rate" => Some(Keyword::Rate),
+        b"commit" => Some(Keyword::Commit),
+        b"join" => Some(Keyword::Join),
+        b"settle" => Some(Keyword::Settle),
+        _ => None,
+    }
+}
+
+/// The word of these bytes, where it is one of waiting.
+#[tactic(auto, unfolding(crate::specs::Words::letters))]
+fn wait_word(bytes: &[u8]) -> Option<Keyword>
+    ensures found { IfSome result (λ k. bytes.now ≡ letters k) }
+    ensures none { result ≡ None → IsNoneOf wait_words bytes.now }
+{
+    match bytes {
+        b"wait" => Some(Keyword::Wait),
+        b"contact" => Some(Keyword::Contact),
+        b"closed" => Some(Keyword::Closed),
+        b"open" => Some(Keyword::Open),
+        b"until" => Some(Keyword::Until),
+        _ => None,
+    }
+}
+
+/// The word of these bytes, where it is one that says what comes next, or a brace.
+#[tactic(auto, unfolding(crate::specs::Words::letters))]
+fn flow_word(bytes: &[u8]) -> Option<Keyword>
+    ensures found { IfSome result (λ k. bytes.now ≡ letters k) }
+    ensures none { result ≡ None → IsNoneOf flow_words bytes.now }
+{
+    match bytes {
+        b"end" => Some(Keyword::End),
+        b"if" => Some(Keyword::If),
+        b"else" => Some(Keyword::Else),
+        b"repeat" => Some(Keyword::Repeat),
+        b"forever" => Some(Keyword::Forever),
+        b"apply" => Some(Keyword::Apply),
+        b"{" => Some(Keyword::OpenBrace),
+        b"}" => Some(Keyword::CloseBrace),
+        _ => None,
     }
 }
