@@ -1,11 +1,14 @@
 //! The first fault of a file in which one byte was changed.
 
+use super::full::FULL_FILE;
 use super::seen::{Row, changed, fault_of, fault_of_front, first_front_not_truncated, first_wrong};
+use super::swaps::SETTLED_FILE;
 use super::{LONG_FILE, LOOP_FILE, SHORT_FILE};
 use plan_code::{CodeFault, decode, encode};
 use std::alloc::Global;
 use std::test::Fail;
 
+/// Those of the shortest file.
 const SHORT_ROWS: [Row; 29] = [
     // the header: the letters, the version, the period, the notice, the budget and the three numbers
     (0, 0x45, CodeFault::Magic),
@@ -43,6 +46,7 @@ const SHORT_ROWS: [Row; 29] = [
     (34, 0x1A, CodeFault::Field(34)),
 ];
 
+/// Those of the file that changes a rate.
 const LONG_ROWS: [Row; 18] = [
     // the sub-channel: identifier, start, set, level, rate
     (19, 64, CodeFault::Field(19)),
@@ -67,6 +71,7 @@ const LONG_ROWS: [Row; 18] = [
     (86, 0x24, CodeFault::Field(86)),
 ];
 
+/// Those of the file of a loop.
 const LOOP_ROWS: [Row; 7] = [
     // a label that is no later than the one before it
     (33, 0, CodeFault::Field(32)),
@@ -79,11 +84,109 @@ const LOOP_ROWS: [Row; 7] = [
     (59, 8, CodeFault::Field(59)),
 ];
 
+/// Those of the configuration of the file with a member of each kind.
+const CONFIGURATION_ROWS: [Row; 40] = [
+    // the numbers of sub-channels, services and packet components
+    (19, 65, CodeFault::Field(19)),
+    (20, 65, CodeFault::Field(20)),
+    (21, 65, CodeFault::Field(21)),
+    // a sub-channel: identifier, end past the multiplex, set, level, rates that have no size
+    (22, 64, CodeFault::Field(22)),
+    (30, 0x03, CodeFault::Field(30)),
+    (25, 2, CodeFault::Field(25)),
+    (32, 2, CodeFault::Field(32)),
+    (33, 0, CodeFault::Field(33)),
+    (33, 5, CodeFault::Field(33)),
+    (35, 0x21, CodeFault::Field(34)),
+    (35, 0x00, CodeFault::Field(34)),
+    // a service: kind of its identifier, number of components of a short one and of a long one
+    (36, 2, CodeFault::Field(36)),
+    (39, 13, CodeFault::Field(39)),
+    (46, 0xFF, CodeFault::Field(46)),
+    (55, 12, CodeFault::Field(55)),
+    // a component: TMId, type, sub-channel, packet component, the carrier of the one before it
+    (40, 2, CodeFault::Field(40)),
+    (40, 4, CodeFault::Field(40)),
+    (43, 0xFF, CodeFault::Field(43)),
+    (41, 64, CodeFault::Field(41)),
+    (42, 64, CodeFault::Field(42)),
+    (44, 64, CodeFault::Field(44)),
+    (45, 64, CodeFault::Field(45)),
+    (56, 2, CodeFault::Field(56)),
+    (57, 0x10, CodeFault::Field(57)),
+    (45, 1, CodeFault::Field(43)),
+    // a packet component: identifier, DG flag, type, sub-channel, address
+    (59, 0x10, CodeFault::Field(59)),
+    (61, 2, CodeFault::Field(61)),
+    (62, 64, CodeFault::Field(62)),
+    (63, 64, CodeFault::Field(63)),
+    (65, 0, CodeFault::Field(64)),
+    (64, 0x04, CodeFault::Field(64)),
+    (68, 0xFF, CodeFault::Field(68)),
+    (69, 64, CodeFault::Field(69)),
+    (70, 64, CodeFault::Field(70)),
+    (71, 0x04, CodeFault::Field(71)),
+    // an identifier that is not above the one before it: the record's first byte
+    (29, 1, CodeFault::Field(19)),
+    (29, 0, CodeFault::Field(19)),
+    (38, 0x22, CodeFault::Field(19)),
+    (48, 0x20, CodeFault::Field(19)),
+    (66, 0x00, CodeFault::Field(19)),
+];
+
+/// Those of its labels and its instruction.
+const LABEL_ROWS: [Row; 17] = [
+    // the configurations, of which there are two
+    (76, 2, CodeFault::Field(75)),
+    (75, 1, CodeFault::Field(75)),
+    (78, 2, CodeFault::Field(77)),
+    (77, 1, CodeFault::Field(77)),
+    (89, 2, CodeFault::Field(88)),
+    // whether a swap is pending, and the least bound of one that perhaps is
+    (79, 3, CodeFault::Field(79)),
+    (79, 2, CodeFault::Field(80)),
+    (79, 0xFF, CodeFault::Field(79)),
+    // the bounds of a swap: the least from 1, the greatest from the least on; zeros where none is pending, and
+    // the least is judged first
+    (79, 0, CodeFault::Field(80)),
+    (81, 0, CodeFault::Field(80)),
+    (83, 0x17, CodeFault::Field(82)),
+    (92, 1, CodeFault::Field(93)),
+    (94, 1, CodeFault::Field(93)),
+    (96, 1, CodeFault::Field(95)),
+    // the cost
+    (85, 0, CodeFault::Field(85)),
+    (98, 0, CodeFault::Field(98)),
+    // the opcode
+    (101, 0x09, CodeFault::Field(101)),
+];
+
+/// Those of the label at which a swap is perhaps pending.
+const SWAP_ROWS: [Row; 5] = [
+    // the kind of the swap; the least bound, which is 0; the greatest, which is 1 or more
+    (69, 3, CodeFault::Field(69)),
+    (70, 1, CodeFault::Field(70)),
+    (71, 1, CodeFault::Field(70)),
+    (73, 0, CodeFault::Field(72)),
+    // bounds of a swap that is pending for certain begin at 1
+    (69, 1, CodeFault::Field(70)),
+];
+
+/// Each file with its rows.
+const TABLES: [(&[u8], &[Row]); 6] = [
+    (&SHORT_FILE, &SHORT_ROWS),
+    (&LONG_FILE, &LONG_ROWS),
+    (&LOOP_FILE, &LOOP_ROWS),
+    (&FULL_FILE, &CONFIGURATION_ROWS),
+    (&FULL_FILE, &LABEL_ROWS),
+    (&SETTLED_FILE, &SWAP_ROWS),
+];
+
 #[test]
 fn faults_of_one_byte(rt: HostRuntime) -> Result<(), Fail> {
-    assert_eq!(rt; first_wrong(rt.alloc(), &SHORT_FILE, &SHORT_ROWS)?, None);
-    assert_eq!(rt; first_wrong(rt.alloc(), &LONG_FILE, &LONG_ROWS)?, None);
-    assert_eq!(rt; first_wrong(rt.alloc(), &LOOP_FILE, &LOOP_ROWS)?, None);
+    for (file, rows) in TABLES {
+        assert_eq!(rt; first_wrong(rt.alloc(), file, rows)?, None);
+    }
     Ok(())
 }
 

@@ -1,15 +1,13 @@
-//! A file with a member of each kind in its tables: what it says, and the first fault of each of its fields.
+//! A file with a member of each kind in its tables, and what it says.
 
-use super::seen::{
-    Row, config, first_front_not_truncated, first_wrong, label, line, parts, read, sizes, written,
-};
+use super::seen::{config, first_front_not_truncated, label, line, parts, read, sizes, written};
 use mux_config::{Component, Config, ScId, ScTy, Sid, SubId};
-use plan_code::{CodeFault, Counters, Instr, Label, Swap};
+use plan_code::{Counters, Instr, Label, Swap};
 use std::test::Fail;
 
 /// The file of a code of two configurations and two labels; its configurations are the empty one, and one with
 /// two sub-channels, three services and two packet components.
-const FULL_FILE: [u8; 102] = [
+pub const FULL_FILE: [u8; 102] = [
     // the header
     0x44, 0x41, 0x42, 0x50, 0x01, 0xE1, 0xC5, 0x04, 0x18, 0x14, 0x00, 0x02, 0x00, 0x02, 0x00, 0x01,
     // the empty configuration at 16, and the numbers of the other at 19
@@ -29,81 +27,6 @@ const FULL_FILE: [u8; 102] = [
     0x01, 0x00, 0x00, 0x00, 0x00, 0x00, 0x00, 0x00, 0x00, 0xFF,
     // the instruction at 99
     0xFF, 0xFF, 0x07,
-];
-
-const CONFIGURATION_ROWS: [Row; 40] = [
-    // the numbers of sub-channels, services and packet components
-    (19, 65, CodeFault::Field(19)),
-    (20, 65, CodeFault::Field(20)),
-    (21, 65, CodeFault::Field(21)),
-    // a sub-channel: identifier, end past the multiplex, set, level, rates that have no size
-    (22, 64, CodeFault::Field(22)),
-    (30, 0x03, CodeFault::Field(30)),
-    (25, 2, CodeFault::Field(25)),
-    (32, 2, CodeFault::Field(32)),
-    (33, 0, CodeFault::Field(33)),
-    (33, 5, CodeFault::Field(33)),
-    (35, 0x21, CodeFault::Field(34)),
-    (35, 0x00, CodeFault::Field(34)),
-    // a service: kind of its identifier, number of components of a short one and of a long one
-    (36, 2, CodeFault::Field(36)),
-    (39, 13, CodeFault::Field(39)),
-    (46, 0xFF, CodeFault::Field(46)),
-    (55, 12, CodeFault::Field(55)),
-    // a component: TMId, type, sub-channel, packet component, the carrier of the one before it
-    (40, 2, CodeFault::Field(40)),
-    (40, 4, CodeFault::Field(40)),
-    (43, 0xFF, CodeFault::Field(43)),
-    (41, 64, CodeFault::Field(41)),
-    (42, 64, CodeFault::Field(42)),
-    (44, 64, CodeFault::Field(44)),
-    (45, 64, CodeFault::Field(45)),
-    (56, 2, CodeFault::Field(56)),
-    (57, 0x10, CodeFault::Field(57)),
-    (45, 1, CodeFault::Field(43)),
-    // a packet component: identifier, DG flag, type, sub-channel, address
-    (59, 0x10, CodeFault::Field(59)),
-    (61, 2, CodeFault::Field(61)),
-    (62, 64, CodeFault::Field(62)),
-    (63, 64, CodeFault::Field(63)),
-    (65, 0, CodeFault::Field(64)),
-    (64, 0x04, CodeFault::Field(64)),
-    (68, 0xFF, CodeFault::Field(68)),
-    (69, 64, CodeFault::Field(69)),
-    (70, 64, CodeFault::Field(70)),
-    (71, 0x04, CodeFault::Field(71)),
-    // an identifier that is not above the one before it: the record's first byte
-    (29, 1, CodeFault::Field(19)),
-    (29, 0, CodeFault::Field(19)),
-    (38, 0x22, CodeFault::Field(19)),
-    (48, 0x20, CodeFault::Field(19)),
-    (66, 0x00, CodeFault::Field(19)),
-];
-
-const LABEL_ROWS: [Row; 17] = [
-    // the configurations, of which there are two
-    (76, 2, CodeFault::Field(75)),
-    (75, 1, CodeFault::Field(75)),
-    (78, 2, CodeFault::Field(77)),
-    (77, 1, CodeFault::Field(77)),
-    (89, 2, CodeFault::Field(88)),
-    // whether a swap is pending, and the least bound of one that perhaps is
-    (79, 3, CodeFault::Field(79)),
-    (79, 2, CodeFault::Field(80)),
-    (79, 0xFF, CodeFault::Field(79)),
-    // the bounds of a swap: the least from 1, the greatest from the least on; zeros where none is pending, and
-    // the least is judged first
-    (79, 0, CodeFault::Field(80)),
-    (81, 0, CodeFault::Field(80)),
-    (83, 0x17, CodeFault::Field(82)),
-    (92, 1, CodeFault::Field(93)),
-    (94, 1, CodeFault::Field(93)),
-    (96, 1, CodeFault::Field(95)),
-    // the cost
-    (85, 0, CodeFault::Field(85)),
-    (98, 0, CodeFault::Field(98)),
-    // the opcode
-    (101, 0x09, CodeFault::Field(101)),
 ];
 
 /// The identifiers of the services of a configuration, each with its first component.
@@ -173,21 +96,6 @@ fn its_labels(rt: HostRuntime) -> Result<(), Fail> {
     assert_eq!(rt; label(&code, 1), None);
     assert_eq!(rt; label(&code, 65_534), None);
     assert_eq!(rt; line(&code, 0), (Some(Instr::End), Some(65_535)));
-    Ok(())
-}
-
-#[test]
-fn faults_of_a_configuration(rt: HostRuntime) -> Result<(), Fail> {
-    assert_eq!(rt;
-        first_wrong(rt.alloc(), &FULL_FILE, &CONFIGURATION_ROWS)?,
-        None
-    );
-    Ok(())
-}
-
-#[test]
-fn faults_of_labels(rt: HostRuntime) -> Result<(), Fail> {
-    assert_eq!(rt; first_wrong(rt.alloc(), &FULL_FILE, &LABEL_ROWS)?, None);
     Ok(())
 }
 

@@ -1,7 +1,8 @@
 //! Each opcode with its operands at their least and greatest values, and just past them.
 
 use super::SHORT_FILE;
-use plan_code::{CodeFault, decode, encode};
+use super::seen::{fault_of, read, written};
+use plan_code::CodeFault;
 use std::alloc::{AllocError, Global};
 use std::test::Fail;
 
@@ -76,9 +77,8 @@ const LINES: [&[u8]; 49] = [
 fn operands_at_their_limits(rt: HostRuntime) -> Result<(), Fail> {
     for line in LINES {
         let bytes = file_of(rt.alloc(), line)?;
-        let code = decode(rt.alloc(), &bytes)?;
-        let again = encode(rt.alloc(), &code)?;
-        assert_eq!(rt; again.as_slice(), bytes.as_slice());
+        let code = read(rt.alloc(), &bytes)?;
+        assert!(rt; written(rt.alloc(), &code)? == bytes);
     }
     Ok(())
 }
@@ -156,10 +156,7 @@ const PAST: [(&[u8], usize); 38] = [
 fn operands_past_their_limits(rt: HostRuntime) -> Result<(), Fail> {
     for (line, place) in PAST {
         let bytes = file_of(rt.alloc(), line)?;
-        assert_eq!(rt;
-            decode(rt.alloc(), &bytes).err(),
-            Some(CodeFault::Field(place))
-        );
+        assert_eq!(rt; fault_of(rt.alloc(), &bytes), Some(CodeFault::Field(place)));
     }
     Ok(())
 }
@@ -173,7 +170,7 @@ fn is_opcode(byte: u8) -> bool {
 fn opcodes_that_are_none(rt: HostRuntime) -> Result<(), Fail> {
     for byte in 0..=255u8 {
         let bytes = file_of(rt.alloc(), &[0x00, 0x01, byte])?;
-        let fault = decode(rt.alloc(), &bytes).err();
+        let fault = fault_of(rt.alloc(), &bytes);
         assert_eq!(rt; fault == Some(CodeFault::Field(34)), !is_opcode(byte));
     }
     Ok(())

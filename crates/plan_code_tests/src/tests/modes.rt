@@ -1,6 +1,8 @@
 //! Code files of each transmission mode.
 
-use plan_code::{CodeFault, Mode, decode, encode};
+use super::PLAN;
+use super::seen::{Row, fault_of, first_front_not_truncated, first_wrong, plan, read, written};
+use plan_code::{CodeFault, Mode, Plan};
 use std::test::Fail;
 
 /// The file of mode III that else has the bytes of the shortest file of version 1.
@@ -12,12 +14,11 @@ const MODE_FILE: [u8; 36] = [
 
 #[test]
 fn a_file_of_mode_three(rt: HostRuntime) -> Result<(), Fail> {
-    let plan = decode(rt.alloc(), &MODE_FILE)?.plan();
-    assert_eq!(rt; plan.mode, Mode::III);
-    assert_eq!(rt; plan.eid, 0xE1C5);
-    assert_eq!(rt; plan.period, 4);
-    assert_eq!(rt; plan.notice, 24);
-    assert_eq!(rt; plan.budget, 20);
+    let wanted = Plan {
+        mode: Mode::III,
+        ..PLAN
+    };
+    assert_eq!(rt; plan(&read(rt.alloc(), &MODE_FILE)?), wanted);
     Ok(())
 }
 
@@ -26,43 +27,36 @@ fn files_of_modes_two_to_four(rt: HostRuntime) -> Result<(), Fail> {
     for (number, mode) in [(2, Mode::II), (3, Mode::III), (4, Mode::IV)] {
         let mut file = MODE_FILE;
         file[5] = number;
-        let code = decode(rt.alloc(), &file)?;
-        assert_eq!(rt; code.plan().mode, mode);
-        let again = encode(rt.alloc(), &code)?;
-        assert_eq!(rt; again.as_slice(), file.as_slice());
+        let code = read(rt.alloc(), &file)?;
+        assert_eq!(rt; plan(&code).mode, mode);
+        assert_eq!(rt; written(rt.alloc(), &code)?.as_slice(), file.as_slice());
     }
     Ok(())
 }
 
-/// Mode I has version 1 alone.
-#[test]
-fn numbers_of_no_mode(rt: HostRuntime) {
-    for number in [0, 1, 5, 255u8] {
-        let mut file = MODE_FILE;
-        file[5] = number;
-        assert_eq!(rt; decode(rt.alloc(), &file).err(), Some(CodeFault::Field(5)));
-    }
-}
+/// Numbers of no mode, of which mode I is one, as it has version 1 alone; and other versions.
+const ROWS: [Row; 8] = [
+    (5, 0, CodeFault::Field(5)),
+    (5, 1, CodeFault::Field(5)),
+    (5, 5, CodeFault::Field(5)),
+    (5, 255, CodeFault::Field(5)),
+    (4, 0, CodeFault::Version),
+    (4, 3, CodeFault::Version),
+    (4, 4, CodeFault::Version),
+    (4, 255, CodeFault::Version),
+];
 
 #[test]
-fn other_versions(rt: HostRuntime) {
-    for version in [0, 3, 4, 255u8] {
-        let mut file = MODE_FILE;
-        file[4] = version;
-        assert_eq!(rt; decode(rt.alloc(), &file).err(), Some(CodeFault::Version));
-    }
+fn other_numbers(rt: HostRuntime) -> Result<(), Fail> {
+    assert_eq!(rt; first_wrong(rt.alloc(), &MODE_FILE, &ROWS)?, None);
+    Ok(())
 }
 
 #[test]
 fn cuts_and_a_byte_too_many(rt: HostRuntime) -> Result<(), Fail> {
-    for length in 0..36usize {
-        assert_eq!(rt;
-            decode(rt.alloc(), &MODE_FILE[..length]).err(),
-            Some(CodeFault::Truncated)
-        );
-    }
+    assert_eq!(rt; first_front_not_truncated(rt.alloc(), &MODE_FILE), 36);
     let mut long = MODE_FILE.to_vec(rt.alloc())?;
     long.push(0)?;
-    assert_eq!(rt; decode(rt.alloc(), &long).err(), Some(CodeFault::Trailing));
+    assert_eq!(rt; fault_of(rt.alloc(), &long), Some(CodeFault::Trailing));
     Ok(())
 }
