@@ -112,13 +112,14 @@ IsOurs w = w.head.oe ≡ false
 -- a FIB with these data bytes holds exactly the FIGs that they are the bytes of, in order
 abbrev pub HoldsFigsOf : List ℕ → List ℕ → Type 0
 HoldsFigsOf bytes fib =
-    (figs : List Written) → AllByRecursion IsWritten figs → bytes ≡ figs_bytes figs → IsFib fib (map fig_of figs)
+    (figs : List Written) → AllByRecursion IsWritten figs → bytes ≡ figs_bytes figs
+    → IsFib fib (map fig_of figs)
 
 -- and it is the valid one, where each of them is of this ensemble
 abbrev pub IsValidOf : List ℕ → List ℕ → Type 0
 IsValidOf bytes fib =
-    (figs : List Written) → AllByRecursion IsWritten figs → bytes ≡ figs_bytes figs → AllByRecursion IsOurs figs
-    → IsValid fib (map fig_of figs)
+    (figs : List Written) → AllByRecursion IsWritten figs → bytes ≡ figs_bytes figs
+    → AllByRecursion IsOurs figs → IsValid fib (map fig_of figs)
 
 -- 32 bytes hold at most one list of FIGs
 abbrev pub OneList : Type 0
@@ -132,9 +133,10 @@ SpellingIsEntry =
 -- a FIB that is written holds its FIGs, and is valid where each of them is of this ensemble
 abbrev pub WrittenIsFib : Type 0
 WrittenIsFib =
-    (figs : List Written) → AllByRecursion IsWritten figs → length (figs_bytes figs) ≤ 30 → IsFib (fib_bytes figs) (map fig_of figs)
+    (figs : List Written) → AllByRecursion IsWritten figs → length (figs_bytes figs) ≤ 30
+    → IsFib (fib_bytes figs) (map fig_of figs)
 
 abbrev pub WrittenIsValid : Type 0
 WrittenIsValid =
-    (figs : List Written) → AllByRecursion IsWritten figs → length (figs_bytes figs) ≤ 30 → AllByRecursion IsOurs figs
-    → IsValid (fib_bytes figs) (map fig_of figs)
+    (figs : List Written) → AllByRecursion IsWritten figs → length (figs_bytes figs) ≤ 30
+    → AllByRecursion IsOurs figs → IsValid (fib_bytes figs) (map fig_of figs)

@@ -17,8 +17,8 @@ IsSpelled head bytes = (e : Entry) × IsUnder head e × IsWithin e × (entry_byt
 -- bytes that are an entry in the grammar are spelled by one; ensemble information where its CIF count is one
 abbrev pub EntryIsSpelled : Type 0
 EntryIsSpelled =
-    (head : Head) (bytes : List ℕ) → head.ext < 4 → AllByRecursion IsByte bytes → IsEntry head.ext head.long bytes
-    → (head.ext ≡ 0 → IsCounted bytes) → IsSpelled head bytes
+    (head : Head) (bytes : List ℕ) → head.ext < 4 → AllByRecursion IsByte bytes
+    → IsEntry head.ext head.long bytes → (head.ext ≡ 0 → IsCounted bytes) → IsSpelled head bytes
 
 -- a FIB has 32 bytes
 abbrev pub FibHas32Bytes : Type 0

@@ -42,6 +42,7 @@ fn placed_sub<S: Store>(store: &S, id: SubId) -> Option<Sub>
     ensures value { result ≡ sub_at id (S.content store.now) }
     ensures placed { IfSome result (λ s. IsPlaced s) }
 {
+    // (for the prover alone, to whom only a sub-channel in hand says that it is placed: else `store.sub(id)` would do)
     match store.sub(id) {
         Some(found) => Some(found),
         None => None,

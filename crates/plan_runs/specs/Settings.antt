@@ -52,7 +52,8 @@ abbrev pub LastLevelsCount : Type 0
 LastLevelsCount =
     (p : Program) (s : State) (these those : List (List Setting)) (last other : List Setting)
     → s.contacts.0 < 2 ^ 16
-    → AllByRecursion (AllByRecursion IsSetting) these → AllByRecursion (AllByRecursion IsSetting) those → AllByRecursion IsSetting last → AllByRecursion IsSetting other
+    → AllByRecursion (AllByRecursion IsSetting) these → AllByRecursion (AllByRecursion IsSetting) those
+    → AllByRecursion IsSetting last → AllByRecursion IsSetting other
     → AreAllAlike these those → AgreeOnContacts last other
     → (run_frames p s (schedule these last) ≡ run_frames p s (schedule those other))
     × (run_states p s (schedule these last) ≡ run_states p s (schedule those other))

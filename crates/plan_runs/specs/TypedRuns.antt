@@ -45,4 +45,6 @@ abbrev pub StartsAreReached : Type 0
 StartsAreReached = (p : Program) (start : Start) (s : State) → StartIsInRange start → IsStart p start s → IsReached p s
 
 abbrev pub ReachedIsKept : Type 0
-ReachedIsKept = (p : Program) (s : State) (events : List Event) → IsReached p s → AllByRecursion IsEvent events → IsReached p (run p s events)
+ReachedIsKept =
+    (p : Program) (s : State) (events : List Event) → IsReached p s → AllByRecursion IsEvent events
+    → IsReached p (run p s events)
