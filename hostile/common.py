@@ -68,12 +68,12 @@ def trials():
     return program
 
 
-def refusing(folder):
-    """The path of the library that refuses requests for memory, made in a folder by the compiler of the kit."""
+def preloaded(folder, name):
+    """The path of a library that is loaded before the C library, made of `name`.c in a folder by the compiler of the kit."""
     kit = pathlib.Path(subprocess.run(["rt", "doc"], check=True, capture_output=True, text=True).stdout.strip()).parent
-    library = pathlib.Path(folder, "refuse.so")
+    library = pathlib.Path(folder, f"{name}.so")
     subprocess.run([kit / "toolchain" / "bin" / "clang", "-shared", "-fPIC", "-O1", "-nostdlib", "-fuse-ld=lld", "-o",
-                    library, TOP / "hostile" / "refuse.c"], check=True)
+                    library, TOP / "hostile" / f"{name}.c"], check=True)
     return library
 
 

@@ -164,7 +164,7 @@ def main():
     tally = common.Tally()
     program, trials = common.dabplan(), common.trials()
     with tempfile.TemporaryDirectory() as folder:
-        library = common.refusing(folder)
+        library = common.preloaded(folder, "refuse")
         try_calls(tally, library, program, trials, folder)
         try_commands(tally, library, program, folder)
     tally.end()

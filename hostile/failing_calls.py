@@ -1,0 +1,110 @@
+#!/usr/bin/env python3
+"""Each call of the system fails in turn, under every command: those that open, make and read its files, and each write
+to standard output.
+
+Where a call for a file fails, the command prints the line of that file alone, or `no memory` where the system says so,
+ends with 1, makes no other such call, and leaves no file. Where a write fails, takes nothing or is interrupted, what was
+printed before is all that is printed, nothing is written after it, and the status is 1. The last line is 'N passed, M
+failed'.
+"""
+import os
+import pathlib
+import tempfile
+
+import common
+
+# Errors of the system: an input or output error, an interrupted call, no memory.
+EIO, EINTR, ENOMEM = 5, 4, 12
+
+# A command, and what it says of its first, second and third file.
+ROWS = [
+    ("frame x.record --ensemble E1C5 --count 1", ["cannot read x.record\n"]),
+    ("frame - --ensemble E1C5 --count 1", ["cannot read -\n"]),
+    ("listen x.fib", ["cannot read x.fib\n"]),
+    ("compile x.script x.out", ["cannot read x.script\n", "cannot write x.out\n"]),
+    ("verify x.code", ["cannot read x.code\n"]),
+    ("play x.code x.events x.out", ["cannot read x.code\n", "cannot read x.events\n", "cannot write x.out\n"]),
+    ("debug x.code x.commands", ["cannot read x.code\n", "cannot read x.commands\n"]),
+]
+
+
+class Failing:
+    """The program over its files, with a library that lets its calls fail."""
+
+    def __init__(self, folder):
+        self.program = common.dabplan()
+        self.folder = folder
+        self.library = common.preloaded(folder, "fail")
+        self.record = (common.EXAMPLES / "one_programme.rec").read_bytes()
+        common.write(folder, "x.record", self.record)
+        common.write(folder, "x.script", (common.EXAMPLES / "contact_rate.plan").read_bytes())
+        common.write(folder, "x.code", (common.EXAMPLES / "contact_lowers_a_rate.code").read_bytes())
+        common.write(folder, "x.events", "contact 3 closed frames 30")
+        common.write(folder, "x.commands", "contact 3 closed run 30 show")
+        common.run([self.program, "play", "x.code", "x.events", "x.fib"], folder)
+
+    def run(self, line, **settings):
+        """How a command ends, and the calls that it made, a letter each. A setting is the end of the name of a variable."""
+        pathlib.Path(self.folder, "x.out").unlink(missing_ok=True)
+        environment = dict(os.environ, LD_PRELOAD=str(self.library))
+        environment.update({f"FAIL_{name.upper()}": str(value) for name, value in settings.items()})
+        with tempfile.TemporaryFile() as told:
+            environment["FAIL_TELLS"] = str(told.fileno())
+            ended = common.run([self.program, *line.split()], self.folder, self.record, environment=environment,
+                               pass_fds=(told.fileno(),))
+            told.seek(0)
+            return ended, told.read().decode()
+
+    def is_made(self):
+        """Whether the last command left its file."""
+        return pathlib.Path(self.folder, "x.out").exists()
+
+
+def try_files(tally, failing):
+    """Each call that opens, makes or reads a file fails, for want of memory too."""
+    for line, refusals in ROWS:
+        ended, calls = failing.run(line)
+        tally.same(f"{line}: status", 0, ended.status)
+        calls = calls.replace("w", "")
+        # standard input is open from the first
+        files = [calls[:number].count("o") + calls[:number].count("c") for number in range(1, len(calls) + 1)]
+        files = [max(file, 1) for file in files]
+        tally.same(f"{line}: files", len(refusals), max(files, default=0))
+        for number, file in enumerate(files, 1):
+            for error, wanted in ((EIO, refusals[file - 1]), (ENOMEM, "no memory\n")):
+                ended, made = failing.run(line, at=number, **{"as": error})
+                what = f"{line}: call {number} fails as {error}"
+                tally.same(what, (1, wanted.encode(), b""), (*ended.lines(), ended.messages))
+                tally.same(f"{what}: calls", calls[:number], made.replace("w", ""))
+                tally.hold(not failing.is_made(), f"{what}: a file is made")
+
+
+def try_writes(tally, failing, line, takes):
+    """Each write to standard output fails, where one takes this many bytes at most."""
+    whole, calls = failing.run(line, takes=takes)
+    writes = calls.count("w")
+    tally.same(f"{line}: writes", (len(whole.printed) + takes - 1) // takes, writes)
+    for number in range(writes):
+        for error in (EIO, EINTR, 0):
+            ended, calls = failing.run(line, takes=takes, after=number, **{"as": error})
+            what = f"{line}: write {number + 1} fails as {error}"
+            tally.same(what, (1, whole.printed[:takes * number], b""), (*ended.lines(), ended.messages))
+            tally.same(f"{what}: writes", number + 1, calls.count("w"))
+
+
+def main():
+    """Runs all of it."""
+    tally = common.Tally()
+    with tempfile.TemporaryDirectory() as folder:
+        failing = Failing(folder)
+        try_files(tally, failing)
+        for line in [line for line, _ in ROWS] + ["help", "--version"]:
+            try_writes(tally, failing, line, 16)
+        # an answer, a fault of the input and one of the command line, a byte at a time
+        for options in ("--count 1", "--count 1 --page 1", "--count 5000"):
+            try_writes(tally, failing, f"frame - --ensemble E1C5 {options}", 1)
+    tally.end()
+
+
+if __name__ == "__main__":
+    main()
