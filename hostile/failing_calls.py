@@ -3,7 +3,7 @@
 to standard output.
 
 Where a call for a file fails, the command prints the line of that file alone, or `no memory` where the system says so,
-ends with 1, makes no other such call, and leaves no file. Where a write fails, takes nothing or is interrupted, what was
+ends with 1, makes no other such call, and leaves no file; one that is interrupted is made again. Where a write fails, takes nothing or is interrupted, what was
 printed before is all that is printed, nothing is written after it, and the status is 1. The last line is 'N passed, M
 failed'.
 """
@@ -61,11 +61,11 @@ class Failing:
 
 
 def try_files(tally, failing):
-    """Each call that opens, makes or reads a file fails, for want of memory too."""
+    """Each call that opens, makes or reads a file fails, for want of memory too, or is interrupted."""
     for line, refusals in ROWS:
         ended, calls = failing.run(line)
         tally.same(f"{line}: status", 0, ended.status)
-        calls = calls.replace("w", "")
+        printed, calls = ended.printed, calls.replace("w", "")
         # standard input is open from the first
         files = [calls[:number].count("o") + calls[:number].count("c") for number in range(1, len(calls) + 1)]
         files = [max(file, 1) for file in files]
@@ -77,6 +77,10 @@ def try_files(tally, failing):
                 tally.same(what, (1, wanted.encode(), b""), (*ended.lines(), ended.messages))
                 tally.same(f"{what}: calls", calls[:number], made.replace("w", ""))
                 tally.hold(not failing.is_made(), f"{what}: a file is made")
+            ended, made = failing.run(line, at=number, **{"as": EINTR})
+            what = f"{line}: call {number} is interrupted"
+            tally.same(what, (0, printed, b""), (*ended.lines(), ended.messages))
+            tally.same(f"{what}: calls", calls[:number] + calls[number - 1:], made.replace("w", ""))
 
 
 def try_writes(tally, failing, line, takes):
