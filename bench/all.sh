@@ -5,7 +5,7 @@ set -uo pipefail
 cd "$(dirname "${BASH_SOURCE[0]}")"
 passed=0 failed=0
 for script in *.sh; do
-  case $script in all.sh | common.sh) continue ;; esac
+  case $script in all.sh | common.sh | modules.sh) continue ;; esac
   echo "== $script"
   if "./$script"; then passed=$((passed + 1)); else failed=$((failed + 1)) && echo "$script: missed"; fi
 done

@@ -2,6 +2,7 @@
 # of the repository, with a folder of its own in $work.
 set -euo pipefail
 cd "$(dirname "${BASH_SOURCE[0]}")/.."
+. bench/modules.sh
 work=$(mktemp -d)
 trap 'rm -rf "$work"' EXIT
 
@@ -20,12 +21,16 @@ copy_crate() {
 }
 
 # run_program NAME INPUT CRATE..: proves, builds and runs the program on standard input, over copies of these
-# crates and with INPUT as its own standard input. What it prints is printed; what the proof says only if it fails.
+# crates and with INPUT as its own standard input. The modules that it names are those of modules.sh. What it prints is
+# printed; what the proof says only if it fails.
 run_program() {
-  local name=$1 input=$2 crate
+  local name=$1 input=$2 crate module
   shift 2
   mkdir -p "$work/top/crates/$name/src"
   cat >"$work/top/crates/$name/src/main.rt"
+  sed -n 's/^mod \([a-z_]*\);$/\1/p' "$work/top/crates/$name/src/main.rt" | while read -r module; do
+    "module_$module" >"$work/top/crates/$name/src/$module.rt"
+  done
   git init -q "$work/top"
   for crate in "$@"; do
     copy_crate "$crate"

@@ -33,47 +33,20 @@ run_program cursor_bench /dev/null mux_eep mux_types mux_entries byte_fields mux
 //! Times pages by a cursor beside the plain ones.
 #![tactic(auto)]
 
-ghost use Rattle.std.specs.Prelude.{◌<◌};
+mod largest;
+mod row;
 
 use fib_carousel::{Cursor, page, pages};
-use fib_codec::{Mode, crc16};
-use mux_config::{Component, Config, Ensemble, Packet, ScId, ScTy, Sid, Store, Sub, SubId};
+use fib_codec::Mode;
+use largest::largest_config;
+use mux_config::{Component, Config, Ensemble, ScTy, Sid, Store, Sub, SubId};
 use mux_eep::{EepSet, Protection};
+use row::{crcs, row_of_bytes};
 use std::io;
 use std::time::Instant;
 
 const PAGES: u32 = 10_000;
 const SMALL: u32 = 1_000_000;
-const ROW: usize = 4096 + 30;
-
-/// Adds a sub-channel, a service of 12 components and a packet component.
-fn add_each(config: &mut Config, k: u8) -> Option<()>
-    requires { k < 64 }
-{
-    let id = SubId::new(k)?;
-    let ty = ScTy::new(63)?;
-    let protection = Protection::new(EepSet::A, 4)?;
-    let start = 4 * u16::from(k);
-    let kbits = 8;
-    config.add_sub(Sub { id, start, protection, kbits }).ok()?;
-    let sid = Sid::Short(0x1000 + u16::from(k));
-    config.add_service(sid).ok()?;
-    for component in 0..12 {
-        let sub = SubId::new((k + component) % 64)?;
-        config.add_component(sid, Component::Sound { ty, sub }).ok()?;
-    }
-    let scid = ScId::new(u16::from(k))?;
-    let address = u16::from(k) + 1;
-    config.add_packet(Packet { scid, dg: false, ty, sub: id, address }).ok()
-}
-
-fn largest() -> Option<Config> {
-    let mut config = Config::new();
-    for k in 0..64 {
-        add_each(&mut config, k)?;
-    }
-    Some(config)
-}
 
 /// Sub-channel 1 at 3-A 128 kbit/s, and the service C221 with sound of type 63 on it.
 fn example() -> Option<Config> {
@@ -130,28 +103,8 @@ fn small_by_cursor(config: &Config) -> u32 {
     sum
 }
 
-/// Fills a row with bytes of a linear congruential generator.
-fn fill(row: &mut [u8; ROW]) {
-    let mut state = 1u32;
-    for byte in row {
-        state = state.wrapping_mul(1_664_525).wrapping_add(1_013_904_223);
-        *byte = (state >> 24) as u8;
-    }
-}
-
-// each block is the one before moved on by a byte of the row, so that all of it is another, and the words are added
-// up, so that each is wanted
-fn crcs(row: &[u8; ROW]) -> u32 {
-    let mut sum = 0u32;
-    for turn in 0..3 * SMALL {
-        let at = (turn % 4096) as usize;
-        sum = sum.wrapping_add(u32::from(crc16(&row[at..at + 30])));
-    }
-    sum
-}
-
 fn main(rt: HostRuntime) -> io::Result<()> {
-    let (Some(current), Some(next), Some(config)) = (largest(), largest(), example()) else {
+    let (Some(current), Some(next), Some(config)) = (largest_config(), largest_config(), example()) else {
         println!(rt; "no such configurations")?;
         return Ok(());
     };
@@ -164,10 +117,9 @@ fn main(rt: HostRuntime) -> io::Result<()> {
     let start = Instant::now(&rt)?;
     let small_sum = small_by_cursor(&config);
     let small = start.elapsed(&rt)?.as_micros();
-    let mut row = [0u8; ROW];
-    fill(&mut row);
+    let row = row_of_bytes();
     let start = Instant::now(&rt)?;
-    let crc_sum = crcs(&row);
+    let crc_sum = crcs(&row, 3 * SMALL);
     let checking = start.elapsed(&rt)?.as_micros();
     println!(rt; "cursor: {PAGES} pages of the largest pair {cursor} us, plain {plain} us (sums {one} {other})")?;
     println!(rt; "cursor: {SMALL} pages of the example {small} us, CRCs of as many FIBs {checking} us (sums {small_sum} {crc_sum})")?;
