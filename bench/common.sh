@@ -76,6 +76,20 @@ best() {
   echo "$least"
 }
 
+# best_of_both RUNS FIRST SECOND: the shortest of this many runs of each of two commands, turn by turn, in microseconds.
+# FIRST and SECOND name the arrays that hold the commands.
+best_of_both() {
+  local runs=$1 least_first=999999999 least_second=999999999 run took
+  local -n first=$2 second=$3
+  for ((run = 0; run < runs; run++)); do
+    took=$(best 1 "${first[@]}")
+    if [ "$took" -lt "$least_first" ]; then least_first=$took; fi
+    took=$(best 1 "${second[@]}")
+    if [ "$took" -lt "$least_second" ]; then least_second=$took; fi
+  done
+  echo "$least_first $least_second"
+}
+
 # thousandths NUMBER: a number of thousandths with a point, as 1.234
 thousandths() {
   echo "$(($1 / 1000)).$(printf %03d $(($1 % 1000)))"

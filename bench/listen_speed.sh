@@ -15,13 +15,9 @@ failed=0
 
 # measure NAME FILE WANTED: the ratio in thousandths, and the memory
 measure() {
-  local name=$1 file=$2 wanted=$3 listen=999999999 md5=999999999 turn took ratio beside
-  for ((turn = 0; turn < 20; turn++)); do
-    took=$(best 1 "$program" listen "$file")
-    if [ "$took" -lt "$listen" ]; then listen=$took; fi
-    took=$(best 1 md5sum "$file")
-    if [ "$took" -lt "$md5" ]; then md5=$took; fi
-  done
+  local name=$1 file=$2 wanted=$3 listen md5 ratio beside
+  local hear=("$program" listen "$file") digest=(md5sum "$file")
+  read -r listen md5 < <(best_of_both 20 hear digest)
   /usr/bin/time -f '%M' "$program" listen "$file" 2>"$work/resident" >/dev/null
   beside=$(($(tail -n 1 "$work/resident") - 32000000 / 1024))
   ratio=$((listen * 1000 / md5))
