@@ -1,11 +1,13 @@
 """What the scripts of hostile use share: the built programs, how they are run, and what passed and failed."""
 import pathlib
 import resource
+import shutil
 import subprocess
 import sys
 
 TOP = pathlib.Path(__file__).resolve().parent.parent
 EXAMPLES = TOP / "docs" / "examples"
+SAMPLES = TOP / "hostile" / "samples"
 SECONDS = 7200
 
 
@@ -41,9 +43,9 @@ def shown(value):
 
 
 def dabplan():
-    """The path of the program, which is built where it is missing."""
-    subprocess.run([TOP / "dabplan", "--version"], check=True, stdout=subprocess.DEVNULL)
-    return TOP / "crates" / "dabplan" / "out" / "dabplan"
+    """The path of the program that ./dabplan runs, which is built where these sources are not those of the released one."""
+    found = subprocess.run([TOP / "release" / "make", "--program"], check=True, stdout=subprocess.PIPE, text=True)
+    return pathlib.Path(found.stdout.strip())
 
 
 def is_stale(program):
@@ -68,12 +70,22 @@ def trials():
     return program
 
 
+def c_compiler():
+    """The words that call a C compiler: that of the kit where there is one, else one on the path."""
+    if shutil.which("rt"):
+        kit = pathlib.Path(subprocess.run(["rt", "doc"], check=True, capture_output=True, text=True).stdout.strip()).parent
+        return [kit / "toolchain" / "bin" / "clang", "-fuse-ld=lld"]
+    found = next(filter(None, map(shutil.which, ("cc", "gcc", "clang"))), None)
+    if found is None:
+        sys.exit("no C compiler: neither the kit's nor cc, gcc or clang is on the path")
+    return [found]
+
+
 def preloaded(folder, name):
-    """The path of a library that is loaded before the C library, made of `name`.c in a folder by the compiler of the kit."""
-    kit = pathlib.Path(subprocess.run(["rt", "doc"], check=True, capture_output=True, text=True).stdout.strip()).parent
+    """The path of a library that is loaded before the C library, made of `name`.c in a folder."""
     library = pathlib.Path(folder, f"{name}.so")
-    subprocess.run([kit / "toolchain" / "bin" / "clang", "-shared", "-fPIC", "-O1", "-nostdlib", "-fuse-ld=lld", "-o",
-                    library, TOP / "hostile" / f"{name}.c"], check=True)
+    subprocess.run([*c_compiler(), "-shared", "-fPIC", "-O1", "-nostdlib", "-o", library, TOP / "hostile" / f"{name}.c"],
+                   check=True)
     return library
 
 

@@ -15,7 +15,7 @@ import tempfile
 
 import common
 
-CONTACT = (common.EXAMPLES / "contact_lowers_a_rate.code").read_bytes()
+CONTACT = (common.SAMPLES / "contact_lowers_a_rate.code").read_bytes()
 PERHAPS = """\
 ensemble E1C5 mode 2 period 4 notice 24 budget 20
 sub 1 at 0 eep 3-A 128 service C221 audio 63 sub 1 in C221 begin
@@ -155,13 +155,15 @@ def try_random(tally, program, folder, seed, times):
 
 
 def main():
-    """Runs all of it: '[SEED [TIMES]]'."""
-    seed = int(sys.argv[1]) if len(sys.argv) > 1 else 300401
-    times = int(sys.argv[2]) if len(sys.argv) > 2 else 250
+    """Runs all of it: '[--program] [SEED [TIMES]]'. With --program, only what needs the program alone: the random changes."""
+    words = [word for word in sys.argv[1:] if word != "--program"]
+    seed = int(words[0]) if words else 300401
+    times = int(words[1]) if len(words) > 1 else 250
     tally = common.Tally()
-    program, trials = common.dabplan(), common.trials()
+    program = common.dabplan()
     with tempfile.TemporaryDirectory() as folder:
-        try_codes(tally, program, trials, folder)
+        if len(words) == len(sys.argv) - 1:
+            try_codes(tally, program, common.trials(), folder)
         try_random(tally, program, folder, seed, times)
     print(f"seed {seed}")
     tally.end()

@@ -11,8 +11,8 @@ import tempfile
 
 import common
 
-CODE = common.EXAMPLES / "contact_lowers_a_rate.code"
-SCRIPT = common.EXAMPLES / "contact_rate.plan"
+CODE = common.SAMPLES / "contact_lowers_a_rate.code"
+SCRIPT = common.SAMPLES / "contact_rate.plan"
 RECORD = common.EXAMPLES / "one_programme.rec"
 FRAME = ["--ensemble", "E1C5", "--count", "0"]
 

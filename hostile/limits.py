@@ -223,7 +223,7 @@ def try_frames(tally, program, folder):
 
 def try_texts(tally, program, folder):
     """Long texts of events and commands over a small code."""
-    common.write(folder, "small.code", (common.EXAMPLES / "contact_lowers_a_rate.code").read_bytes())
+    common.write(folder, "small.code", (common.SAMPLES / "contact_lowers_a_rate.code").read_bytes())
     for name, text, wanted in event_rows():
         common.write(folder, "a.events", text)
         ended = common.run([program, "play", "small.code", "a.events", "/dev/null"], folder, stack=STACK)

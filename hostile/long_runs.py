@@ -11,7 +11,7 @@ import time
 
 import common
 
-CODE = common.EXAMPLES / "contact_lowers_a_rate.code"
+CODE = common.SAMPLES / "contact_lowers_a_rate.code"
 SWAPS = """\
 ensemble E1C5 period 4 notice 24 budget 20
 sub 1 at 0 eep 3-A 128 service C221 audio 63 sub 1 in C221 begin

@@ -15,8 +15,8 @@ import tempfile
 
 import common
 
-SCRIPT = common.EXAMPLES / "contact_rate.plan"
-CODE = common.EXAMPLES / "contact_lowers_a_rate.code"
+SCRIPT = common.SAMPLES / "contact_rate.plan"
+CODE = common.SAMPLES / "contact_lowers_a_rate.code"
 EVENTS = "frames 1 contact 3 closed contact 3 open contact 3 closed frames 39 contact 3 open frames 30"
 COMMANDS = "break 9 run 100 contact 3 closed run 2 next clear show"
 RECORD = "0101000100000003008000C22101003F01"
