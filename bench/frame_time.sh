@@ -3,12 +3,12 @@
 # Wanted: under 10 ms and under 8 MB resident.
 . "$(dirname "$0")/common.sh"
 
-./dabplan --help >/dev/null
+program=$(release/make --program)
 frame() {
-  crates/dabplan/out/dabplan frame - --ensemble E1C5 --count 0 <docs/examples/one_programme.rec
+  "$program" frame - --ensemble E1C5 --count 0 <docs/examples/one_programme.rec
 }
 micros=$(best 100 frame)
-/usr/bin/time -f '%M' crates/dabplan/out/dabplan frame - --ensemble E1C5 --count 0 \
+/usr/bin/time -f '%M' "$program" frame - --ensemble E1C5 --count 0 \
   <docs/examples/one_programme.rec 2>"$work/resident" >/dev/null
 resident=$(tail -n 1 "$work/resident")
 echo "frame: $(thousandths "$micros") ms at the best of 100 runs, $resident KB resident"

@@ -9,8 +9,7 @@
 #   bench/listen_speed.sh [FOLDER of real_fic.fib]
 . "$(dirname "$0")/common.sh"
 
-./dabplan --help >/dev/null
-program=crates/dabplan/out/dabplan
+program=$(release/make --program)
 failed=0
 
 # measure NAME FILE WANTED: the ratio in thousandths, and the memory

@@ -57,8 +57,7 @@ measure() {
   fi
 }
 
-./dabplan --help >/dev/null
-program=crates/dabplan/out/dabplan
+program=$(release/make --program)
 large_plan >"$work/large.code"
 echo 'frames 1000000' >"$work/million.events"
 echo 'frames 3600000 frames 3600000 frames 2800000' >"$work/ten.events"
