@@ -14,3 +14,4 @@ pub mod Headed
 pub mod Hearing
 pub mod Sides
 pub mod Most
+pub mod Runs

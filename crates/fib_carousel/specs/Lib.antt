@@ -7,6 +7,7 @@ pub mod Carried
 pub mod Kept
 pub mod Walk
 pub mod Filling
+pub mod Runs
 pub mod Items
 pub use Rattle.fib_codec.specs.Modes
 pub use Rattle.fib_codec.specs.Crc

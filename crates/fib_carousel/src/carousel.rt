@@ -6,8 +6,8 @@ ghost use Rattle.fib_carousel.specs.Packing.{IsPacking, rounds_of};
 ghost use Rattle.fib_carousel.specs.Pages.{page_set_of, rounds};
 ghost use Rattle.fib_carousel.specs.Bytes.{page_bytes, page_figs, figs_by, AreFibs};
 
-use crate::entry_list;
 use crate::pack_state::Position;
+use crate::page_count;
 use crate::page_set::PageSet;
 use crate::page_writer::write_page;
 use fib_codec::{FibFrame, Mode};
@@ -22,7 +22,7 @@ pub fn pages<'a, 'b, S: Store>(mode: Mode, current: &'a S, next: Option<&'b S>) 
         (ns : List ℕ) → IsPacking mode ms ns → result ≡ rounds_of mode ns }
     ensures one { 1 ≤ result }
 {
-    entry_list::pages(&PageSet::new(current, next), mode)
+    page_count::pages(mode, current, next)
 }
 
 /// The FIBs of a page, numbered from 0, three or in mode III four: FIG 0/0 first where it is given, and no other,

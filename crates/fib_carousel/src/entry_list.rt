@@ -1,11 +1,10 @@
-//! The entries that wait to be packed, and the division of them by the packing's rule.
+//! The entries that wait to be packed.
 
 ghost use Rattle.std.specs.Prelude.{◌≡◌, ◌+◌, ◌-◌, ◌<◌, ◌≤◌, List, length, slice_get, Some};
 ghost use Rattle.mux_entries.specs.Facts.{Marked};
-ghost use Rattle.fib_carousel.specs.Pages.{rounds};
 
-use crate::pack_state::{EntryShape, PackState};
-use fib_codec::{Fib, Mode};
+use crate::pack_state::EntryShape;
+use fib_codec::Fib;
 
 /// A list of entries in the order in which they are packed.
 pub(crate) trait EntryList {
@@ -37,15 +36,4 @@ pub(crate) trait EntryList {
         ensures { (m : Marked)
             × (slice_get (entries self.now) index ≡ Some m)
             × (fib.new ≡ fib.old ++ entry_bytes m.entry) };
-}
-
-/// How many pages the entries of a list take, at least 1.
-pub(crate) fn pages<L: EntryList>(list: &L, mode: Mode) -> usize
-    ensures { result ≡ rounds mode (L.entries list.now) }
-{
-    let mut state = PackState::start();
-    for index in 0..list.len() {
-        state = state.then(mode, list.shape(index));
-    }
-    state.fib / mode.fibs() + 1
 }

@@ -8,9 +8,11 @@
 
 pub mod carousel;
 mod entry_list;
+mod entry_shapes;
 pub mod kept_page;
 pub mod laws;
 mod pack_state;
+mod page_count;
 pub mod page_cursor;
 mod page_set;
 mod page_writer;

@@ -1,10 +1,11 @@
 //! How far the packing has come.
 
-ghost use Rattle.std.specs.Prelude.{◌≡◌, ◌+◌, ◌<◌, ◌≤◌, ◌^◌};
+ghost use Rattle.std.specs.Prelude.{◌≡◌, ◌+◌, ◌*◌, ◌<◌, ◌≤◌, ◌^◌};
 ghost use Rattle.mux_entries.specs.Facts.{Marked};
 ghost use Rattle.fib_codec.specs.Spelling.{head_of};
 ghost use Rattle.fib_carousel.specs.Packing.{cost, room, same_head, size_of};
 ghost use Rattle.fib_carousel.specs.Greedy.{start, placed};
+ghost use Rattle.fib_carousel.specs.Runs.{shape_cost, step, steps};
 
 use fib_codec::{Head, Mode};
 
@@ -77,6 +78,7 @@ impl PackState {
         requires { shape.size ≤ 28 }
         ensures value { (m : Marked)
             → shape.head ≡ head_of m → shape.size ≡ size_of m → result ≡ cost self.head m }
+        ensures shape { result ≡ shape_cost self.head shape }
         ensures bound { result ≤ 30 }
     {
         match self.head {
@@ -98,6 +100,7 @@ impl PackState {
         requires fib { self.fib < 2 ^ 32 }
         ensures value { (m : Marked)
             → shape.head ≡ head_of m → shape.size ≡ size_of m → result ≡ placed mode m self }
+        ensures step { result ≡ step mode shape self }
         ensures used { result.used ≤ 30 }
         ensures from { self.fib ≤ result.fib }
         ensures to { result.fib ≤ self.fib + 2 }
@@ -120,6 +123,38 @@ impl PackState {
             used: 2 + shape.size,
             head: Some(shape.head),
         }
+    }
+
+    /// The state with this many entries of one shape placed, of which each FIB takes as many as fit. Such an
+    /// entry fits every FIB.
+    pub(crate) fn run(self, mode: Mode, shape: EntryShape, count: usize) -> PackState
+        requires some { 1 ≤ shape.size }
+        requires small { shape.size ≤ 21 }
+        requires used { self.used ≤ 30 }
+        requires fib { self.fib + 2 * count < 2 ^ 32 }
+        ensures value { result ≡ steps mode shape count self }
+        ensures used { result.used ≤ 30 }
+        ensures to { result.fib ≤ self.fib + 2 * count }
+    {
+        if count == 0 {
+            return self;
+        }
+        let mut state = self.then(mode, shape);
+        let mut left = count - 1;
+        while left > 0 {
+            let fit = usize::from((room(mode, state.fib) - state.used) / shape.size);
+            if left <= fit {
+                let used = state.used + left as u8 * shape.size;
+                return PackState { used, ..state };
+            }
+            left = left - fit - 1;
+            state = PackState {
+                fib: state.fib + 1,
+                used: 2 + shape.size,
+                head: state.head,
+            };
+        }
+        state
     }
 }
 

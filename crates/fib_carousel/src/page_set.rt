@@ -11,10 +11,11 @@ ghost use Rattle.fib_carousel.specs.Walk.{IsShapeAt};
 ghost use Rattle.fib_carousel.specs.Items.{item_entry, IsFormedItem, config_entries, IsItemAt};
 
 use crate::entry_list::EntryList;
+use crate::entry_shapes::{packet_shape, service_shape, sub_shape};
 use crate::pack_state::EntryShape;
 use crate::to_entries::{put_packet, put_service, put_sub};
-use fib_codec::{Fib, Head};
-use mux_config::{Packet, Service, Sid, Store, Sub};
+use fib_codec::Fib;
+use mux_config::{Packet, Service, Store, Sub};
 
 /// A member of one of the three sets of a configuration.
 #[derive(Drop)]
@@ -51,26 +52,10 @@ impl Item<'_> {
         ensures size { result.size ≡ entry_size (item_entry self.now) }
         ensures small { result.size ≤ 28 }
     {
-        let (long, ext, size) = match self {
-            Item::Sub(_) => (false, 1, 4),
-            Item::Service(service) => {
-                let components = service.components.len() as u8;
-                match service.sid {
-                    Sid::Short(_) => (false, 2, 3 + 2 * components),
-                    Sid::Long(_) => (true, 2, 5 + 2 * components),
-                }
-            }
-            Item::Packet(_) => (false, 3, 5),
-        };
-        let oe = false;
-        EntryShape {
-            head: Head {
-                next,
-                oe,
-                long,
-                ext,
-            },
-            size,
+        match self {
+            Item::Sub(_) => sub_shape(next),
+            Item::Service(service) => service_shape(service, next),
+            Item::Packet(_) => packet_shape(next),
         }
     }
 }

@@ -94,4 +94,13 @@ impl Config {
         self.services.copy_from(&other.services);
         self.packets.copy_from(&other.packets);
     }
+
+    /// Takes over the services and packet components of another configuration; the sub-channels stay.
+    pub fn copy_others_from(&mut self, other: &Config)
+        ensures value { self.new ≡ record other.now { subs = self.old.subs } }
+        ensures configuration { IsConfiguration self.new }
+    {
+        self.services.copy_from(&other.services);
+        self.packets.copy_from(&other.packets);
+    }
 }

@@ -94,6 +94,10 @@ impl Store for Config {
         Config::copy_from(self, other);
     }
 
+    fn copy_from_config(&mut self, config: &Config) {
+        Config::copy_from(self, config);
+    }
+
     fn same(&self, other: &Config) -> bool {
         if !has_same_subs(self.subs(), other.subs()) {
             return false;

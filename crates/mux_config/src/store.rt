@@ -40,6 +40,10 @@ pub trait Store: Drop {
     fn copy_from(&mut self, other: &Self)
         ensures { content self.new ≡ content other.now };
 
+    /// Takes over what a configuration in tables holds.
+    fn copy_from_config(&mut self, config: &Config)
+        ensures { content self.new ≡ config.now };
+
     /// Whether both stand for one configuration.
     fn same(&self, other: &Self) -> bool
         ensures { IsTrue result ↔ (content self.now ≡ content other.now) };

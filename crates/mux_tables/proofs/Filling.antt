@@ -1,15 +1,13 @@
 -- Sub-channels are taken in one after another, and out again.
-use Rattle.std.proofs.Common.{◌≡◌, ℕ, zero, suc, ◌+◌, ◌%◌, ◌<◌, ◌==◌, true, false, ltb, List, [], ◌∷◌, take, drop, length, Option, Some, None, IfSome, slice_get, get_or, refl, sym, ap, ◌∙◌, subst, add-one, arith}
-use Rattle.std.proofs.lemmas.Bool.{le-ltb, ne_eqb, eq-eqb}
+use Rattle.std.proofs.Common.{◌≡◌, ℕ, zero, suc, ◌+◌, ◌%◌, ◌<◌, ◌==◌, false, ltb, List, [], ◌∷◌, take, Option, Some, None, IfSome, slice_get, refl, sym, ap, ◌∙◌, subst, add-one, arith}
+use Rattle.std.proofs.lemmas.Bool.{le-ltb, ne_eqb}
 use Rattle.mux_types.specs.declared.parts.Sub.{Sub}
 use Rattle.mux_config.specs.Configuration.{Configuration, IsAscending, IsPlaced, sub_key, size_of_sub}
 use Rattle.std.specs.List.{AllByRecursion}
 use Rattle.mux_eep.specs.Sizes.{rate_step}
-use Rattle.mux_config.specs.Tables.{entry_at, with_entry, without_entry}
-use Rattle.mux_config.specs.Edits.{placing_fault, add_sub_fault, sub_added, sub_dropped}
+use Rattle.mux_config.specs.Tables.{entry_at, with_entry}
+use Rattle.mux_config.specs.Edits.{placing_fault, add_sub_fault, sub_added}
 use Rattle.mux_config.proofs.Keeping.{entry_holds, absent_found}
-use Rattle.mux_types.proofs.Walking.{cut}
-use Rattle.mux_tables.proofs.Members.{without_below}
 
 pub placed_if : (id : ℕ) (xs : List Sub) (o : Option Sub) → AllByRecursion IsPlaced xs → o ≡ entry_at sub_key id xs → IfSome o (λ s. IsPlaced s)
 placed_if id xs None h e = tt
@@ -57,24 +55,3 @@ fits_next c d xs i y order placed e is =
 pub added_next : (c d : Configuration) (xs : List Sub) (i : ℕ) (y : Sub) → IsAscending sub_key xs → slice_get xs i ≡ Some y → d ≡ record c { subs = take i xs } → sub_added y d ≡ record c { subs = take (i + 1) xs }
 added_next c d xs i y order e is =
     ap (sub_added y) is ∙ ap (λ (zs : List Sub). record c { subs = zs }) (rw add-one (with_next xs i y order e))
-
--- ---- the first of those that are left goes
-
-ascends_on : (xs : List Sub) (i : ℕ) → IsAscending sub_key xs → IsAscending sub_key (drop i xs)
-ascends_on [] zero h = tt
-ascends_on [] (suc i) h = tt
-ascends_on (x ∷ xs) zero h = h
-ascends_on (x ∷ xs) (suc i) h = ascends_on xs i h.1
-
-pub dropped_next : (c d : Configuration) (xs : List Sub) (i : ℕ) (y : Sub) → IsAscending sub_key xs → slice_get xs i ≡ Some y → d ≡ record c { subs = drop i xs } → sub_dropped y.id d ≡ record c { subs = drop (i + 1) xs }
-dropped_next c d xs i y order e is =
-    let rest = cut xs i y e in
-    let up : IsAscending sub_key (y ∷ drop (i + 1) xs) = subst (λ (zs : List Sub). IsAscending sub_key zs) rest (ascends_on xs i order) in
-    let same : (y.id == y.id) ≡ true = eq-eqb y.id y.id refl in
-    let gone : without_entry sub_key y.id (y ∷ drop (i + 1) xs) ≡ drop (i + 1) xs = rw (same) (without_below sub_key y.id (drop (i + 1) xs) up.0) in
-    ap (sub_dropped y.id) is ∙ ap (λ (zs : List Sub). record c { subs = zs }) (ap (without_entry sub_key y.id) rest ∙ gone)
-
-pub got : {T : Type 0} (xs : List T) (i : ℕ) (d : T) → i < length xs → slice_get xs i ≡ Some (get_or xs i d)
-got [] i d lt = absurd (omega arith)
-got (x ∷ xs) zero d lt = refl
-got (x ∷ xs) (suc i) d lt = got xs i d (omega arith)

@@ -12,10 +12,8 @@ impl Store for Tables {
     }
 
     fn from_config(config: &Config) -> Tables {
-        let mut tables = Tables::without_subs(config);
-        for index in 0..config.sub_count() {
-            tables.insert(config.sub_at(index));
-        }
+        let mut tables = Tables::new();
+        tables.copy_from_config(config);
         tables
     }
 
@@ -31,6 +29,13 @@ impl Store for Tables {
         self.subs.copy_from(&other.subs);
         self.units = other.units;
         self.others.copy_from(&other.others);
+    }
+
+    fn copy_from_config(&mut self, config: &Config) {
+        self.copy_others_from(config);
+        for index in 0..config.sub_count() {
+            self.insert(config.sub_at(index));
+        }
     }
 
     fn same(&self, other: &Tables) -> bool {

@@ -1,6 +1,6 @@
 //! Sub-channels at the places of their identifiers.
 
-ghost use Rattle.std.specs.Prelude.{◌≡◌, ◌<◌, ◌↔◌, [], length, None, Some, IsTrue, slice_get};
+ghost use Rattle.std.specs.Prelude.{◌≡◌, ◌<◌, ◌↔◌, [], length, None, Some, IsTrue, replicate, slice_get};
 ghost use Rattle.mux_config.specs.Configuration.{IsAscending, sub_key};
 ghost use Rattle.mux_config.specs.Tables.{entry_at, with_entry, without_entry, with_entry_changed};
 ghost use Rattle.mux_tables.specs.Members.{members, InPlace};
@@ -57,13 +57,20 @@ impl Model for SubTable {
     ghost invariant = { λ t. InPlace sub_key 0 t.by_id × (t.ids ≡ map listed (members t.by_id)) };
 }
 
+/// The places of no sub-channel.
+fn empty_places() -> [Option<Sub>; 64]
+    ensures { result ≡ replicate 64 None }
+{
+    [None; 64]
+}
+
 impl SubTable {
     /// No sub-channel.
     pub(crate) fn new() -> SubTable
         ensures { result ≡ [] }
     {
         SubTable {
-            by_id: [None; 64],
+            by_id: empty_places(),
             ids: SortedTable::new(),
         }
     }
@@ -124,6 +131,14 @@ impl SubTable {
     {
         self.ids.remove(u64::from(id.get()));
         self.by_id[usize::from(id.get())] = None;
+    }
+
+    /// Drops every sub-channel.
+    pub(crate) fn clear(&mut self)
+        ensures { self.new ≡ [] }
+    {
+        self.by_id = empty_places();
+        self.ids.clear();
     }
 
     /// Becomes a copy of another table.

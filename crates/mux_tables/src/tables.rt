@@ -47,15 +47,13 @@ impl Tables {
         }
     }
 
-    /// The services and packet components of a configuration, without its sub-channels.
-    pub(crate) fn without_subs(config: &Config) -> Tables
-        ensures { result ≡ record config.now { subs = [] } }
+    /// Takes over the services and packet components of a configuration, and drops every sub-channel.
+    pub(crate) fn copy_others_from(&mut self, config: &Config)
+        ensures { self.new ≡ record config.now { subs = [] } }
     {
-        Tables {
-            subs: SubTable::new(),
-            units: empty_map(),
-            others: without_subs(config),
-        }
+        self.subs.clear();
+        self.units = empty_map();
+        self.others.copy_others_from(config);
     }
 
     /// Whether two sub-channels share a capacity unit.
@@ -105,17 +103,4 @@ impl Tables {
             self.subs.remove(id);
         }
     }
-}
-
-/// A copy of a configuration without its sub-channels.
-fn without_subs(config: &Config) -> Config
-    ensures value { result ≡ record config.now { subs = [] } }
-    ensures configuration { IsConfiguration result }
-{
-    let mut rest = Config::new();
-    rest.copy_from(config);
-    for sub in config.subs() {
-        rest.drop_sub_known(sub.id);
-    }
-    rest
 }

@@ -1,9 +1,8 @@
 -- Sets in ascending order: where a key stands, and what an edit at that place makes of the set.
-use Rattle.std.proofs.Common.{◌≡◌, ℕ, zero, suc, ◌+◌, ◌<◌, ◌≤◌, true, false, cond, ltb, eqb, nat_lt, List, [], ◌∷◌, ◌++◌, length, get_or, take, drop, set, slice_get, if◌then◌else◌, Some, None, refl, sym, ap, ◌∙◌, arith, inl, inr}
-use Rattle.std.specs.List.{insert, remove, find, refill, AllByRecursion}
+use Rattle.std.proofs.Common.{◌≡◌, ℕ, zero, suc, ◌<◌, ◌≤◌, true, false, cond, ltb, eqb, nat_lt, List, [], ◌∷◌, ◌++◌, length, get_or, set, slice_get, if◌then◌else◌, Some, None, refl, sym, ap, ◌∙◌, arith, inl, inr}
+use Rattle.std.specs.List.{insert, remove, find, AllByRecursion}
 use Rattle.std.proofs.lemmas.Bool.{cases_lt, cases_eq, lt-ltb, le-ltb, eq-eqb, ne_eqb, eqb-false}
 use Rattle.std.proofs.lemmas.Option.{slice_get-get_or}
-use Rattle.std.proofs.lemmas.List.{drop_more, append-nil, length-set, drop_all, take_all}
 use Rattle.mux_types.specs.Configuration.{IsAscending}
 use Rattle.mux_types.specs.Tables.{entry_at, with_entry, without_entry, with_entry_changed}
 
@@ -41,6 +40,11 @@ each_changed P key y holds (x ∷ xs) all =
       | inl same ↦ rw (eq-eqb _ _ same) (holds x same all.0, each_changed P key y holds xs all.1)
       | inr other ↦ rw (ne_eqb _ _ other) (all.0, each_changed P key y holds xs all.1)
     ]
+
+pub each_within : {T : Type 0} (P : T → Type 0) (xs : List T) (i : ℕ) (d : T) → AllByRecursion P xs → i < length xs → P (get_or xs i d)
+each_within P [] i d all lt = absurd (omega (arith, lt))
+each_within P (x ∷ xs) zero d all lt = all.0
+each_within P (x ∷ xs) (suc i) d all lt = each_within P xs i d all.1 (omega (arith, lt))
 
 -- ---- order
 
@@ -92,20 +96,29 @@ place_bound key k (x ∷ xs) =
     let more = place_bound key k xs in
     elim (cases_lt (key x) k) [ inl lt ↦ rw (lt-ltb _ _ lt) (omega (arith, more)) | inr ge ↦ rw (le-ltb _ _ ge) (omega arith) ]
 
--- one step of a search from the front
-pub place_further : {T : Type 0} (key : T → ℕ) (k : ℕ) (xs : List T) (i n : ℕ) (d : T) → i < length xs → key (get_or xs i d) < k
-    → i + place_of key k (drop i xs) ≡ n → (i + 1) + place_of key k (drop (i + 1) xs) ≡ n
-place_further key k xs i n d lt below so_far =
-    let cut : place_of key k (drop i xs) ≡ place_of key k (get_or xs i d ∷ drop (i + 1) xs) = ap (place_of key k) (drop_more xs i d lt) in
-    let step : place_of key k (get_or xs i d ∷ drop (i + 1) xs) ≡ suc (place_of key k (drop (i + 1) xs)) = rw (lt-ltb _ _ below) refl in
-    omega (arith, cut, step, so_far)
+-- a key stands after each member of a lesser key, at a member of its own, and before each of a greater
+pub place_above : {T : Type 0} (key : T → ℕ) (k : ℕ) (xs : List T) (i : ℕ) (d : T) → IsAscending key xs → i < length xs → key (get_or xs i d) < k → i < place_of key k xs
+place_above key k [] i d up lt below = absurd (omega (arith, lt))
+place_above key k (x ∷ xs) zero d up lt below = rw (lt-ltb _ _ below) (omega arith)
+place_above key k (x ∷ xs) (suc i) d up lt below =
+    let first : key x < key (get_or xs i d) = each_within (λ y. key x < key y) xs i d up.0 (omega (arith, lt)) in
+    let more : i < place_of key k xs = place_above key k xs i d up.1 (omega (arith, lt)) below in
+    rw (lt-ltb (key x) k (omega (arith, first, below))) (omega (arith, more))
 
-pub place_here : {T : Type 0} (key : T → ℕ) (k : ℕ) (xs : List T) (i n : ℕ) (d : T) → i < length xs → k ≤ key (get_or xs i d)
-    → i + place_of key k (drop i xs) ≡ n → i ≡ n
-place_here key k xs i n d lt ge so_far =
-    let cut : place_of key k (drop i xs) ≡ place_of key k (get_or xs i d ∷ drop (i + 1) xs) = ap (place_of key k) (drop_more xs i d lt) in
-    let step : place_of key k (get_or xs i d ∷ drop (i + 1) xs) ≡ 0 = rw (le-ltb _ _ ge) refl in
-    omega (arith, cut, step, so_far)
+pub place_here : {T : Type 0} (key : T → ℕ) (k : ℕ) (xs : List T) (i : ℕ) (d : T) → IsAscending key xs → i < length xs → key (get_or xs i d) ≡ k → i ≡ place_of key k xs
+place_here key k [] i d up lt same = absurd (omega (arith, lt))
+place_here key k (x ∷ xs) zero d up lt same = rw (le-ltb (key x) k (omega (arith, same))) refl
+place_here key k (x ∷ xs) (suc i) d up lt same =
+    let first : key x < key (get_or xs i d) = each_within (λ y. key x < key y) xs i d up.0 (omega (arith, lt)) in
+    let more : i ≡ place_of key k xs = place_here key k xs i d up.1 (omega (arith, lt)) same in
+    rw (lt-ltb (key x) k (omega (arith, first, same))) (omega (arith, more))
+
+pub place_below : {T : Type 0} (key : T → ℕ) (k : ℕ) (xs : List T) (i : ℕ) (d : T) → i < length xs → k ≤ key (get_or xs i d) → place_of key k xs ≤ i
+place_below key k [] i d lt above = absurd (omega (arith, lt))
+place_below key k (x ∷ xs) zero d lt above = rw (le-ltb _ _ above) (omega arith)
+place_below key k (x ∷ xs) (suc i) d lt above =
+    let more : place_of key k xs ≤ i = place_below key k xs i d (omega (arith, lt)) above in
+    elim (cases_lt (key x) k) [ inl below ↦ rw (lt-ltb _ _ below) (omega (arith, more)) | inr ge ↦ rw (le-ltb _ _ ge) (omega arith) ]
 
 -- ---- the member at that place
 
@@ -235,13 +248,6 @@ changed {T} key y (x ∷ xs) d up lt same =
           rw (at, eq-eqb _ _ here) (ap (λ (ys : List T). y ∷ ys) (sym (changed_absent key y xs (absent_later key (key y) x xs up ge))))
     ]
 
--- a write at one place of a list of the same length
-pub refilled : {T : Type 0} (xs : List T) (n i : ℕ) (y : T) → n ≡ length xs → refill n xs (set xs i y) ≡ set xs i y
-refilled {T} xs n i y len =
-    let same = length-set xs i y in
-    let none : drop (length (set xs i y)) xs ≡ [] = drop_all (length (set xs i y)) xs (omega (arith, same)) in
-    ap (λ (r : List T). take n (set xs i y ++ r)) none ∙ ap (take n) (append-nil (set xs i y)) ∙ take_all n (set xs i y) (omega (arith, same, len))
-
 -- ---- what a search finds
 
 pub record IsFoundAt {T : Type 0} (key : T → ℕ) (k : ℕ) (xs : List T) (p : ℕ) : Type 0 where
@@ -267,10 +273,8 @@ found_there {T} key k xs p d up at lt same =
       changed = λ y e. let lt'' : place_of key (key y) xs < length xs = (rw e lt') in let same'' : key (get_or xs (place_of key (key y) xs) d) ≡ key y = (rw e same') in ap (λ (n : ℕ). set xs (place_of key n xs) y) (sym e) ∙ changed key y xs d up lt'' same'';
     })
 
-pub found_here : {T : Type 0} (key : T → ℕ) (k : ℕ) (xs : List T) (i : ℕ) (d : T) → IsAscending key xs → i < length xs
-    → i + place_of key k (drop i xs) ≡ place_of key k xs → key (get_or xs i d) ≡ k → IsFoundAt key k xs i
-found_here key k xs i d up lt so_far same =
-    found_there key k xs i d up (place_here key k xs i _ d lt (omega (arith, same)) so_far) lt same
+pub found_here : {T : Type 0} (key : T → ℕ) (k : ℕ) (xs : List T) (i : ℕ) (d : T) → IsAscending key xs → i < length xs → key (get_or xs i d) ≡ k → IsFoundAt key k xs i
+found_here key k xs i d up lt same = found_there key k xs i d up (place_here key k xs i d up lt same) lt same
 
 absent_there : {T : Type 0} (key : T → ℕ) (k : ℕ) (xs : List T) (p : ℕ) → entry_at key k xs ≡ None → p ≡ place_of key k xs → IsAbsentAt key k xs p
 absent_there {T} key k xs p absent at = record {
@@ -279,18 +283,26 @@ absent_there {T} key k xs p absent at = record {
   inserted = λ y e. let none : entry_at key (key y) xs ≡ None = (rw e absent) in ap (λ (n : ℕ). insert xs n y) (at ∙ ap (λ (m : ℕ). place_of key m xs) (sym e)) ∙ inserted key y xs none;
 }
 
-pub absent_here : {T : Type 0} (key : T → ℕ) (k : ℕ) (xs : List T) (i : ℕ) (d : T) → IsAscending key xs → i < length xs
-    → i + place_of key k (drop i xs) ≡ place_of key k xs → k < key (get_or xs i d) → IsAbsentAt key k xs i
-absent_here {T} key k xs i d up lt so_far above =
-    let at : i ≡ place_of key k xs = place_here key k xs i _ d lt (omega (arith, above)) so_far in
-    let differs : key (get_or xs (place_of key k xs) d) ≡ k → ⊥ = λ e. (let there : key (get_or xs i d) ≡ k = ap (λ (n : ℕ). key (get_or xs n d)) at ∙ e in omega (arith, there, above)) in
-    absent_there key k xs i (absent_at key k xs d up (omega (arith, lt, at)) differs) at
+entry_absent : {T : Type 0} (key : T → ℕ) (k : ℕ) (xs : List T) → IsAscending key xs → ((d : T) → place_of key k xs < length xs → k < key (get_or xs (place_of key k xs) d)) → entry_at key k xs ≡ None
+entry_absent key k [] up apart = refl
+entry_absent key k (x ∷ xs) up apart =
+    elim (cases_lt (place_of key k (x ∷ xs)) (length (x ∷ xs))) [
+      | inl lt ↦ absent_at key k (x ∷ xs) x up lt (λ same. omega (arith, same, apart x lt))
+      | inr past ↦ absent_past key k (x ∷ xs) past
+    ]
 
-pub absent_to_the_end : {T : Type 0} (key : T → ℕ) (k : ℕ) (xs : List T) (i : ℕ) → length xs ≤ i
-    → i + place_of key k (drop i xs) ≡ place_of key k xs → IsAbsentAt key k xs (length xs)
-absent_to_the_end key k xs i past so_far =
-    let bound = place_bound key k xs in
-    absent_there key k xs (length xs) (absent_past key k xs (omega (arith, past, so_far))) (omega (arith, past, so_far, bound))
+-- no member stands past the last
+pub apart_at_end : {T : Type 0} (key : T → ℕ) (k : ℕ) (xs : List T) (d : T) → length xs < length xs → k < key (get_or xs (length xs) d)
+apart_at_end key k xs d past = absurd (omega (arith, past))
+
+-- nothing is left between what is below and what is above
+pub absent_between : {T : Type 0} (key : T → ℕ) (k : ℕ) (xs : List T) (low high : ℕ) → IsAscending key xs → high ≤ low → low ≤ place_of key k xs → place_of key k xs ≤ high
+    → ((d : T) → high < length xs → k < key (get_or xs high d)) → IsAbsentAt key k xs low
+absent_between {T} key k xs low high up met from to apart =
+    let at : low ≡ place_of key k xs = omega (arith, met, from, to) in
+    let end : high ≡ place_of key k xs = omega (arith, met, from, to) in
+    let past : (d : T) → place_of key k xs < length xs → k < key (get_or xs (place_of key k xs) d) = rw (← end) apart in
+    absent_there key k xs low (entry_absent key k xs up past) at
 
 slice_get_none : {T : Type 0} (xs : List T) (p : ℕ) → slice_get xs p ≡ None → p < length xs → ⊥
 slice_get_none [] p none lt = omega (arith, lt)

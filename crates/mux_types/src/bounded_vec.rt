@@ -1,8 +1,9 @@
 //! A list of a few values, held without memory of its own.
 
-ghost use Rattle.std.specs.Prelude.{◌≡◌, ◌+◌, ◌<◌, ◌≤◌, ◌++◌, ◌∷◌, [], ◌↔◌, length, take, IsTrue, option_copied, slice_get};
+ghost use Rattle.std.specs.Prelude.{◌≡◌, ◌+◌, ◌<◌, ◌≤◌, List, ◌++◌, ◌∷◌, [], ◌↔◌, length, take, IsTrue, option_copied, slice_get, slice_index_or, set};
 ghost use Rattle.std.specs.List.{insert, remove};
 
+use crate::sorted_table::Keyed;
 use std::marker::Model;
 
 /// A list of at most `CAP` values. Contracts see it as the list.
@@ -76,7 +77,7 @@ impl<T: Drop, const CAP: usize> BoundedVec<T, CAP> {
     }
 }
 
-impl<T: Copy + Drop, const CAP: usize> BoundedVec<T, CAP> {
+impl<T: Drop, const CAP: usize> BoundedVec<T, CAP> {
     /// Lets go of every value.
     pub fn clear(&mut self)
         ensures { self.new ≡ [] }
@@ -91,10 +92,10 @@ impl<T: Copy + Drop, const CAP: usize> BoundedVec<T, CAP> {
         requires room { length self.old < CAP }
         ensures { self.new ≡ insert self.old place value }
     {
-        let old = self.copied();
-        self.truncate(place);
-        self.push(value);
-        self.extend(&old.as_slice()[place..]);
+        let len = self.len;
+        self.items[len] = value;
+        self.len = len + 1;
+        last_to(&mut self.items[..len + 1], place);
     }
 
     /// Takes out the value at a place; the later ones move down.
@@ -102,29 +103,40 @@ impl<T: Copy + Drop, const CAP: usize> BoundedVec<T, CAP> {
         requires { place < length self.old }
         ensures { self.new ≡ remove self.old place }
     {
-        let old = self.copied();
-        self.truncate(place);
-        self.extend(&old.as_slice()[place + 1..]);
+        let len = self.len;
+        to_last(&mut self.items[..len], place);
+        self.len = len - 1;
     }
 
-    /// Keeps this many of the first values.
-    fn truncate(&mut self, len: usize)
-        requires { len ≤ length self.old }
-        ensures { self.new ≡ take len self.old }
+    /// Puts a value in place of the one at a place.
+    pub fn set(&mut self, place: usize, value: T)
+        requires { place < length self.old }
+        ensures { self.new ≡ set self.old place value }
     {
-        self.len = len;
+        let len = self.len;
+        self.items[..len][place] = value;
     }
+}
 
-    /// Appends values, for which it has room.
-    fn extend(&mut self, values: &[T])
-        requires { length self.old + length values.now ≤ CAP }
-        ensures { self.new ≡ self.old ++ values.now }
-    {
-        for value in values {
-            self.push(*value);
-        }
-    }
+/// Moves the last of some values to a place before others.
+fn last_to<T>(values: &mut [T], place: usize)
+    requires { place < length values.old }
+    ensures { (front : List T) (last : T) → values.old ≡ front ++ last ∷ []
+        → values.new ≡ insert front place last }
+{
+    values[place..].rotate_right(1);
+}
 
+/// Moves the value at a place behind the others.
+fn to_last<T>(values: &mut [T], place: usize)
+    requires { place < length values.old }
+    ensures { (d : T) → values.new
+        ≡ remove values.old place ++ slice_index_or values.old place d ∷ [] }
+{
+    values[place..].rotate_left(1);
+}
+
+impl<T: Copy + Drop, const CAP: usize> BoundedVec<T, CAP> {
     /// A copy of the list.
     pub fn copied(&self) -> Self
         ensures { result ≡ self.now }
@@ -133,5 +145,26 @@ impl<T: Copy + Drop, const CAP: usize> BoundedVec<T, CAP> {
             items: self.items,
             len: self.len,
         }
+    }
+}
+
+impl<T: Keyed, const CAP: usize> BoundedVec<T, CAP> {
+    /// Becomes a copy of another list.
+    pub(crate) fn copy_from(&mut self, other: &Self)
+        ensures { self.new ≡ other.now }
+    {
+        copy_in(&mut self.items, other.as_slice());
+        self.len = other.len;
+    }
+}
+
+/// Writes copies of values over as many places from the front.
+fn copy_in<T: Keyed>(places: &mut [T], values: &[T])
+    requires { length values.now ≤ length places.old }
+    ensures front { take (length values.now) places.new ≡ values.now }
+    ensures len { length places.new ≡ length places.old }
+{
+    for index in 0..values.len() {
+        places[index] = values[index].copied();
     }
 }

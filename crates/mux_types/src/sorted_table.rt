@@ -5,7 +5,7 @@ ghost use Rattle.std.specs.List.{insert, remove, AllByRecursion};
 ghost use Rattle.mux_types.specs.Configuration.{IsAscending};
 ghost use Rattle.mux_types.specs.Tables.{entry_at, with_entry, without_entry, with_entry_changed};
 
-use arrayvec::ArrayVec;
+use crate::bounded_vec::BoundedVec;
 use std::marker::Model;
 
 /// A member of a set, told from the others by its key.
@@ -26,7 +26,7 @@ pub trait Keyed: Default + Drop {
 /// A set of at most `CAP` members. Contracts see it as the list of its members in ascending order of their keys.
 #[derive(Drop)]
 pub struct SortedTable<T: Keyed, const CAP: usize> {
-    entries: ArrayVec<T, CAP>,
+    entries: BoundedVec<T, CAP>,
 }
 
 impl<T: Keyed, const CAP: usize> Model for SortedTable<T, CAP> {
@@ -35,9 +35,9 @@ impl<T: Keyed, const CAP: usize> Model for SortedTable<T, CAP> {
 
     ghost Value = { List T };
 
-    ghost view = { λ t. t.entries.items };
+    ghost view = { λ t. t.entries };
 
-    ghost invariant = { λ t. IsAscending T.key t.entries.items };
+    ghost invariant = { λ t. IsAscending T.key t.entries };
 }
 
 impl<T: Keyed, const CAP: usize> SortedTable<T, CAP> {
@@ -46,12 +46,13 @@ impl<T: Keyed, const CAP: usize> SortedTable<T, CAP> {
         ensures { result ≡ [] }
     {
         SortedTable {
-            entries: ArrayVec::new(),
+            entries: BoundedVec::new(),
         }
     }
 }
 
-/// The place of the entry of a key; or, where none has it, the place where such an entry would stand.
+/// The place of the entry of a key, found by halves; or, where none has it, the place where such an entry
+/// would stand.
 fn search<T: Keyed>(entries: &[T], key: u64) -> Result<usize, usize>
     requires { IsAscending T.key entries.now }
     ensures found { IfOk result (λ place.
@@ -66,16 +67,21 @@ fn search<T: Keyed>(entries: &[T], key: u64) -> Result<usize, usize>
     ensures inserted { IfErr result (λ place. (y : T) → T.key y ≡ key
         → insert entries.now place y ≡ with_entry T.key y entries.now) }
 {
-    for place in 0..entries.len() {
-        let found = entries[place].key();
+    let mut low = 0;
+    let mut high = entries.len();
+    while low < high {
+        let middle = low + (high - low) / 2;
+        let found = entries[middle].key();
         if found == key {
-            return Ok(place);
+            return Ok(middle);
         }
-        if found > key {
-            return Err(place);
+        if found < key {
+            low = middle + 1;
+        } else {
+            high = middle;
         }
     }
-    Err(entries.len())
+    Err(low)
 }
 
 impl<T: Keyed, const CAP: usize> SortedTable<T, CAP> {
@@ -160,7 +166,7 @@ impl<T: Keyed, const CAP: usize> SortedTable<T, CAP> {
         ensures { self.new ≡ with_entry_changed T.key entry self.old }
     {
         match search(self.entries.as_slice(), entry.key()) {
-            Ok(place) => self.entries[place] = entry,
+            Ok(place) => self.entries.set(place, entry),
             Err(_place) => {}
         }
     }
@@ -170,20 +176,22 @@ impl<T: Keyed, const CAP: usize> SortedTable<T, CAP> {
         ensures { self.new ≡ without_entry T.key key self.old }
     {
         match search(self.entries.as_slice(), key) {
-            Ok(place) => {
-                self.entries.remove(place);
-            }
+            Ok(place) => self.entries.remove(place),
             Err(_place) => {}
         }
+    }
+
+    /// Lets go of every member.
+    pub fn clear(&mut self)
+        ensures { self.new ≡ [] }
+    {
+        self.entries.clear();
     }
 
     /// Becomes a copy of another set.
     pub fn copy_from(&mut self, other: &Self)
         ensures { self.new ≡ other.now }
     {
-        self.entries.clear();
-        for entry in other.entries.as_slice() {
-            self.entries.push(entry.copied());
-        }
+        self.entries.copy_from(&other.entries);
     }
 }

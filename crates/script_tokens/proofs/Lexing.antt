@@ -1,7 +1,7 @@
 -- A step of the lexer: what it puts before the tokens of the rest.
 use Rattle.std.proofs.Common.{◌≡◌, ◌≢◌, ℕ, ◌+◌, ◌<◌, ◌≤◌, Bool, true, false, cond, List, [], ◌∷◌, ◌++◌, length, get_or, drop, refl, sym, ap, ◌∙◌, add-one, arith}
 use Rattle.std.proofs.Math.Seq.{drop-cons}
-use Rattle.std.proofs.lemmas.List.{drop_all}
+use Rattle.std.proofs.lemmas.List.{append-nil, drop_all}
 use Rattle.std.specs.Prelude.{if◌then◌else◌, Result, Ok, Err}
 use Rattle.script_tokens.specs.declared.token.Token.{Token}
 use Rattle.script_tokens.specs.declared.token.Limits.{Limits}
@@ -12,7 +12,7 @@ use Rattle.script_tokens.specs.declared.token.Place.{Place}
 use Rattle.script_tokens.specs.declared.fault.ScriptFault.{ScriptFault}
 use Rattle.script_tokens.specs.declared.fault.ScriptFault.TheVariants.{Byte, Number, Expected, Depth, NameUsed, NameUnknown, Limit, Memory}
 use Rattle.script_tokens.specs.Bytes.{kind_of, place_after}
-use Rattle.script_tokens.specs.Lexing.{inside_after, is_bad, atom_ended, made, fits, added, tokens_before, lexed, Pushes}
+use Rattle.script_tokens.specs.Lexing.{inside_after, is_bad, IsQuiet, atom_ended, made, fits, added, tokens_before, lexed, Pushes}
 
 pub cut_at : (bs : List ℕ) (i : ℕ) → i < length bs → drop i bs ≡ get_or bs i 0 ∷ drop (i + 1) bs
 cut_at bs i lt = rw (add-one, drop-cons bs i 0 lt) refl
@@ -89,6 +89,14 @@ cut_on limits all ts us m n p q bs i k lt is push good e f h = record {
       ∙ ap (λ vs. tokens_before limits vs (lexed limits n q (drop (i + 1) bs))) (sym push.0);
   fit = rw (push.0) (more_in limits ts (made m p k) h.fit push.1);
 }
+
+-- a byte that is quiet
+pub quiet_on : (limits : Limits) (all : Cuts) (ts : List Token) (m : Inside) (p q : Place) (bs : List ℕ) (i : ℕ) (k : Kind) → i < length bs → k ≡ kind_of (get_or bs i 0)
+    → IsQuiet m k → q ≡ place_after p k
+    → CutSoFar limits all ts (lexed limits m p (drop i bs)) → CutSoFar limits all ts (lexed limits m q (drop (i + 1) bs))
+quiet_on limits all ts m p q bs i k lt is quiet f h =
+    let none : Pushes limits ts ts (made m p k) (Ok tt) = rw (quiet.none p) (sym (append-nil ts), refl) in
+    cut_on limits all ts ts m m p q bs i k lt is none quiet.good (sym (quiet.stays p)) f h
 
 -- a fault as tokens are pushed
 pub fault_pushed : (limits : Limits) (all : Cuts) (ts us : List Token) (m : Inside) (p : Place) (bs : List ℕ) (i : ℕ) (k : Kind) (e : ScriptFault) → i < length bs → k ≡ kind_of (get_or bs i 0)

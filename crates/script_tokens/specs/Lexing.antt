@@ -44,6 +44,12 @@ is_bad Comment k = false
 is_bad m Bad = true
 is_bad m k = false
 
+-- a byte that makes no token, and leaves what the lexer stands in
+pub record IsQuiet (m : Inside) (k : Kind) : Type 0 where
+  pub none : (p : Place) → made m p k ≡ []
+  pub good : is_bad m k ≡ false
+  pub stays : (p : Place) → inside_after m p k ≡ m
+
 -- a token is within the limits: one of more than one byte is an atom
 abbrev pub fits : Limits → Token → Bool
 fits limits t = nat_le t.end (t.start + limits.atom) && nat_le t.position.line limits.line

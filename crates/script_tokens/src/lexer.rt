@@ -2,7 +2,7 @@
 
 ghost use Rattle.std.specs.Prelude.{◌≡◌, ◌≢◌, ◌+◌, ◌∷◌, [], ◌<◌, ◌≤◌, true, false, length, List, IfOk, IfErr, Ok, Err, Result};
 ghost use Rattle.script_tokens.specs.Bytes.{kind_of, place_after, first_place, token_at};
-ghost use Rattle.script_tokens.specs.Lexing.{inside_after, is_bad, atom_ended, made, fits, lexed, Pushes};
+ghost use Rattle.script_tokens.specs.Lexing.{inside_after, is_bad, IsQuiet, atom_ended, made, fits, lexed, Pushes};
 ghost use Rattle.script_tokens.specs.Reading.{AreWithin};
 ghost use Rattle.script_tokens.specs.Texts.{AreTokens, IsFirstFault};
 ghost use Rattle.script_tokens.specs.declared.token.Token.{Token};
@@ -49,6 +49,20 @@ fn is_bad(inside: Inside, kind: Kind) -> bool
     }
 }
 
+/// Whether a byte of this kind makes no token, and leaves what the lexer stands in.
+fn is_quiet(inside: Inside, kind: Kind) -> bool
+    ensures { result ≡ true → IsQuiet inside kind }
+{
+    match (inside, kind) {
+        (Inside::Atom(_), Kind::Letter) => true,
+        (Inside::Nothing, Kind::Blank) => true,
+        (Inside::Nothing, Kind::LineEnd) => true,
+        (Inside::Comment, Kind::LineEnd) => false,
+        (Inside::Comment, _) => true,
+        (_, _) => false,
+    }
+}
+
 fn place_after(place: Place, kind: Kind) -> Place
     requires room { place.at + 1 < usize.MAX }
     requires lines { place.position.line ≤ place.at + 1 }
@@ -90,6 +104,10 @@ pub fn cut(alloc: Global, text: &str, limits: Limits) -> Result<Vec<Token>, Scri
     };
     for byte in text.as_bytes() {
         let kind = kind_of(*byte);
+        if is_quiet(inside, kind) {
+            place = place_after(place, kind);
+            continue;
+        }
         push_made(&mut tokens, limits, inside, place, kind)?;
         if is_bad(inside, kind) {
             return Err(ScriptFault::Byte(place.position));

@@ -86,5 +86,7 @@ pub fn copies<S: Store>() -> Result<(), Fail> {
     other.copy_from(&S::empty());
     holds(other.same(&S::empty()), "empty again")?;
     holds(!other.same(&store), "parted from the store")?;
+    other.copy_from_config(&config);
+    holds(other.same(&store), "the same as the Config copied")?;
     Ok(())
 }

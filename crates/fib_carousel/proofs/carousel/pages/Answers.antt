@@ -1,8 +1,7 @@
-use Rattle.std.proofs.Common.{◌∙◌, ap}
+use Rattle.std.proofs.Common.{◌∙◌}
 use Rattle.fib_carousel.specs.Packing.{rounds_of}
-use Rattle.fib_carousel.specs.Pages.{rounds}
 use Rattle.fib_carousel.proofs.Least.{of_packing}
 use Rattle.fib_carousel.proofs.carousel.pages.Goals as goal
 
 pub returns-clause-packing : goal.returns-clause-packing
-returns-clause-packing g c = λ ns p. c.pages.ensures ∙ ap (rounds c.args.mode) c.new.ensures ∙ of_packing c.args.mode (rounds_of c.args.mode) _ ns p
+returns-clause-packing g c = λ ns p. c.pages.ensures ∙ of_packing c.args.mode (rounds_of c.args.mode) _ ns p

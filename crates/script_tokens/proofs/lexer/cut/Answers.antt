@@ -4,7 +4,7 @@ use Rattle.script_tokens.specs.declared.token.Inside.TheVariants.{Nothing}
 use Rattle.script_tokens.specs.declared.token.Kind.TheVariants.{Blank}
 use Rattle.script_tokens.specs.Bytes.{first_place}
 use Rattle.script_tokens.specs.Lexing.{lexed, made, atom_ended}
-use Rattle.script_tokens.proofs.Lexing.{cut_on, fault_pushed, bad_here, cut_end, fault_at_end, its_fault, follows}
+use Rattle.script_tokens.proofs.Lexing.{cut_on, quiet_on, fault_pushed, bad_here, cut_end, fault_at_end, its_fault, follows}
 use Rattle.script_tokens.proofs.lexer.cut.Goals as goal
 
 pub returns-in_err-push_made-clause-fault : goal.returns-in_err-push_made-clause-fault
@@ -19,11 +19,21 @@ returns-then-is_bad-clause-fault c = λ ne.
     ap (lexed c.args.limits Nothing first_place) (sym c.as_bytes-byte-items.ensures.value)
     ∙ bad_here c.args.limits (lexed c.args.limits Nothing first_place c.as_bytes-byte-items.result.now) c.loop-byte.tokens.items c.push_made.new.tokens.items c.loop-byte.inside c.loop-byte.place c.as_bytes-byte-items.result.now c.loop-byte.byte-index c.kind_of-kind.result c.loop-byte-test.true c.kind_of-kind.ensures c.in_ok-push_made.ensures (sym c.is_bad.ensures ∙ c.if-is_bad.true) c.loop-byte.invariant.so_far
 
-pub loop-byte-preserved : goal.loop-byte-preserved
-loop-byte-preserved c =
+pub loop-byte-preserved-then-is_quiet : goal.loop-byte-preserved-then-is_quiet
+loop-byte-preserved-then-is_quiet c =
     let f = follows c.loop-byte.place c.place_after-place.result c.kind_of-kind.result c.place_after-place.ensures in
     record {
-      so_far = cut_on c.args.limits (lexed c.args.limits Nothing first_place c.as_bytes-byte-items.result.now) c.loop-byte.tokens.items c.push_made.new.tokens.items c.loop-byte.inside c.inside_after-inside.result c.loop-byte.place c.place_after-place.result c.as_bytes-byte-items.result.now c.loop-byte.byte-index c.kind_of-kind.result c.loop-byte-test.true c.kind_of-kind.ensures c.in_ok-push_made.ensures (sym c.is_bad.ensures ∙ c.if-is_bad.false) c.inside_after-inside.ensures c.place_after-place.ensures c.loop-byte.invariant.so_far;
+      so_far = quiet_on c.args.limits (lexed c.args.limits Nothing first_place c.as_bytes-byte-items.result.now) c.loop-byte.tokens.items c.loop-byte.inside c.loop-byte.place c.place_after-place.result c.as_bytes-byte-items.result.now c.loop-byte.byte-index c.kind_of-kind.result c.loop-byte-test.true c.kind_of-kind.ensures (c.is_quiet.ensures c.if-is_quiet.true) c.place_after-place.ensures c.loop-byte.invariant.so_far;
+      at = omega (arith, f.at, c.loop-byte.invariant.at);
+      lines = omega (arith, f.at, f.line, c.loop-byte.invariant.lines);
+      columns = omega (arith, f.at, f.column, c.loop-byte.invariant.columns);
+    }
+
+pub loop-byte-preserved : goal.loop-byte-preserved
+loop-byte-preserved c =
+    let f = follows c.loop-byte.place c.place_after-place-in-loop-byte.result c.kind_of-kind.result c.place_after-place-in-loop-byte.ensures in
+    record {
+      so_far = cut_on c.args.limits (lexed c.args.limits Nothing first_place c.as_bytes-byte-items.result.now) c.loop-byte.tokens.items c.push_made.new.tokens.items c.loop-byte.inside c.inside_after-inside.result c.loop-byte.place c.place_after-place-in-loop-byte.result c.as_bytes-byte-items.result.now c.loop-byte.byte-index c.kind_of-kind.result c.loop-byte-test.true c.kind_of-kind.ensures c.in_ok-push_made.ensures (sym c.is_bad.ensures ∙ c.if-is_bad.false) c.inside_after-inside.ensures c.place_after-place-in-loop-byte.ensures c.loop-byte.invariant.so_far;
       at = omega (arith, f.at, c.loop-byte.invariant.at);
       lines = omega (arith, f.at, f.line, c.loop-byte.invariant.lines);
       columns = omega (arith, f.at, f.column, c.loop-byte.invariant.columns);

@@ -5,9 +5,9 @@ use Rattle.mux_types.proofs.Tables.{ascends_with, not_both}
 use Rattle.mux_types.proofs.sorted_table.SortedTable.insert.Given as given
 use Rattle.mux_types.proofs.sorted_table.SortedTable.insert.Goals as goal
 
-new_is : (g : given.Over) (c : goal.After-insert g) → c.insert.new.self.items ≡ with_entry g.T.Keyed.key c.args.entry c.args.self.now
+new_is : (g : given.Over) (c : goal.After-insert g) → c.insert.new.self ≡ with_entry g.T.Keyed.key c.args.entry c.args.self.now
 new_is g c =
-    c.insert.ensures.items
+    c.insert.ensures
     ∙ ap (λ (xs : List g.row.T.Denot). insert xs c.in-Err.place c.args.entry) (sym c.as_slice.ensures.value)
     ∙ c.in-Err.ensures.inserted c.args.entry (sym c.key.ensures)
     ∙ ap (with_entry g.T.Keyed.key c.args.entry) (c.as_slice.ensures.value ∙ c.self.view_is)

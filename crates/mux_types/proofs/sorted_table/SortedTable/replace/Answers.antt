@@ -1,16 +1,12 @@
-use Rattle.std.proofs.Common.{◌≡◌, List, length, refl, set, ap, sym, ◌∙◌}
-use Rattle.std.specs.List.{refill}
+use Rattle.std.proofs.Common.{◌≡◌, List, sym, ap, set, ◌∙◌}
 use Rattle.mux_types.specs.Tables.{with_entry_changed}
-use Rattle.mux_types.proofs.Tables.{ascends_changed, changed_absent, refilled}
+use Rattle.mux_types.proofs.Tables.{ascends_changed, changed_absent}
 use Rattle.mux_types.proofs.sorted_table.SortedTable.replace.Given as given
 use Rattle.mux_types.proofs.sorted_table.SortedTable.replace.Goals as goal
 
-new_is : (g : given.Over) (c : goal.After-drop-deref_mut g)
-    → refill (length c.self.inside.entries.items) c.self.inside.entries.items (set c.deref_mut.result.now c.in-Ok.place c.args.entry)
-    ≡ with_entry_changed g.T.Keyed.key c.args.entry c.args.self.now
+new_is : (g : given.Over) (c : goal.After-set g) → c.set.new.self ≡ with_entry_changed g.T.Keyed.key c.args.entry c.args.self.now
 new_is g c =
-    ap (λ (xs : List g.row.T.Denot). refill (length c.self.inside.entries.items) c.self.inside.entries.items (set xs c.in-Ok.place c.args.entry)) c.deref_mut.ensures.value
-    ∙ refilled c.self.inside.entries.items (length c.self.inside.entries.items) c.in-Ok.place c.args.entry refl
+    c.set.ensures
     ∙ ap (λ (xs : List g.row.T.Denot). set xs c.in-Ok.place c.args.entry) (sym c.as_slice.ensures.value)
     ∙ c.in-Ok.ensures.changed c.args.entry (sym c.key.ensures)
     ∙ ap (with_entry_changed g.T.Keyed.key c.args.entry) (c.as_slice.ensures.value ∙ c.self.view_is)

@@ -1,0 +1,214 @@
+-- Entries placed one after another, and runs of entries of one head and size.
+use Rattle.std.proofs.Common.{◌≡◌, ℕ, zero, suc, ◌+◌, ◌-◌, ◌*◌, ◌/◌, ◌%◌, ◌<◌, ◌≤◌, Bool, true, false, List, [], ◌∷◌, ◌++◌, length, map, drop, slice_get, Option, Some, None, refl, sym, ap, ◌∙◌, arith, inl, inr}
+use Rattle.std.proofs.Math.Nat.{div-mul-le_self, mod-eq-sub-div-mul, le-div_iff_mul-le, mod-lt}
+use Rattle.std.proofs.lemmas.Bool.{cases_lt, le-leb, lt-leb}
+use Rattle.mux_types.proofs.Walking.{cut, walked}
+use Rattle.mux_types.specs.declared.parts.Sub.{Sub}
+use Rattle.mux_types.specs.declared.parts.Packet.{Packet}
+use Rattle.mux_types.specs.declared.parts.Service.{Service}
+use Rattle.mux_config.specs.Configuration.{Configuration}
+use Rattle.mux_entries.specs.Facts.{Marked, marked, facts_of, sub_entry, service_entry, packet_entry}
+use Rattle.fib_codec.specs.declared.head.Head.{Head}
+use Rattle.fib_codec.specs.Modes.{fib_count}
+use Rattle.fib_codec.specs.Spelling.{head_of}
+use Rattle.fib_codec.specs.declared.modes.Mode.{Mode}
+use Rattle.fib_carousel.specs.declared.pack_state.EntryShape.{EntryShape}
+use Rattle.fib_carousel.specs.declared.pack_state.PackState.{PackState}
+use Rattle.fib_carousel.specs.Packing.{room, cost, size_of, last_number}
+use Rattle.fib_carousel.specs.Greedy.{start, placed, numbers_from}
+use Rattle.fib_carousel.specs.Pages.{page_set, rounds}
+use Rattle.fib_carousel.specs.Runs.{shape_of, sub_shape, packet_shape, shape_cost, state_at, step, steps, all_placed}
+use Rattle.fib_carousel.proofs.Least.{room_low}
+use Rattle.fib_carousel.proofs.Sent.{same_head_own}
+use Rattle.fib_carousel.proofs.Walk.{IsThen}
+
+-- ---- an entry is placed by its shape
+
+cost_same : (h : Option Head) (m : Marked) → cost h m ≡ shape_cost h (shape_of m)
+cost_same None m = refl
+cost_same (Some h) m = refl
+
+pub placed_step : (mode : Mode) (m : Marked) (p : PackState) → placed mode m p ≡ step mode (shape_of m) p
+placed_step mode m p = rw (cost_same p.head m) refl
+
+-- the number of the last FIB
+pub last_placed : (mode : Mode) (ms : List Marked) (p : PackState) → last_number p.fib (numbers_from mode p ms) ≡ (all_placed mode ms p).fib
+last_placed mode [] p = refl
+last_placed mode (m ∷ ms) p = last_placed mode ms (placed mode m p)
+
+-- ---- a run
+
+step_stays : (mode : Mode) (s : EntryShape) (fib used : ℕ) → used + s.size ≤ room mode fib → step mode s (state_at s fib used) ≡ state_at s fib (used + s.size)
+step_stays mode s fib used fits = rw (same_head_own s.head, le-leb (used + s.size) (room mode fib) fits) refl
+
+step_leaves : (mode : Mode) (s : EntryShape) (fib used : ℕ) → s.size ≤ 21 → room mode fib < used + s.size → step mode s (state_at s fib used) ≡ state_at s (fib + 1) (2 + s.size)
+step_leaves mode s fib used small full =
+    let next : 2 + s.size ≤ room mode (fib + 1) = omega (arith, small, room_low mode (fib + 1)) in
+    rw (same_head_own s.head, lt-leb (used + s.size) (room mode fib) full, le-leb (2 + s.size) (room mode (fib + 1)) next) refl
+
+steps_add : (mode : Mode) (s : EntryShape) (m n : ℕ) (p : PackState) → steps mode s (m + n) p ≡ steps mode s n (steps mode s m p)
+steps_add mode s zero n p = let none : 0 + n ≡ n = omega arith in ap (λ k. steps mode s k p) none
+steps_add mode s (suc m) n p =
+    let one : suc m + n ≡ suc (m + n) = omega arith in
+    ap (λ k. steps mode s k p) one ∙ steps_add mode s m n (step mode s p)
+
+pub run_fits : (mode : Mode) (s : EntryShape) (fib used n : ℕ) → used + n * s.size ≤ room mode fib → steps mode s n (state_at s fib used) ≡ state_at s fib (used + n * s.size)
+run_fits mode s fib used zero fits = ap (state_at s fib) (omega arith)
+run_fits mode s fib used (suc n) fits =
+    let more : suc n * s.size ≡ s.size + n * s.size = omega arith in
+    let first : used + s.size ≤ room mode fib = omega (arith, fits, more) in
+    let others : used + s.size + n * s.size ≤ room mode fib = omega (arith, fits, more) in
+    let whole : used + s.size + n * s.size ≡ used + suc n * s.size = omega (arith, more) in
+    ap (steps mode s n) (step_stays mode s fib used first) ∙ run_fits mode s fib (used + s.size) n others ∙ ap (state_at s fib) whole
+
+-- as many as fit, and one more in the next FIB
+pub run_leaves : (mode : Mode) (s : EntryShape) (fib used fit left : ℕ) → s.size ≤ 21 → used + fit * s.size ≤ room mode fib → room mode fib < used + fit * s.size + s.size
+    → steps mode s (fit + suc left) (state_at s fib used) ≡ steps mode s left (state_at s (fib + 1) (2 + s.size))
+run_leaves mode s fib used fit left small fits full =
+    steps_add mode s fit (suc left) (state_at s fib used)
+    ∙ ap (λ (q : PackState). steps mode s left (step mode s q)) (run_fits mode s fib used fit fits)
+    ∙ ap (steps mode s left) (step_leaves mode s fib (used + fit * s.size) small full)
+
+-- ---- a run as it is counted
+
+step_first : (mode : Mode) (s : EntryShape) (n : ℕ) (p : PackState) → 1 ≤ n → steps mode s n p ≡ steps mode s (n - 1) (step mode s p)
+step_first mode s zero p some = absurd (omega (arith, some))
+step_first mode s (suc n) p some = let less : n ≡ suc n - 1 = omega arith in ap (λ k. steps mode s k (step mode s p)) less
+
+-- what a state is behind an entry of this shape
+pub record IsBehind (mode : Mode) (s : EntryShape) (p : PackState) : Type 0 where
+  pub used : p.used ≤ room mode p.fib
+  pub head : p.head ≡ Some s.head
+
+step_behind : (mode : Mode) (s : EntryShape) (p : PackState) → s.size ≤ 21 → IsBehind mode s (step mode s p)
+step_behind mode s p small =
+    elim (cases_lt (room mode p.fib) (p.used + shape_cost p.head s)) [
+      | inl full ↦
+          let next : 2 + s.size ≤ room mode (p.fib + 1) = omega (arith, small, room_low mode (p.fib + 1)) in
+          rw (lt-leb (p.used + shape_cost p.head s) (room mode p.fib) full, le-leb (2 + s.size) (room mode (p.fib + 1)) next) (record { used = next; head = refl })
+      | inr fits ↦ rw (le-leb (p.used + shape_cost p.head s) (room mode p.fib) fits) (record { used = fits; head = refl })
+    ]
+
+pub record Begun (mode : Mode) (s : EntryShape) (n : ℕ) (p q : PackState) : Type 0 where
+  pub behind : IsBehind mode s q
+  pub rest : steps mode s (n - 1) q ≡ steps mode s n p
+
+pub run_begun : (mode : Mode) (s : EntryShape) (n : ℕ) (p q : PackState) → s.size ≤ 21 → 1 ≤ n → q ≡ step mode s p → Begun mode s n p q
+run_begun mode s n p q small some is =
+    rw is (record { behind = step_behind mode s p small; rest = sym (step_first mode s n p some) })
+
+-- the state itself, from its fields
+as_state : (mode : Mode) (s : EntryShape) (p : PackState) → IsBehind mode s p → p ≡ state_at s p.fib p.used
+as_state mode s p h = ap (λ (g : Option Head). let q : PackState = record { fib = p.fib; used = p.used; head = g } in q) h.head
+
+-- those that are left fit
+pub run_done : (mode : Mode) (s : EntryShape) (p : PackState) (n fit : ℕ) → IsBehind mode s p → 1 ≤ s.size → fit ≡ (room mode p.fib - p.used) / s.size → n ≤ fit
+    → (p.used + n * s.size ≤ room mode p.fib) × (steps mode s n p ≡ record { fib = p.fib; used = p.used + n * s.size; head = p.head })
+run_done mode s p n fit h some is few =
+    let low : n ≤ (room mode p.fib - p.used) / s.size = omega (arith, is, few) in
+    let within : n * s.size ≤ room mode p.fib - p.used = (le-div_iff_mul-le some).0 low in
+    let fits : p.used + n * s.size ≤ room mode p.fib = omega (arith, within, h.used) in (
+      fits,
+      ap (λ (q : PackState). steps mode s n q) (as_state mode s p h) ∙ run_fits mode s p.fib p.used n fits
+          ∙ ap (λ (g : Option Head). let q : PackState = record { fib = p.fib; used = p.used + n * s.size; head = g } in q) (sym h.head),
+    )
+
+-- as many as fit, and the next FIB is begun
+pub run_over : (mode : Mode) (s : EntryShape) (p : PackState) (n fit : ℕ) → IsBehind mode s p → 1 ≤ s.size → s.size ≤ 21 → fit ≡ (room mode p.fib - p.used) / s.size → fit < n
+    → steps mode s n p ≡ steps mode s (n - fit - 1) (record { fib = p.fib + 1; used = 2 + s.size; head = p.head })
+run_over mode s p n fit h some small is many =
+    let free : ℕ = room mode p.fib - p.used in
+    let low : free / s.size * s.size ≤ free = div-mul-le_self free s.size in
+    let left : free % s.size ≡ free - free / s.size * s.size = mod-eq-sub-div-mul free s.size in
+    let less : free % s.size < s.size = mod-lt free some in
+    let same : fit * s.size ≡ free / s.size * s.size = ap (λ k. k * s.size) is in
+    let fits : p.used + fit * s.size ≤ room mode p.fib = omega (arith, low, same, h.used) in
+    let full : room mode p.fib < p.used + fit * s.size + s.size = omega (arith, low, left, less, same, h.used) in
+    let count : n ≡ fit + suc (n - fit - 1) = omega (arith, many) in
+    ap (λ k. steps mode s k p) count
+    ∙ ap (λ (q : PackState). steps mode s (fit + suc (n - fit - 1)) q) (as_state mode s p h)
+    ∙ run_leaves mode s p.fib p.used fit (n - fit - 1) small fits full
+    ∙ ap (λ (g : Option Head). steps mode s (n - fit - 1) (let q : PackState = record { fib = p.fib + 1; used = 2 + s.size; head = g } in q)) (sym h.head)
+
+-- ---- the entries of a configuration
+
+front_placed : {A : Type 0} (mode : Mode) (next : Bool) (entry : A → _) (xs : List A) (rest : List _) (p : PackState)
+    → all_placed mode (map (marked next) (map entry xs ++ rest)) p ≡ all_placed mode (map (marked next) rest) (all_placed mode (map (λ x. marked next (entry x)) xs) p)
+front_placed mode next entry [] rest p = refl
+front_placed mode next entry (x ∷ xs) rest p = front_placed mode next entry xs rest (placed mode (marked next (entry x)) p)
+
+last_mapped : {A : Type 0} (mode : Mode) (next : Bool) (entry : A → _) (xs : List A) (p : PackState)
+    → all_placed mode (map (marked next) (map entry xs)) p ≡ all_placed mode (map (λ x. marked next (entry x)) xs) p
+last_mapped mode next entry [] p = refl
+last_mapped mode next entry (x ∷ xs) p = last_mapped mode next entry xs (placed mode (marked next (entry x)) p)
+
+pub facts_placed : (mode : Mode) (c : Configuration) (next : Bool) (p : PackState)
+    → all_placed mode (facts_of c next) p
+    ≡ all_placed mode (map (λ x. marked next (packet_entry x)) c.packets)
+    (all_placed mode (map (λ x. marked next (service_entry x)) c.services) (all_placed mode (map (λ x. marked next (sub_entry x)) c.subs) p))
+facts_placed mode c next p =
+    front_placed mode next sub_entry c.subs (map service_entry c.services ++ map packet_entry c.packets) p
+    ∙ front_placed mode next service_entry c.services (map packet_entry c.packets) _
+    ∙ last_mapped mode next packet_entry c.packets _
+
+-- those of the services are placed one by one
+pub service_placed : (mode : Mode) (next : Bool) (xs : List Service) (i : ℕ) (x : Service) (p q : PackState) (shape : EntryShape) (whole : PackState) → slice_get xs i ≡ Some x
+    → shape.head ≡ head_of (marked next (service_entry x)) → shape.size ≡ size_of (marked next (service_entry x)) → IsThen mode shape p q
+    → all_placed mode (map (λ s. marked next (service_entry s)) (drop i xs)) p ≡ whole
+    → all_placed mode (map (λ s. marked next (service_entry s)) (drop (i + 1) xs)) q ≡ whole
+service_placed mode next xs i x p q shape whole there head size then_is so_far =
+    let on : all_placed mode (map (λ s. marked next (service_entry s)) (drop i xs)) p
+    ≡ all_placed mode (map (λ s. marked next (service_entry s)) (drop (i + 1) xs)) (placed mode (marked next (service_entry x)) p) =
+    ap (λ (ys : List Service). all_placed mode (map (λ s. marked next (service_entry s)) ys) p) (cut xs i x there) in
+    ap (all_placed mode (map (λ s. marked next (service_entry s)) (drop (i + 1) xs))) (then_is (marked next (service_entry x)) head size) ∙ sym on ∙ so_far
+
+pub services_end : (mode : Mode) (next : Bool) (xs : List Service) (i : ℕ) (p whole : PackState) → length xs ≤ i
+    → all_placed mode (map (λ s. marked next (service_entry s)) (drop i xs)) p ≡ whole → p ≡ whole
+services_end mode next xs i p whole past so_far =
+    sym (ap (λ (ys : List Service). all_placed mode (map (λ s. marked next (service_entry s)) ys) p) (walked xs i past)) ∙ so_far
+
+both_placed : (mode : Mode) (ms ns : List Marked) (p : PackState) → all_placed mode (ms ++ ns) p ≡ all_placed mode ns (all_placed mode ms p)
+both_placed mode [] ns p = refl
+both_placed mode (m ∷ ms) ns p = both_placed mode ms ns (placed mode m p)
+
+-- where the last entry stands, and so how many pages there are
+pub one_counted : (mode : Mode) (c : Configuration) (last : PackState) → last ≡ all_placed mode (facts_of c false) start → last.fib / fib_count mode + 1 ≡ rounds mode (page_set c None)
+one_counted mode c last is =
+    ap (λ (q : PackState). q.fib / fib_count mode + 1) is ∙ ap (λ n. n / fib_count mode + 1) (sym (last_placed mode (facts_of c false) start))
+
+pub two_counted : (mode : Mode) (c d : Configuration) (first last : PackState) → first ≡ all_placed mode (facts_of c false) start → last ≡ all_placed mode (facts_of d true) first
+    → last.fib / fib_count mode + 1 ≡ rounds mode (page_set c (Some d))
+two_counted mode c d first last is then_is =
+    let whole : last ≡ all_placed mode (facts_of c false ++ facts_of d true) start =
+    then_is ∙ ap (all_placed mode (facts_of d true)) is ∙ sym (both_placed mode (facts_of c false) (facts_of d true) start) in
+    ap (λ (q : PackState). q.fib / fib_count mode + 1) whole ∙ ap (λ n. n / fib_count mode + 1) (sym (last_placed mode (facts_of c false ++ facts_of d true) start))
+
+pub subs_placed : (mode : Mode) (next : Bool) (xs : List Sub) (p : PackState)
+    → all_placed mode (map (λ x. marked next (sub_entry x)) xs) p
+    ≡ steps mode (sub_shape next) (length xs) p
+subs_placed mode next [] p = refl
+subs_placed mode next (x ∷ xs) p =
+    subs_placed mode next xs (placed mode (marked next (sub_entry x)) p)
+    ∙ ap (λ (q : PackState). steps mode (sub_shape next) (length xs) q) (placed_step mode (marked next (sub_entry x)) p)
+
+pub packets_placed : (mode : Mode) (next : Bool) (xs : List Packet) (p : PackState)
+    → all_placed mode (map (λ x. marked next (packet_entry x)) xs) p
+    ≡ steps mode (packet_shape next) (length xs) p
+packets_placed mode next [] p = refl
+packets_placed mode next (x ∷ xs) p =
+    packets_placed mode next xs (placed mode (marked next (packet_entry x)) p)
+    ∙ ap (λ (q : PackState). steps mode (packet_shape next) (length xs) q) (placed_step mode (marked next (packet_entry x)) p)
+
+pub config_placed : (mode : Mode) (c : Configuration) (next : Bool) (p subs services last : PackState) (s t : EntryShape) (m n : ℕ)
+    → s ≡ sub_shape next → m ≡ length c.subs → subs ≡ steps mode s m p
+    → services ≡ all_placed mode (map (λ x. marked next (service_entry x)) c.services) subs
+    → t ≡ packet_shape next → n ≡ length c.packets → last ≡ steps mode t n services
+    → last ≡ all_placed mode (facts_of c next) p
+config_placed mode c next p subs services last s t m n sub_is sub_count ran middle packet_is packet_count ended =
+    let front : subs ≡ all_placed mode (map (λ x. marked next (sub_entry x)) c.subs) p =
+    ran ∙ ap (λ (r : EntryShape). steps mode r m p) sub_is ∙ ap (λ k. steps mode (sub_shape next) k p) sub_count ∙ sym (subs_placed mode next c.subs p) in
+    let behind : last ≡ all_placed mode (map (λ x. marked next (packet_entry x)) c.packets) services =
+    ended ∙ ap (λ (r : EntryShape). steps mode r n services) packet_is ∙ ap (λ k. steps mode (packet_shape next) k services) packet_count ∙ sym (packets_placed mode next c.packets services) in
+    behind
+    ∙ ap (all_placed mode (map (λ x. marked next (packet_entry x)) c.packets)) (middle ∙ ap (all_placed mode (map (λ x. marked next (service_entry x)) c.services)) front)
+    ∙ sym (facts_placed mode c next p)

@@ -1,0 +1,16 @@
+use Rattle.std.proofs.Common.{◌≡◌, ◌+◌, ◌*◌, ◌≤◌, map, drop}
+use Rattle.mux_config.specs.Configuration.{Configuration}
+use Rattle.mux_entries.specs.Facts.{marked, service_entry}
+use Rattle.fib_carousel.specs.Runs.{all_placed}
+use Rattle.fib_carousel.proofs.page_count.with_services.Given as goal
+
+abbrev pub invariant-loop-index : goal.invariant-loop-index
+invariant-loop-index g l =
+    let c : Configuration = g.S.Store.content l.store in
+    record {
+      used : l.state.used ≤ 30;
+      fib : l.state.fib ≤ l.fn.before.fib + 2 * l.index;
+      rest :
+          all_placed l.mode (map (λ s. marked l.next (service_entry s)) (drop l.index c.services)) l.state
+          ≡ all_placed l.mode (map (λ s. marked l.next (service_entry s)) c.services) l.fn.before;
+    }

@@ -1,5 +1,0 @@
-use Rattle.std.proofs.Common.{◌≡◌, take}
-use Rattle.mux_tables.proofs.store.TablesStore.from_config.Given as goal
-
-abbrev pub invariant-loop-index : goal.invariant-loop-index
-invariant-loop-index l = l.tables ≡ record l.config { subs = take l.index l.config.subs }
