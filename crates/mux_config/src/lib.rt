@@ -2,7 +2,8 @@
 //! (EN 300 401 clauses 6.1 to 6.3), and what the entries of FIG 0/0 to 0/3 can say of them.
 //!
 //! Begin with `Config`, and with `Store`, the trait of whatever holds a configuration and is edited. Edits are defined in
-//! `specs/Edits.antt`, what is said of a configuration on air in `specs/Facts.antt`, its record in `specs/Reading.antt`.
+//! `specs/Edits.antt`, the record of a configuration in `specs/Reading.antt`; what is said of one on air is defined in
+//! `specs/Facts.antt` of `mux_entries`.
 #![tactic(auto)]
 
 mod apply;

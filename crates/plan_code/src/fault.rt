@@ -14,7 +14,7 @@ pub enum CodeFault {
     /// The file doesn't begin with the four bytes `DABP`.
     #[error("Magic")]
     Magic,
-    /// The version is not 1.
+    /// The version is neither 1 nor 2.
     #[error("Version")]
     Version,
     /// Bytes of a field are missing.
