@@ -156,13 +156,14 @@ impl Item for Line {
     }
 }
 
-/// Reads this many items.
+/// Reads this many items, each of a byte or more.
 fn items<T: Item>(alloc: Global, reader: &mut Reader, count: u16) -> Result<Vec<T>, CodeFault>
     ensures read { GivesNext (λ v. v.items) result reader.new
         (items_at (T.item_at reader.old.total) [] count reader.old.rest) }
     ensures total { reader.new.total ≡ reader.old.total }
 {
-    let mut items = Vec::new(alloc);
+    let most = usize::from(count).min(reader.rest().len());
+    let mut items = Vec::with_capacity(alloc, most)?;
     for _ in 0..count {
         let item = T::read(reader)?;
         items.push(item)?;

@@ -5,7 +5,7 @@ use Rattle.plan_code.proofs.code_reader.items.Goals as goal
 
 pub returns-in_err-item-clause-read : goal.returns-in_err-item-clause-read
 returns-in_err-item-clause-read g c =
-    let p = err_from_is_err_and c.from_residual.result c.from_residual.ensures.1 in
+    let p = err_from_is_err_and c.from_residual-in_err-item.result c.from_residual-in_err-item.ensures.1 in
     rw (p.1, p.2) (items_fault g.T.Item.item_at c.args.reader.now.total c.loop.reader.total c.loop.invariant.total c.loop.items.items c.args.count c.loop.counter c.loop.reader.rest _ c.in_err-item.field-0.0 c.loop-test.true c.loop.invariant.given c.in_err-item.ensures.read)
 
 pub loop-preserved : goal.loop-preserved
