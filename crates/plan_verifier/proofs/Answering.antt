@@ -1,12 +1,15 @@
 -- A test of the code answers what the test of the walk does, where both decide the same.
 
-use Rattle.std.proofs.Common.{◌≡◌, ℕ, ◌↔◌, Bool, true, false, IsTrue, refl, sym, length, Option, Some, None, IfSome}
+use Rattle.std.proofs.Common.{◌≡◌, ℕ, ◌↔◌, Bool, true, false, IsTrue, refl, sym, ap, ◌∙◌, ◌&&◌, length, Option, Some, None, IfSome}
+use Rattle.mux_config.specs.Configuration.{Configuration}
 use Rattle.plan_code.specs.declared.label.Label.{Label}
 use Rattle.plan_code.specs.declared.label.Swap.{Swap}
 use Rattle.plan_code.specs.declared.label.Swap.TheVariants.{Idle, Within, Perhaps}
 use Rattle.plan_code.specs.Program.{Program, IsProgram, IsLabel, label_at}
+use Rattle.plan_flow.specs.Flows.{known_at, flow_of}
+use Rattle.plan_flow.proofs.Finding.{swap_alone}
 use Rattle.plan_verifier.specs.Typing.{Known, FitsSwap}
-use Rattle.plan_verifier.specs.Walking.{is_fit, may_have_swapped}
+use Rattle.plan_verifier.specs.Walking.{includes, fits_swap, is_fit, may_have_swapped}
 use Rattle.plan_verifier.proofs.Deciding.{Decides, is_false, decides_fits}
 use Rattle.plan_verifier.proofs.Tabled.{tabled, label_of}
 
@@ -47,3 +50,23 @@ next_fits t declared e = next_there t.pending declared.pending t declared ((deci
 
 pub current_fits : (t declared : Known) → is_fit t declared ≡ true → may_have_swapped t.pending declared.pending ≡ false → t.current ≡ declared.current
 current_fits t declared e no_swap = current_there t.pending declared.pending t declared ((decides_fits t declared).told e).swap no_swap
+
+-- what the flow says of a label whose configurations these are, and then the counters
+pub fit_counters : (a b : Bool) (t declared : Known) (current next : Configuration) → a ≡ includes t.counters declared.counters → a ≡ true → current ≡ declared.current → next ≡ declared.next
+    → b ≡ fits_swap t.pending declared.pending (known_at (flow_of t)) (known_at (record { current = current; next = next; pending = declared.pending }))
+    → b ≡ is_fit t declared
+fit_counters a b t declared current next e true_here same_current same_next f =
+    let p = t.pending in
+    let q = declared.pending in
+    let first : fits_swap p q (known_at (flow_of t)) (known_at (record { current = current; next = next; pending = q }))
+    ≡ fits_swap p q (known_at (flow_of t)) (known_at (record { current = declared.current; next = next; pending = q })) =
+    ap (λ (c : Configuration). fits_swap p q (known_at (flow_of t)) (known_at (record { current = c; next = next; pending = q }))) same_current in
+    let second : fits_swap p q (known_at (flow_of t)) (known_at (record { current = declared.current; next = next; pending = q }))
+    ≡ fits_swap p q (known_at (flow_of t)) (known_at (flow_of declared)) =
+    ap (λ (c : Configuration). fits_swap p q (known_at (flow_of t)) (known_at (record { current = declared.current; next = c; pending = q }))) same_next in
+    let whole : fits_swap p q t declared ≡ is_fit t declared = sym (ap (λ (x : Bool). x && fits_swap p q t declared) (sym e ∙ true_here)) in
+    f ∙ first ∙ second ∙ swap_alone p q t declared ∙ whole
+
+pub fit_no_counters : (a : Bool) (t declared : Known) → a ≡ includes t.counters declared.counters → a ≡ false → a ≡ is_fit t declared
+fit_no_counters a t declared e false_here =
+    false_here ∙ sym (ap (λ (x : Bool). x && fits_swap t.pending declared.pending t declared) (sym e ∙ false_here))

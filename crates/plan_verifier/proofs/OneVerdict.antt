@@ -14,8 +14,8 @@ use Rattle.plan_code.specs.declared.instr.Line.{Line}
 use Rattle.plan_code.specs.declared.instr.Instr.{Instr}
 use Rattle.plan_code.specs.declared.instr.Instr.TheVariants.{Wait, Until, WaitContact, CommitIn, CommitAt, Join, Settle, End, Edit as Edits, Test, Jump, Set, Loop}
 use Rattle.plan_code.specs.Program.{Program, IsProgram, IsInstr, IsEdit, instr_at, label_at}
-use Rattle.plan_verifier.specs.declared.cause.Cause.{Cause}
-use Rattle.plan_verifier.specs.declared.cause.Cause.TheVariants.{Table}
+use Rattle.plan_flow.specs.declared.cause.Cause.{Cause}
+use Rattle.plan_flow.specs.declared.cause.Cause.TheVariants.{Table}
 use Rattle.plan_verifier.specs.declared.cause.Refusal.{Refusal}
 use Rattle.plan_verifier.specs.Typing.{Known, IsFine, leaves, continues, waited, perhaps_swapped, paused, settled, known_after_swap, Arrives, Declares, IsOpening, IsTyping, IsTyped}
 use Rattle.plan_verifier.specs.Refusals.{IsTypingBelow, IsFirstPast, IsRefusedAt, IsRefused, CodesHaveOneVerdict, left_before}

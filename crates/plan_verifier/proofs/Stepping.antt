@@ -5,9 +5,10 @@ use Rattle.plan_code.specs.declared.label.Label.{Label}
 use Rattle.plan_code.specs.declared.instr.Line.{Line}
 use Rattle.plan_code.specs.declared.instr.Instr.{Instr}
 use Rattle.plan_code.specs.Program.{Program, instr_at, label_at}
-use Rattle.plan_verifier.specs.declared.cause.Cause.{Cause}
+use Rattle.plan_flow.specs.declared.cause.Cause.{Cause}
 use Rattle.plan_verifier.specs.Typing.{Known, leaves, continues}
 use Rattle.plan_verifier.specs.Walking.{whole_cause, unless, taken, opening_cause, opening_known, place_of, entered, declared_by, known_cause, passed_on, came_of, instr_or_end, refused_at, PassesInstr, past_end, walk, refusal_of}
+use Rattle.plan_flow.proofs.Finding.{unless_err, unless_ok}
 use Rattle.plan_verifier.proofs.Verdicts.{dropped, slice_there, stops, passes}
 
 pub entered_first : (code : Program) (pc : ℕ) (came : Option Known) → pc ≡ 0 → entered code pc came ≡ opening_known code (label_at code 0)
@@ -19,14 +20,6 @@ entered_later code zero came lt = absurd (omega (arith, lt))
 entered_later code (suc pc) came lt = refl
 
 -- ---- answers of functions
-
-unless_err : (o : Option Cause) (given : Cause) → Err given ≡ unless o → o ≡ Some given
-unless_err None given e = absurd cc
-unless_err (Some cause) given e = let same : given ≡ cause = cc in ap Some (sym same)
-
-unless_ok : (o : Option Cause) → Ok tt ≡ unless o → o ≡ None
-unless_ok None e = refl
-unless_ok (Some cause) e = absurd cc
 
 opens_err : (code : Program) (label : Label) (t : Known) (given : Cause) → label_at code 0 ≡ Some label → t ≡ declared_by code label → opening_cause code label t ≡ Some given
     → opening_known code (label_at code 0) ≡ Err given

@@ -8,7 +8,7 @@ use Rattle.fib_codec.specs.declared.modes.Mode.TheVariants.{I, II, III, IV}
 use Rattle.plan_code.specs.declared.plan.Plan.{Plan}
 use Rattle.plan_code.specs.declared.label.Swap.TheVariants.{Idle, Within, Perhaps}
 use Rattle.plan_code.specs.declared.instr.Instr.TheVariants.{Wait, Until, WaitContact, CommitIn, CommitAt, Join, Settle, Edit as Edits}
-use Rattle.plan_verifier.specs.declared.cause.Cause.TheVariants.{Pending, JoinIdle, Edit as OfEdit}
+use Rattle.plan_flow.specs.declared.cause.Cause.TheVariants.{Pending, JoinIdle, Edit as OfEdit}
 use Rattle.plan_verifier.specs.Typing.{Known, CanCommit, IsFine, FitsSwap, leaves}
 use Rattle.plan_verifier.specs.Refusals.{InstrRefused}
 use Rattle.plan_verifier.proofs.Deciding.{decides_room}

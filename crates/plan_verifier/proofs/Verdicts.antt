@@ -10,8 +10,8 @@ use Rattle.plan_code.specs.declared.label.Label.{Label}
 use Rattle.plan_code.specs.declared.instr.Line.{Line}
 use Rattle.plan_code.specs.declared.instr.Instr.{Instr}
 use Rattle.plan_code.specs.Program.{Program, IsProgram, label_key, instr_at, label_at}
-use Rattle.plan_verifier.specs.declared.cause.Cause.{Cause}
-use Rattle.plan_verifier.specs.declared.cause.Cause.TheVariants.{Table}
+use Rattle.plan_flow.specs.declared.cause.Cause.{Cause}
+use Rattle.plan_flow.specs.declared.cause.Cause.TheVariants.{Table}
 use Rattle.plan_verifier.specs.declared.cause.Refusal.{Refusal}
 use Rattle.plan_verifier.specs.Typing.{Known, leaves, continues, Arrives, Declares, HasOpening, LabelStands, IsAfter, IsTyping, IsTyped}
 use Rattle.plan_verifier.specs.Refusals.{InstructionRefused, IsSafeBelow, IsTypingBelow, IsFirstPast, IsRefusedAt, IsRefused, left_by, left_before}

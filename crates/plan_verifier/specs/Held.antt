@@ -6,9 +6,9 @@ use Rattle.plan_verifier.specs.Typing.{Known}
 abbrev pub known_of : {S : Type 0} → (S → Configuration) → KnownState S → Known
 known_of content s =
     record {
-      current = content s.current;
-      next = content s.next;
-      pending = s.pending;
+      current = content s.flow.current;
+      next = content s.flow.next;
+      pending = s.flow.pending;
       counters = s.counters;
       allowance = s.allowance;
     }

@@ -1,45 +1,18 @@
 -- Why a code is refused, and where: the first cause in the order tested, at the first instruction that has one.
-use Rattle.std.specs.Prelude.{◌≡◌, ◌≢◌, ℕ, zero, suc, ◌+◌, ◌<◌, ◌≤◌, ◌⊎◌, true, false, if◌then◌else◌, List, length, slice_get, Contains, Option, Some, None}
-use Rattle.mux_config.specs.Edits.{edit_fault}
+pub use Rattle.plan_flow.specs.Causes.{Where, WhereSome, ◌orelse◌, CommitRefused, FlowRefused}
+use Rattle.std.specs.Prelude.{◌≡◌, ℕ, zero, suc, ◌+◌, ◌<◌, ◌≤◌, ◌⊎◌, true, false, if◌then◌else◌, List, length, slice_get, Contains, Option, Some, None}
 use Rattle.mux_config.specs.Sound.{first_fault}
 use Rattle.plan_code.specs.declared.plan.Plan.{Plan}
 use Rattle.plan_code.specs.declared.label.Label.{Label}
-use Rattle.plan_code.specs.declared.label.Swap.TheVariants.{Idle}
 use Rattle.plan_code.specs.declared.instr.Instr.{Instr}
-use Rattle.plan_code.specs.declared.instr.Instr.TheVariants.{Wait, Until, WaitContact, CommitIn, CommitAt, Join, Settle, End, Edit as Edits, Test, Jump, Set, Loop}
+use Rattle.plan_code.specs.declared.instr.Instr.TheVariants.{Test, Jump, Loop}
 use Rattle.plan_code.specs.Flags.{is_set}
-use Rattle.plan_code.specs.Machine.{IsSwapCount}
 use Rattle.plan_code.specs.Program.{Program, IsProgram, instr_at, label_at}
-use Rattle.plan_verifier.specs.declared.cause.Cause.{Cause}
-use Rattle.plan_verifier.specs.declared.cause.Cause.TheVariants.{Target, Table, Edit as OfEdit, Config as OfConfig, Pending, NoChange, Notice, Count, JoinIdle, SwapUncertain, CounterUnset, Mismatch, Cost, Round, FallsOff}
-use Rattle.plan_verifier.specs.Typing.{Known, HasRoom, IsCertain, IsSurelyPending, pages_alone, leaves, target_of, continues, spent, Declares, Fits, IsInitial, HasOpening, LabelStands, IsAfter, IsFine, Reaches, Arrives, IsTyped}
-
--- ---- causes in order
-
--- this cause, where the fault holds
-abbrev pub Where : Type 0 → Cause → Cause → Type 0
-Where fault cause given = fault × (given ≡ cause)
-
--- the cause that names the fault, where there is one
-abbrev pub WhereSome : {T : Type 0} → Option T → (T → Cause) → Cause → Type 0
-WhereSome None cause given = ⊥
-WhereSome (Some fault) cause given = given ≡ cause fault
-
--- a cause tested first, or where none of those holds one tested later
-infixr 6 ◌orelse◌
-abbrev pub ◌orelse◌ : (Cause → Type 0) → (Cause → Type 0) → Cause → Type 0
-(first orelse later) given = first given ⊎ (((cause : Cause) → first cause → ⊥) × later given)
+use Rattle.plan_flow.specs.declared.cause.Cause.{Cause}
+use Rattle.plan_flow.specs.declared.cause.Cause.TheVariants.{Target, Table, Config as OfConfig, CounterUnset, Mismatch, Cost, Round, FallsOff}
+use Rattle.plan_verifier.specs.Typing.{Known, pages_alone, leaves, target_of, continues, spent, Declares, Fits, IsInitial, HasOpening, LabelStands, IsAfter, IsFine, Reaches, Arrives, IsTyped}
 
 -- ---- at an instruction of which it is known what holds
-
--- a commit; the fault is that of its delay or its count
-abbrev pub CommitRefused : Plan → Known → Type 0 → Cause → Cause → Type 0
-CommitRefused plan t fault cause =
-    Where (t.pending ≢ Idle) Pending
-    orelse Where fault cause
-    orelse WhereSome (first_fault t.next) OfConfig
-    orelse Where (t.next ≡ t.current) NoChange
-    orelse Where (HasRoom plan t → ⊥) Round
 
 -- a state comes to a label: it doesn't fit it, or it has too small an allowance
 abbrev pub FitsLabel : Program → Label → Known → Type 0
@@ -55,22 +28,14 @@ abbrev pub JumpRefused : Program → Option Label → Known → Cause → Type 0
 JumpRefused code None t given = given ≡ Target
 JumpRefused code (Some label) t given = EntryRefused code label t given
 
+-- an instruction: where it jumps to a label, or by what is known of the configurations and the swap
 abbrev pub InstrRefused : Program → Instr → Known → Cause → Type 0
-InstrRefused code (Edits edit) t = Where (t.pending ≢ Idle) Pending orelse WhereSome (edit_fault edit t.next) OfEdit
-InstrRefused code (CommitIn delay) t = CommitRefused code.plan t (delay < code.plan.notice) Notice
-InstrRefused code (CommitAt count) t = CommitRefused code.plan t (IsSwapCount code.plan.mode count → ⊥) Count
-InstrRefused code (Wait frames) t = Where (IsCertain frames t.pending → ⊥) SwapUncertain
-InstrRefused code (Until day) t = λ given. ⊥
-InstrRefused code (WaitContact contact closed) t = λ given. ⊥
-InstrRefused code Join t = Where (IsSurelyPending t.pending → ⊥) JoinIdle
-InstrRefused code Settle t = λ given. ⊥
 InstrRefused code (Test contact target) t = JumpRefused code (label_at code target) (spent t)
 InstrRefused code (Jump target) t = JumpRefused code (label_at code target) (spent t)
 InstrRefused code (Loop counter target) t =
     Where (is_set t.counters counter ≡ false) CounterUnset
     orelse JumpRefused code (label_at code target) (spent t)
-InstrRefused code (Set counter times) t = λ given. ⊥
-InstrRefused code End t = λ given. ⊥
+InstrRefused code i t = FlowRefused code.plan i t
 
 -- from the allowance on
 abbrev pub KnownRefused : Program → ℕ → Instr → Known → Cause → Type 0

@@ -1,94 +1,24 @@
 -- The verifier's walk over a code, as functions. No public contract needs this to be believed.
-use Rattle.std.specs.Prelude.{◌≡◌, ℕ, zero, suc, ◌+◌, ◌*◌, ◌%◌, ◌==◌, ◌&&◌, ◌||◌, Bool, true, false, not, if◌then◌else◌, nat_lt, nat_le, List, [], ◌∷◌, length, find, Option, Some, None, Result, Ok, Err, slice_get}
+pub use Rattle.plan_flow.specs.Tests.{cause_if, cause_of, ◌first_or◌, unless, is_same, is_idle, fits_swap, flow_cause, start_cause}
+use Rattle.std.specs.Prelude.{◌≡◌, ℕ, zero, suc, ◌+◌, ◌==◌, ◌&&◌, Bool, not, if◌then◌else◌, nat_lt, nat_le, List, [], ◌∷◌, length, find, Option, Some, None, Result, Ok, Err, slice_get}
 use Rattle.std.specs.Int.RustNames.{bit_and}
 use Rattle.mux_config.specs.Configuration.{Configuration, nothing}
-use Rattle.mux_config.specs.Change.{has_same_subs, has_same_services}
-use Rattle.mux_config.specs.Edits.{edit_fault}
-use Rattle.mux_config.specs.Sound.{first_fault}
-use Rattle.fib_codec.specs.Modes.{count_step}
-use Rattle.mux_entries.specs.declared.limits.TheConstants.{COUNTS}
 use Rattle.plan_code.specs.declared.plan.Plan.{Plan}
 use Rattle.plan_code.specs.declared.flags.Counters.{Counters}
 use Rattle.plan_code.specs.declared.label.Label.{Label}
 use Rattle.plan_code.specs.declared.label.Swap.{Swap}
-use Rattle.plan_code.specs.declared.label.Swap.TheVariants.{Idle, Within, Perhaps}
 use Rattle.plan_code.specs.declared.instr.Instr.{Instr}
 use Rattle.plan_code.specs.declared.instr.Line.{Line}
-use Rattle.plan_code.specs.declared.instr.Instr.TheVariants.{Wait, Until, WaitContact, CommitIn, CommitAt, Join, Settle, End, Edit as Edits, Test, Jump, Set, Loop}
+use Rattle.plan_code.specs.declared.instr.Instr.TheVariants.{End, Test, Jump, Loop}
 use Rattle.plan_code.specs.Flags.{is_set}
 use Rattle.plan_code.specs.Program.{Program, label_at}
-use Rattle.plan_verifier.specs.declared.cause.Cause.{Cause}
-use Rattle.plan_verifier.specs.declared.cause.Cause.TheVariants.{Target, Table, Edit as OfEdit, Config as OfConfig, Pending, NoChange, Notice, Count, JoinIdle, SwapUncertain, CounterUnset, Mismatch, Cost, Round, FallsOff}
+use Rattle.plan_flow.specs.declared.cause.Cause.{Cause}
+use Rattle.plan_flow.specs.declared.cause.Cause.TheVariants.{Target, Table, CounterUnset, Mismatch, Cost, FallsOff}
 use Rattle.plan_verifier.specs.declared.cause.Refusal.{Refusal}
-use Rattle.plan_verifier.specs.Typing.{Known, notice_pages, pages_alone, leaves, continues, spent}
-
--- ---- causes in order
-
--- this cause, where the test holds
-abbrev pub cause_if : Bool → Cause → Option Cause
-cause_if true cause = Some cause
-cause_if false cause = None
-
--- the cause that names a fault
-abbrev pub cause_of : {T : Type 0} → Option T → (T → Cause) → Option Cause
-cause_of None cause = None
-cause_of (Some fault) cause = Some (cause fault)
-
--- the first of two
-infixr 6 ◌first_or◌
-abbrev pub ◌first_or◌ : Option Cause → Option Cause → Option Cause
-(None first_or later) = later
-(Some cause first_or later) = Some cause
-
--- the answer of a function that finds this cause, or none
-abbrev pub unless : Option Cause → Result (Unit {0}) Cause
-unless None = Ok tt
-unless (Some cause) = Err cause
-
--- ---- tests
-
-abbrev pub is_same : Configuration → Configuration → Bool
-is_same c d = has_same_subs c d && has_same_services c d
-
-abbrev pub is_idle : Swap → Bool
-is_idle Idle = true
-is_idle (Within lo hi) = false
-is_idle (Perhaps hi) = false
-
-abbrev pub is_surely_pending : Swap → Bool
-is_surely_pending Idle = false
-is_surely_pending (Within lo hi) = true
-is_surely_pending (Perhaps hi) = false
-
-abbrev pub is_certain : ℕ → Swap → Bool
-is_certain frames Idle = true
-is_certain frames (Within lo hi) = nat_lt frames lo || nat_le hi frames
-is_certain frames (Perhaps hi) = true
-
-abbrev pub has_room_for_notice : Plan → Known → Bool
-has_room_for_notice plan t =
-    nat_le (notice_pages plan t) plan.period && nat_le (3 * notice_pages plan t) plan.notice
-    && nat_le (pages_alone plan t.next) plan.period
-
-abbrev pub is_swap_count : Plan → ℕ → Bool
-is_swap_count plan count = (count % count_step plan.mode == 0) && nat_lt count COUNTS
+use Rattle.plan_verifier.specs.Typing.{Known, leaves, continues, spent}
 
 abbrev pub includes : Counters → Counters → Bool
 includes a b = bit_and a.0 b.0 == b.0
-
-abbrev pub has_configurations_of : Known → Known → Bool
-has_configurations_of t declared = is_same t.current declared.current && is_same t.next declared.next
-
-abbrev pub fits_swap : Swap → Swap → Known → Known → Bool
-fits_swap Idle Idle t declared = has_configurations_of t declared
-fits_swap Idle (Within low high) t declared = false
-fits_swap Idle (Perhaps high) t declared = is_same t.current declared.next && is_same t.next declared.next
-fits_swap (Within lo hi) Idle t declared = false
-fits_swap (Within lo hi) (Within low high) t declared = nat_le low lo && nat_le hi high && has_configurations_of t declared
-fits_swap (Within lo hi) (Perhaps high) t declared = nat_le hi high && has_configurations_of t declared
-fits_swap (Perhaps hi) Idle t declared = false
-fits_swap (Perhaps hi) (Within low high) t declared = false
-fits_swap (Perhaps hi) (Perhaps high) t declared = nat_le hi high && has_configurations_of t declared
 
 abbrev pub is_fit : Known → Known → Bool
 is_fit t declared = includes t.counters declared.counters && fits_swap t.pending declared.pending t declared
@@ -101,19 +31,6 @@ abbrev pub is_initial : Known → Bool
 is_initial t = is_idle t.pending && (t.counters.0 == 0) && is_same t.current t.next
 
 -- ---- the cause at an instruction
-
--- of a commit, where no swap is pending and its delay or its count is right
-abbrev pub change_cause : Plan → Known → Option Cause
-change_cause plan t =
-    cause_of (first_fault t.next) OfConfig
-    first_or cause_if (is_same t.next t.current) NoChange
-    first_or cause_if (not (has_room_for_notice plan t)) Round
-
-abbrev pub commit_cause : Plan → Known → Bool → Cause → Option Cause
-commit_cause plan t fault cause =
-    cause_if (not (is_idle t.pending)) Pending
-    first_or cause_if fault cause
-    first_or change_cause plan t
 
 abbrev pub or_nothing : Option Configuration → Configuration
 or_nothing None = nothing
@@ -143,21 +60,16 @@ abbrev pub jump_cause : Program → Option Label → Known → Option Cause
 jump_cause code None t = Some Target
 jump_cause code (Some label) t = entry_cause code label t
 
-abbrev pub instr_cause : Program → Instr → Known → Option Cause
-instr_cause code (Edits edit) t = cause_if (not (is_idle t.pending)) Pending first_or cause_of (edit_fault edit t.next) OfEdit
-instr_cause code (CommitIn delay) t = commit_cause code.plan t (nat_lt delay code.plan.notice) Notice
-instr_cause code (CommitAt count) t = commit_cause code.plan t (not (is_swap_count code.plan count)) Count
-instr_cause code (Wait frames) t = cause_if (not (is_certain frames t.pending)) SwapUncertain
-instr_cause code (Until day) t = None
-instr_cause code (WaitContact contact closed) t = None
-instr_cause code Join t = cause_if (not (is_surely_pending t.pending)) JoinIdle
-instr_cause code Settle t = None
-instr_cause code (Test contact target) t = jump_cause code (label_at code target) (spent t)
-instr_cause code (Jump target) t = jump_cause code (label_at code target) (spent t)
-instr_cause code (Loop counter target) t =
+-- of a jump to a label
+abbrev pub target_cause : Program → Instr → Known → Option Cause
+target_cause code (Test contact target) t = jump_cause code (label_at code target) (spent t)
+target_cause code (Jump target) t = jump_cause code (label_at code target) (spent t)
+target_cause code (Loop counter target) t =
     cause_if (not (is_set t.counters counter)) CounterUnset first_or jump_cause code (label_at code target) (spent t)
-instr_cause code (Set counter times) t = None
-instr_cause code End t = None
+target_cause code i t = None
+
+abbrev pub instr_cause : Program → Instr → Known → Option Cause
+instr_cause code i t = target_cause code i t first_or flow_cause code.plan i t
 
 abbrev pub known_cause : Program → ℕ → Instr → Known → Option Cause
 known_cause code pc i t =
@@ -178,8 +90,7 @@ abbrev pub opening_cause : Program → Label → Known → Option Cause
 opening_cause code label t =
     cause_if (not (is_initial t)) Mismatch
     first_or label_cause code label
-    first_or cause_of (first_fault t.current) OfConfig
-    first_or cause_if (nat_lt code.plan.period (pages_alone code.plan t.current)) Round
+    first_or start_cause code.plan t.current
 
 abbrev pub opening_known : Program → Option Label → Result Known Cause
 opening_known code None = Err Table

@@ -1,15 +1,15 @@
 //! What is known where the machine comes to a label.
 
-ghost use Rattle.std.specs.Prelude.{◌≡◌, ◌<◌, length, slice_get, true, ◌&&◌, IfSome};
+ghost use Rattle.std.specs.Prelude.{◌≡◌, ℕ, ◌<◌, length, slice_get, true, IfSome};
 ghost use Rattle.plan_code.specs.Program.{IsProgram, IsLabel, label_at};
 ghost use Rattle.plan_verifier.specs.Held.{known_of};
-ghost use Rattle.plan_verifier.specs.Walking.{unless, is_same, is_fit, fits_swap, has_configurations_of, declared_by, or_nothing, may_have_swapped, refitted, entry_cause, label_cause};
+ghost use Rattle.plan_verifier.specs.Walking.{unless, is_fit, declared_by, or_nothing, may_have_swapped, refitted, entry_cause, label_cause};
 
-use crate::cause::Cause;
-use crate::holding::holds;
-use crate::known::{KnownState, includes, is_idle};
+use crate::known::{KnownState, includes};
 use mux_config::{Config, Store};
 use plan_code::{Code, Label, Swap};
+use plan_flow::Cause;
+use plan_flow::flow::is_idle;
 
 /// The label at an instruction. Its fields are within their limits.
 pub(crate) fn label_at(code: &Code, pc: u16) -> Option<Label>
@@ -28,69 +28,34 @@ fn config_at(code: &Code, place: u16) -> &Config
     &code.configs()[usize::from(place)]
 }
 
-/// Whether the configurations are those that a label declares.
-fn has_configurations<S: Store>(code: &Code, label: &Label, state: &KnownState<S>) -> bool
+/// Whether what is known fits what a label declares, whatever the allowance is.
+fn is_fit<S: Store>(code: &Code, label: &Label, state: &KnownState<S>) -> bool
     requires { IsLabel (length code.now.configurations) label.now }
-    ensures { result ≡ has_configurations_of (known_of S.content state.now)
-        (declared_by code.now label.now) }
+    ensures { (allowance : ℕ) → result ≡ is_fit (record (known_of S.content state.now) {
+      allowance = allowance;
+    }) (declared_by code.now label.now) }
 {
-    holds(&state.current, config_at(code, label.cur))
-        && holds(&state.next, config_at(code, label.next))
-}
-
-/// Whether both configurations are the next one that a label declares.
-fn has_next_twice<S: Store>(code: &Code, label: &Label, state: &KnownState<S>) -> bool
-    requires { IsLabel (length code.now.configurations) label.now }
-    ensures { let declared = declared_by code.now label.now in result ≡ (is_same
-        (S.content state.now.current) declared.next && is_same
-        (S.content state.now.next) declared.next) }
-{
+    let current = config_at(code, label.cur);
     let next = config_at(code, label.next);
-    holds(&state.current, next) && holds(&state.next, next)
-}
-
-/// Whether the swap that is pending, if any, fits that of a label.
-fn fits_swap<S: Store>(code: &Code, label: &Label, state: &KnownState<S>) -> bool
-    requires { IsLabel (length code.now.configurations) label.now }
-    ensures { result ≡ fits_swap state.now.pending label.now.pending
-        (known_of S.content state.now) (declared_by code.now label.now) }
-{
-    match (state.pending, label.pending) {
-        (Swap::Idle, Swap::Idle) => has_configurations(code, label, state),
-        (Swap::Idle, Swap::Within(_, _)) => false,
-        (Swap::Idle, Swap::Perhaps(_)) => has_next_twice(code, label, state),
-        (Swap::Within(low, high), Swap::Within(least, most)) => {
-            least <= low && high <= most && has_configurations(code, label, state)
-        }
-        (Swap::Within(_, high), Swap::Perhaps(most)) => {
-            high <= most && has_configurations(code, label, state)
-        }
-        (Swap::Within(_, _), Swap::Idle) => false,
-        (Swap::Perhaps(high), Swap::Perhaps(most)) => {
-            high <= most && has_configurations(code, label, state)
-        }
-        (Swap::Perhaps(_), Swap::Idle) => false,
-        (Swap::Perhaps(_), Swap::Within(_, _)) => false,
-    }
+    includes(state.counters, label.counters) && state.flow.fits(current, next, label.pending)
 }
 
 /// Whether what is known fits what a label declares. Refused are `Mismatch`, where it does not, and `Cost`,
-/// where the allowance is below the label's cost.
+/// where this allowance is below the label's cost.
 pub(crate) fn test_entry<S: Store>(
     code: &Code,
     label: &Label,
+    allowance: u8,
     state: &KnownState<S>,
 ) -> Result<(), Cause>
     requires { IsLabel (length code.now.configurations) label.now }
-    ensures { result ≡ unless (entry_cause code.now label.now (known_of S.content state.now)) }
+    ensures { result ≡ unless (entry_cause code.now label.now (record
+        (known_of S.content state.now) { allowance = allowance })) }
 {
-    if !includes(state.counters, label.counters) {
+    if !is_fit(code, label, state) {
         return Err(Cause::Mismatch);
     }
-    if !fits_swap(code, label, state) {
-        return Err(Cause::Mismatch);
-    }
-    if state.allowance < label.cost {
+    if allowance < label.cost {
         return Err(Cause::Cost);
     }
     Ok(())
@@ -110,7 +75,7 @@ pub(crate) fn test_cost(code: &Code, label: &Label) -> Result<(), Cause>
 fn take_rest<S: Store>(label: &Label, state: &mut KnownState<S>)
     ensures { known_of S.content state.new ≡ refitted label.now (known_of S.content state.old) }
 {
-    state.pending = label.pending;
+    state.flow.pending = label.pending;
     state.counters = label.counters;
     state.allowance = label.cost;
 }
@@ -120,8 +85,8 @@ pub(crate) fn take<S: Store>(code: &Code, label: &Label, state: &mut KnownState<
     requires { IsLabel (length code.now.configurations) label.now }
     ensures { known_of S.content state.new ≡ declared_by code.now label.now }
 {
-    state.current = S::from_config(config_at(code, label.cur));
-    state.next = S::from_config(config_at(code, label.next));
+    state.flow.current = S::from_config(config_at(code, label.cur));
+    state.flow.next = S::from_config(config_at(code, label.next));
     take_rest(label, state);
 }
 
@@ -139,8 +104,8 @@ pub(crate) fn refit<S: Store>(code: &Code, label: &Label, state: &mut KnownState
     requires fit { is_fit (known_of S.content state.old) (declared_by code.now label.now) ≡ true }
     ensures { known_of S.content state.new ≡ declared_by code.now label.now }
 {
-    if may_have_swapped(state.pending, label.pending) {
-        state.current = S::from_config(config_at(code, label.cur));
+    if may_have_swapped(state.flow.pending, label.pending) {
+        state.flow.current = S::from_config(config_at(code, label.cur));
         take_rest(label, state);
     } else {
         take_rest(label, state);

@@ -1,17 +1,15 @@
 //! The verifier: whether a plan code is typed, so that it never goes wrong when it is played.
 //!
 //! `verify` takes a `Code`, and gives it back as `Verified`, or `Refused` at an instruction with a `Cause`.
-//! What a typed code is stands in `specs/Typing.antt`, what a refusal says in `specs/Refusals.antt`.
+//! What a typed code is stands in `specs/Typing.antt`, what a refusal says in `specs/Refusals.antt`; the rules of a plan
+//! are those of `plan_flow`.
 #![tactic(auto)]
 
 pub mod cause;
-mod holding;
 mod known;
 mod labels;
 pub mod laws;
-mod rounds;
 mod step;
-mod swaps;
 pub mod verified;
 mod walk;
 

@@ -5,10 +5,10 @@ ghost use Rattle.plan_code.specs.Program.{IsProgram};
 ghost use Rattle.plan_verifier.specs.Typing.{IsTyped};
 ghost use Rattle.plan_verifier.specs.Refusals.{IsRefused};
 
-use crate::cause::Cause;
 use crate::walk::refusal;
 use mux_config::Store;
 use plan_code::Code;
+use plan_flow::Cause;
 use std::marker::Model;
 
 /// A code that `verify` has accepted: it is typed. Contracts see it as the program that the code stands for.

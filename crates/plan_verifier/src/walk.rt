@@ -6,38 +6,35 @@ ghost use Rattle.plan_verifier.specs.Held.{known_of};
 ghost use Rattle.plan_verifier.specs.Typing.{leaves, continues};
 ghost use Rattle.plan_verifier.specs.Walking.{whole_cause, opening_known, place_of, entered, came_of, known_cause, past_end, walk, refusal_of, opening_cause, is_initial, unless, PassesInstr, instr_or_end};
 
-use crate::cause::{Cause, Refusal};
-use crate::known::{KnownState, is_idle, is_same};
+use crate::cause::Refusal;
+use crate::known::KnownState;
 use crate::labels::{label_at, refit, take, test_cost, test_entry};
-use crate::rounds::pages_alone;
-use crate::step::{continues, instr_at, judge};
-use mux_config::{Store, soundness};
+use crate::step::{instr_at, judge};
+use mux_config::Store;
 use plan_code::{Code, Counters, Label, Swap};
+use plan_flow::flow::{is_idle, is_same};
+use plan_flow::ways::continues;
+use plan_flow::{Cause, Flow, test_opening};
 
 /// Whether the walk can begin so: one configuration, nothing pending and no counter set.
 fn is_initial<S: Store>(state: &KnownState<S>) -> bool
     ensures { result ≡ is_initial (known_of S.content state.now) }
 {
-    is_idle(state.pending) && state.counters.0 == 0 && is_same(&state.current, &state.next)
+    is_idle(state.flow.pending)
+        && state.counters.0 == 0
+        && is_same(&state.flow.current, &state.flow.next)
 }
 
 /// Whether what the first label declares can be what a code begins with. Refused are `Mismatch`, `Cost`,
 /// `Config` and `Round`, in this order.
-fn test_opening<S: Store>(code: &Code, label: &Label, state: &KnownState<S>) -> Result<(), Cause>
+fn test_first<S: Store>(code: &Code, label: &Label, state: &KnownState<S>) -> Result<(), Cause>
     ensures { result ≡ unless (opening_cause code.now label.now (known_of S.content state.now)) }
 {
     if !is_initial(state) {
         return Err(Cause::Mismatch);
     }
     test_cost(code, label)?;
-    if let Err(fault) = soundness(&state.current) {
-        return Err(Cause::Config(fault));
-    }
-    let plan = code.plan();
-    if usize::from(plan.period) < pages_alone(&plan, &state.current) {
-        return Err(Cause::Round);
-    }
-    Ok(())
+    test_opening(&code.plan(), &state.flow.current)
 }
 
 /// What is known at the first instruction, or why the code is refused there.
@@ -51,7 +48,7 @@ fn open<S: Store>(code: &Code, state: &mut KnownState<S>) -> Result<(), Cause>
         None => Err(Cause::Table),
         Some(label) => {
             take(code, &label, state);
-            test_opening(code, &label, state)
+            test_first(code, &label, state)
         }
     }
 }
@@ -73,7 +70,7 @@ fn enter<S: Store>(
         None => { if comes { Ok(()) } else { Err(Cause::Table) } }
         Some(label) => {
             if comes {
-                test_entry(code, &label, state)?;
+                test_entry(code, &label, state.allowance, state)?;
                 test_cost(code, &label)?;
                 refit(code, &label, state);
                 return Ok(());
@@ -154,9 +151,11 @@ pub(crate) fn refusal<S: Store>(code: &Code) -> Option<Refusal>
     ensures formed { IsProgram code.now }
 {
     let mut state = KnownState {
-        current: S::empty(),
-        next: S::empty(),
-        pending: Swap::Idle,
+        flow: Flow {
+            current: S::empty(),
+            next: S::empty(),
+            pending: Swap::Idle,
+        },
         counters: Counters(0),
         allowance: 0,
     };

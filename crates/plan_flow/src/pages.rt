@@ -2,7 +2,7 @@
 
 ghost use Rattle.std.specs.Prelude.{◌≡◌, Some, None};
 ghost use Rattle.fib_carousel.specs.Pages.{page_set, rounds};
-ghost use Rattle.plan_verifier.specs.Typing.{pages_alone};
+ghost use Rattle.plan_flow.specs.Rules.{pages_alone};
 
 use fib_carousel::pages;
 use mux_config::Store;

@@ -1,0 +1,4 @@
+pub mod Rules
+pub mod Causes
+pub mod Flows
+pub mod Tests

@@ -1,0 +1,125 @@
+//! The transfer function: one instruction, and what it leaves of what is known.
+
+ghost use Rattle.std.specs.Prelude.{◌≡◌, ◌↔◌, ℕ, IsOk, OnOk, IfErr};
+ghost use Rattle.plan_code.specs.declared.flags.Counters.{Counters};
+ghost use Rattle.plan_code.specs.declared.instr.Instr.TheVariants.{Edit as Edits, Wait, Join};
+ghost use Rattle.plan_flow.specs.Rules.{IsFine};
+ghost use Rattle.plan_flow.specs.Causes.{FlowRefused};
+ghost use Rattle.plan_flow.specs.Flows.{held, known_at, known_with, moved, HasItsCounter};
+ghost use Rattle.plan_flow.specs.Tests.{unless, flow_cause};
+
+use crate::cause::Cause;
+use crate::commits::{commit_at, commit_in};
+use crate::flow::{Flow, is_idle};
+use crate::swaps::{is_certain, is_surely_pending, pause, settle, swap, wait};
+use mux_config::{Edit, Store};
+use plan_code::{Frames, Instr, Plan};
+
+/// Edits the next configuration: refused are `Pending` and `Edit`.
+fn edit<S: Store>(plan: &Plan, edit: Edit, flow: &mut Flow<S>) -> Result<(), Cause>
+    ensures cause { result ≡ unless (flow_cause plan.now (Edits edit) (known_at
+        (held S.content flow.old))) }
+    ensures fine { IsOk result ↔ IsFine plan.now (Edits edit) (known_at
+        (held S.content flow.old)) }
+    ensures left { OnOk result (held S.content flow.new ≡ moved plan.now (Edits edit)
+        (held S.content flow.old)) }
+    ensures kept { IfErr result (λ cause. held S.content flow.new ≡ held S.content flow.old) }
+{
+    if !is_idle(flow.pending) {
+        return Err(Cause::Pending);
+    }
+    if let Err(fault) = edit.apply(&mut flow.next) {
+        return Err(Cause::Edit(fault));
+    }
+    Ok(())
+}
+
+/// Waits this many frames: refused is `SwapUncertain`.
+fn wait_frames<S: Store>(plan: &Plan, frames: Frames, flow: &mut Flow<S>) -> Result<(), Cause>
+    ensures cause { result ≡ unless (flow_cause plan.now (Wait frames) (known_at
+        (held S.content flow.old))) }
+    ensures fine { IsOk result ↔ IsFine plan.now (Wait frames) (known_at
+        (held S.content flow.old)) }
+    ensures left { OnOk result (held S.content flow.new ≡ moved plan.now (Wait frames)
+        (held S.content flow.old)) }
+    ensures kept { IfErr result (λ cause. held S.content flow.new ≡ held S.content flow.old) }
+{
+    if !is_certain(frames.get(), flow.pending) {
+        return Err(Cause::SwapUncertain);
+    }
+    wait(frames.get(), flow);
+    Ok(())
+}
+
+/// Waits for the swap: refused is `JoinIdle`.
+fn join<S: Store>(plan: &Plan, flow: &mut Flow<S>) -> Result<(), Cause>
+    ensures cause { result ≡ unless (flow_cause plan.now Join (known_at
+        (held S.content flow.old))) }
+    ensures fine { IsOk result ↔ IsFine plan.now Join (known_at
+        (held S.content flow.old)) }
+    ensures left { OnOk result (held S.content flow.new ≡ moved plan.now Join
+        (held S.content flow.old)) }
+    ensures kept { IfErr result (λ cause. held S.content flow.new ≡ held S.content flow.old) }
+{
+    if !is_surely_pending(flow.pending) {
+        return Err(Cause::JoinIdle);
+    }
+    swap(flow);
+    Ok(())
+}
+
+/// What an instruction leaves, or the first cause why it is refused.
+fn run<S: Store>(plan: &Plan, instr: Instr, flow: &mut Flow<S>) -> Result<(), Cause>
+    ensures cause { result ≡ unless (flow_cause plan.now instr (known_at
+        (held S.content flow.old))) }
+    ensures fine { (counters : Counters) (allowance : ℕ) → HasItsCounter instr counters
+        → (IsOk result ↔ IsFine plan.now instr (known_with (held S.content flow.old) counters
+        allowance)) }
+    ensures left { OnOk result (held S.content flow.new ≡ moved plan.now instr
+        (held S.content flow.old)) }
+    ensures kept { IfErr result (λ cause. held S.content flow.new ≡ held S.content flow.old) }
+{
+    match instr {
+        Instr::Edit(change) => return edit(plan, change, flow),
+        Instr::CommitIn(delay) => return commit_in(plan, delay, flow),
+        Instr::CommitAt(count) => return commit_at(plan, count, flow),
+        Instr::Wait(frames) => return wait_frames(plan, frames, flow),
+        Instr::Join => return join(plan, flow),
+        Instr::Until(_) => pause(flow),
+        Instr::WaitContact { .. } => pause(flow),
+        Instr::Settle => settle(flow),
+        Instr::Test { .. } => {}
+        Instr::Jump(_) => {}
+        Instr::Loop { .. } => {}
+        Instr::Set { .. } => {}
+        Instr::End => {}
+    }
+    Ok(())
+}
+
+impl<S: Store> Flow<S> {
+    /// Becomes what the instruction leaves, where it continues to the one after it. Only what is known of the
+    /// configurations and the swap is looked at: a loop's counter is taken as set, and labels are not.
+    ///
+    /// # Errors
+    ///
+    /// The first cause in this order, and then the flow is unchanged. An edit: `Pending`, where a swap is pending or may be;
+    /// `Edit`. A commit: `Pending`; `Notice`, where the delay is shorter than the notice, or `Count`, where no swap falls
+    /// on the CIF count; `Config`, where the next configuration is not sound; `NoChange`, where it is the current one;
+    /// `Round`, where its pages have no room. A wait: `SwapUncertain`, where it may end before the swap or after it. A
+    /// join: `JoinIdle`, where it may be that no swap is pending.
+    pub fn apply(&mut self, plan: &Plan, instr: Instr) -> Result<(), Cause>
+        ensures fine { (counters : Counters) (allowance : ℕ) → HasItsCounter instr counters
+            → (IsOk result ↔ IsFine plan.now instr (known_with (held S.content self.old)
+            counters allowance)) }
+        ensures left { OnOk result (held S.content self.new ≡ moved plan.now instr
+            (held S.content self.old)) }
+        ensures refused { IfErr result (λ cause. FlowRefused plan.now instr (known_at
+            (held S.content self.old)) cause) }
+        ensures kept { IfErr result (λ cause. held S.content self.new ≡ held S.content self.old) }
+        ensures cause { result ≡ unless (flow_cause plan.now instr (known_at
+            (held S.content self.old))) }
+    {
+        run(plan, instr, self)
+    }
+}

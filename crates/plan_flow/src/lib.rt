@@ -1,0 +1,21 @@
+//! The rules of a plan, carried out: what is known where an instruction stands, and what it leaves.
+//!
+//! A [`Flow`] is what is known of the configurations and of the swap from the current one to the next. `apply` is the one
+//! transfer function: it changes a flow as an instruction does, or refuses the instruction with the first cause of
+//! `specs/Causes.antt`. What an instruction needs and leaves stands in `specs/Rules.antt`. Where ways meet, a flow `fits`
+//! what is known there, and `meet` finds what that is. The verifier and the compiler stand on it.
+#![tactic(auto)]
+
+mod apply;
+pub mod cause;
+mod commits;
+pub mod flow;
+mod meeting;
+pub mod opening;
+mod pages;
+mod swaps;
+pub mod ways;
+
+pub use cause::Cause;
+pub use flow::Flow;
+pub use opening::test_opening;

@@ -1,0 +1,17 @@
+use Rattle.std.proofs.Common.{◌∙◌, sym, ap}
+use Rattle.plan_code.specs.declared.plan.Plan.{Plan}
+use Rattle.plan_flow.specs.Flows.{flow_of, known_with, set_after, left_over}
+use Rattle.plan_flow.proofs.Leaving.{leaves_known}
+use Rattle.plan_verifier.specs.Held.{known_of}
+use Rattle.plan_verifier.specs.Typing.{Known, leaves}
+use Rattle.plan_verifier.proofs.step.step.Goals as goal
+
+pub returns-clause-left : goal.returns-clause-left
+returns-clause-left g c =
+    let plan = c.plan-plan.result in
+    let i = c.args.instr.now in
+    let known : Known = known_of g.S.Store.content c.args.state.now in
+    c.account.ensures
+    ∙ ap (λ (t : Known). known_with (flow_of t) (set_after i t.counters) (left_over plan i t.allowance)) c.in_ok-advance.ensures.left
+    ∙ sym (leaves_known plan i (flow_of known) known.counters known.allowance)
+    ∙ ap (λ (p : Plan). leaves p i known) c.plan-plan.ensures.value
