@@ -5,7 +5,7 @@ use Rattle.std.proofs.lemmas.List.{append-nil, take_more}
 use Rattle.std.proofs.lemmas.Option.{slice_get_within, get_or_from_slice_get}
 use Rattle.std.proofs.lemmas.Grind.{flat_map-append}
 use Rattle.std.specs.Prelude.{slice_get}
-use Rattle.plan_events.specs.declared.command.Command.{Command}
+use Rattle.plan_session.specs.declared.command.Command.{Command}
 use Rattle.plan_debug.specs.declared.report.Report.{Report}
 use Rattle.plan_debug.specs.Commands.{Debugging, Answers, fresh}
 use Rattle.plan_player.specs.Playing.{Playing}

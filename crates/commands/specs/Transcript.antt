@@ -5,16 +5,16 @@ use Rattle.std.specs.Fmt.{decimal}
 use Rattle.std.specs.Io.KnownBytes.{Appends, Keeps}
 use Rattle.plan_code.specs.declared.fault.CodeFault.TheVariants.{Memory as NoMemoryForCode}
 use Rattle.plan_player.specs.Playing.{Playing, IsAtStart}
-use Rattle.plan_events.specs.declared.fault.EventFault.TheVariants.{Memory as NoMemoryForCommands}
-use Rattle.plan_events.specs.declared.command.Command.{Command}
-use Rattle.plan_events.specs.declared.command.Command.TheVariants.{Contact, Run, Next, Break, Clear, Show}
-use Rattle.plan_events.specs.Commands.{HoldsCommands}
+use Rattle.plan_session.specs.declared.event_fault.EventFault.TheVariants.{Memory as NoMemoryForCommands}
+use Rattle.plan_session.specs.declared.command.Command.{Command}
+use Rattle.plan_session.specs.declared.command.Command.TheVariants.{Contact, Run, Next, Break, Clear, Show}
+use Rattle.plan_session.specs.Commands.{HoldsCommands}
 use Rattle.plan_debug.specs.declared.announcement.Announcement.{Announcement}
 use Rattle.plan_debug.specs.declared.report.Report.{Report}
 use Rattle.plan_debug.specs.Commands.{Debugging, Answers, fresh}
-use Rattle.plan_playback.specs.declared.fault.RunFault.{RunFault}
-use Rattle.plan_playback.specs.declared.fault.RunFault.TheVariants.{Code, Refused, Start, Events, Write}
-use Rattle.plan_playback.specs.Playback.{Request, CanStart, start_of, IsRunFault}
+use Rattle.plan_session.specs.declared.run_fault.RunFault.{RunFault}
+use Rattle.plan_session.specs.declared.run_fault.RunFault.TheVariants.{Code, Refused, Start, Events, Write}
+use Rattle.plan_session.specs.Playback.{Request, CanStart, start_of, IsRunFault}
 use Rattle.commands.specs.declared.debug.DebugFault.{DebugFault}
 use Rattle.commands.specs.declared.debug.DebugFault.TheVariants.{Playback, Commands, Memory, Output}
 

@@ -4,8 +4,8 @@ use command_line::PlayRequest;
 use console::exit::{Failure, Status, create_file, read_file};
 use console::files::Files;
 use plan_code::CodeFault;
-use plan_events::EventFault;
-use plan_playback::{RunFault, run_into};
+use plan_player::Writer;
+use plan_session::{EventFault, RunFault, run_into};
 use std::alloc::Global;
 use std::io::Write;
 use std::str;
@@ -32,7 +32,7 @@ pub fn show_play<'a, F: Files, W: Write>(
         request.start.count,
         request.start.day,
         request.start.contacts,
-        file,
+        Writer::new(file),
     );
     match ended {
         Ok(frames) => {

@@ -3,7 +3,7 @@
 use console::exit::{Failure, Status, read_file};
 use console::files::Files;
 use plan_code::CodeFault;
-use plan_playback::{RunFault, typed_code};
+use plan_session::{RunFault, typed_code};
 use std::alloc::Global;
 use std::io::Write;
 

@@ -11,7 +11,7 @@ use Rattle.plan_runs.specs.Runs.{happens, run}
 use Rattle.plan_player.specs.Playing.{Playing, played}
 use Rattle.plan_player.proofs.Delivering.{played_join}
 use Rattle.plan_debug.specs.declared.announcement.Announcement.{Announcement}
-use Rattle.plan_events.specs.declared.command.Command.{Command}
+use Rattle.plan_session.specs.declared.command.Command.{Command}
 use Rattle.plan_debug.specs.Announcements.{announced, announcement_list, frame_announcement}
 use Rattle.plan_debug.specs.Commands.{frames, after_frames, most_frames, Ends, EndsAt, last_bytes}
 use Rattle.plan_debug.proofs.Lasts.{kept_again, kept_more}

@@ -10,8 +10,8 @@ use Rattle.plan_runs.specs.Runs.{run}
 use Rattle.plan_player.specs.Playing.{Playing, played}
 use Rattle.plan_debug.specs.declared.announcement.Announcement.{Announcement}
 use Rattle.plan_debug.specs.declared.report.Report.{Report}
-use Rattle.plan_events.specs.declared.command.Command.{Command}
-use Rattle.plan_events.specs.declared.command.Command.TheVariants.{Contact, Run, Next, Break, Clear, Show}
+use Rattle.plan_session.specs.declared.command.Command.{Command}
+use Rattle.plan_session.specs.declared.command.Command.TheVariants.{Contact, Run, Next, Break, Clear, Show}
 use Rattle.plan_debug.specs.Announcements.{announced}
 
 -- what a debugger stands for: its player, its break line, and the announcements that it keeps, oldest first

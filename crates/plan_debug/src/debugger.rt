@@ -14,8 +14,8 @@ use crate::log::Log;
 use crate::report::Report;
 use fib_codec::{FibFrame, Mode};
 use mux_config::Store;
-use plan_events::Command;
 use plan_player::Player;
+use plan_session::Command;
 use std::alloc::Global;
 use std::marker::Model;
 

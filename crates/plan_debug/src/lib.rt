@@ -13,5 +13,5 @@ pub mod report;
 
 pub use announcement::Announcement;
 pub use debugger::Debugger;
-pub use plan_events::Command;
+pub use plan_session::Command;
 pub use report::Report;

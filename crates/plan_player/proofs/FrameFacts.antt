@@ -25,7 +25,7 @@ use Rattle.plan_runs.proofs.Knowledge.{IsAhead}
 use Rattle.plan_runs.proofs.Tracked.{noticed, noticed_from}
 use Rattle.plan_runs.proofs.Notice.{Links, links}
 use Rattle.plan_runs.proofs.Periods.{sends, after_goes}
-use Rattle.plan_machine.proofs.GoesOn.{typed_code_goes_on, frame_plays}
+use Rattle.plan_player.proofs.GoesOn.{typed_code_goes_on, frame_plays}
 use Rattle.plan_player.specs.declared.phase_pages.PhasePages.{PhasePages}
 use Rattle.plan_player.specs.Phase.{Keeps, HasChange, KeepsChange, IsFrameReady, IsGoing}
 

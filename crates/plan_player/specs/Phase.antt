@@ -15,7 +15,7 @@ use Rattle.plan_code.specs.Machine.{State}
 use Rattle.plan_runs.specs.Frames.{ready, is_noticed, is_first_noticed, shown, sent_entries, sent_rounds, begins_phase}
 use Rattle.plan_runs.specs.Phases.{SentBy}
 use Rattle.plan_runs.specs.TypedRuns.{IsPlayed, CanBeSent}
-use Rattle.plan_machine.specs.Positions.{CanRun}
+use Rattle.plan_player.specs.Positions.{CanRun}
 use Rattle.plan_player.specs.declared.phase_pages.PhasePages.{PhasePages}
 use Rattle.plan_player.specs.declared.phase_pages.Sent.{Sent}
 use Rattle.plan_player.specs.declared.phase_pages.Sent.TheVariants.{Kept, Headed}

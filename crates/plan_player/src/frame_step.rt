@@ -7,15 +7,15 @@ ghost use Rattle.fib_carousel.specs.Pages.{page_after};
 ghost use Rattle.fib_carousel.specs.Bytes.{page_bytes};
 ghost use Rattle.plan_runs.specs.Frames.{is_first_noticed, shown, shown_bytes, sent_entries, sent_rounds, with_next_counts, frame_bytes, frame_steps, after_frame};
 ghost use Rattle.plan_runs.specs.TypedRuns.{CanBeSent};
-ghost use Rattle.plan_machine.specs.Positions.{state_of};
+ghost use Rattle.plan_player.specs.Positions.{state_of};
 ghost use Rattle.plan_player.specs.Phase.{HasPage, Keeps, ShowsBytes, HasChange, IsFrameReady};
 
+use crate::machine::{
+    Machine, begin, begin_notice, ensemble, is_first_noticed, next_sent, page_after, pass, run,
+};
 use crate::phase_pages::{PhasePages, Sent, held, make_if_new};
 use mux_config::{Ensemble, Store, change};
 use plan_code::{Code, Plan};
-use plan_machine::{
-    Machine, begin, begin_notice, ensemble, is_first_noticed, next_sent, page_after, pass, run,
-};
 
 /// Makes the page in turn of what the machine sends, where it wasn't yet in this phase.
 fn make_page_to_send<S: Store>(plan: &Plan, machine: &Machine<S>, pages: &mut PhasePages)
@@ -29,7 +29,7 @@ fn make_page_to_send<S: Store>(plan: &Plan, machine: &Machine<S>, pages: &mut Ph
     ensures change { pages.new.change ≡ pages.old.change }
 {
     let next = next_sent(plan, machine);
-    make_if_new(pages, plan.mode, machine.turn, &machine.current, next);
+    make_if_new(pages, plan.mode, machine.turn(), machine.current(), next);
 }
 
 /// Makes a frame of the page of this number, which was made: with this FIG 0/0 where there is one.
@@ -69,8 +69,9 @@ fn send<S: Store>(plan: &Plan, machine: &mut Machine<S>, pages: &mut PhasePages)
 {
     make_page_to_send(plan, machine, pages);
     let ensemble = ensemble(plan, machine, pages.change);
-    show(pages, machine.turn, ensemble);
-    pass(page_after(pages.count(), machine.turn), machine);
+    let turn = machine.turn();
+    show(pages, turn, ensemble);
+    pass(page_after(pages.count(), turn), machine);
 }
 
 /// Lets the pages go, where a phase begins.
@@ -94,8 +95,8 @@ fn note_change<S: Store>(plan: &Plan, machine: &Machine<S>, pages: &mut PhasePag
     ensures keeps { (mode : Mode) (ms : List Marked) (turn : ℕ) →
         Keeps mode ms turn pages.old → Keeps mode ms turn pages.new }
 {
-    if is_first_noticed(plan.notice, machine.left) {
-        pages.change = change(&machine.current, &machine.next).bits();
+    if is_first_noticed(plan.notice, machine.left()) {
+        pages.change = change(machine.current(), machine.next()).bits();
     }
 }
 

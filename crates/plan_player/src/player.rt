@@ -13,19 +13,19 @@ ghost use Rattle.plan_runs.specs.TypedRuns.{IsPlayed};
 ghost use Rattle.plan_runs.specs.Announced.{FrameRuns, heard_of};
 ghost use Rattle.plan_runs.specs.RightBytes.{FrameIsRight, IsHeardEachPeriod};
 ghost use Rattle.plan_runs.specs.Headline.{KeepsCount};
-ghost use Rattle.plan_machine.specs.Positions.{state_of};
+ghost use Rattle.plan_player.specs.Positions.{state_of};
 ghost use Rattle.plan_player.specs.Playing.{start_fault, IsAtStart, played};
 ghost use Rattle.plan_player.specs.Delivery.{next_frame};
 
 use crate::fault::StartFault;
 use crate::frame_step::make_frame;
+use crate::machine::Machine;
 use crate::phase_pages::PhasePages;
 use crate::sink::{Sink, put_all};
 use fib_codec::FibFrame;
 use mux_config::Store;
 use plan_code::limits::{COUNTS, FRAMES_A_DAY};
 use plan_code::{Code, ContactId};
-use plan_machine::Machine;
 use plan_runs::{Start, laws};
 use plan_verifier::Verified;
 use std::marker::Model;
@@ -41,7 +41,7 @@ pub struct Player<'a, S: Store> {
 }
 
 impl<'a, S: Store> Model for Player<'a, S> {
-    ghost use Rattle.plan_machine.specs.Positions.{state_of};
+    ghost use Rattle.plan_player.specs.Positions.{state_of};
     ghost use Rattle.plan_player.specs.Playing.{Playing};
     ghost use Rattle.plan_player.specs.Phase.{IsGoing};
 
@@ -167,49 +167,49 @@ impl<'a, S: Store> Player<'a, S> {
         ensures sound { IsSound self.now.state.current }
         ensures played { IsPlayed self.now.code self.now.state }
     {
-        &self.machine.current
+        self.machine.current()
     }
 
     /// The next configuration: the one that a pending swap makes the current one, or that edits prepare.
     pub fn next(&self) -> &S
         ensures value { S.content result.now ≡ self.now.state.next }
     {
-        &self.machine.next
+        self.machine.next()
     }
 
     /// How many frames are left until the swap; None where none is pending. It is 0 where the next frame makes it.
     pub fn remaining(&self) -> Option<u16>
         ensures value { result ≡ self.now.state.left }
     {
-        self.machine.left
+        self.machine.left()
     }
 
     /// The CIF count of the next frame, 0 to 4999.
     pub fn count(&self) -> u16
         ensures value { result ≡ self.now.state.count }
     {
-        self.machine.count
+        self.machine.count()
     }
 
     /// The frame of the day that comes next, 0 to 3,599,999.
     pub fn day(&self) -> u32
         ensures value { result ≡ self.now.state.day }
     {
-        self.machine.day
+        self.machine.day()
     }
 
     /// The place of the instruction that comes next, counted from 0.
     pub fn pc(&self) -> u16
         ensures value { result ≡ self.now.state.pc }
     {
-        self.machine.pc
+        self.machine.pc()
     }
 
     /// The number of the line that the instruction at this place comes from.
     pub fn line(&self) -> u16
         ensures value { line_at self.now.code self.now.state.pc ≡ Some result }
     {
-        self.code.code().line_at(self.machine.pc).unwrap()
+        self.code.code().line_at(self.machine.pc()).unwrap()
     }
 
     /// How many instructions the last frame carried out, at most the budget; 0 before the first frame.

@@ -86,7 +86,7 @@ impl<W: Write> Sink for Writer<W> {
 
 /// Puts all bytes into a sink that hasn't failed, in as many calls as it likes. `Err`: it failed after this many of
 /// them, fewer than all.
-pub(crate) fn put_all<K: Sink>(sink: &mut K, bytes: &[u8]) -> Result<(), usize>
+pub fn put_all<K: Sink>(sink: &mut K, bytes: &[u8]) -> Result<(), usize>
     requires working { K.has_failed sink.old ≡ false }
     ensures all { OnOk result (Appends (K.taken sink.old) (K.taken sink.new) bytes.now) }
     ensures works { OnOk result (K.has_failed sink.new ≡ false) }

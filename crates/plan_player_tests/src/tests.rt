@@ -1,6 +1,7 @@
 //! Tests of the player, over configurations in tables and over counted capacity units.
 
 mod codes;
+mod commits;
 mod contacts;
 mod listening;
 mod modes;
@@ -12,4 +13,5 @@ mod sinks;
 mod starts;
 mod steps;
 mod swaps;
+mod two_swaps;
 mod writers;

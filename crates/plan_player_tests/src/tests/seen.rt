@@ -138,6 +138,18 @@ pub fn has_programme<S: Store>(
     Ok(())
 }
 
+/// Whether this configuration is the next one.
+fn is_next<S: Store>(player: &Player<S>, config: &Config) -> bool {
+    player.next().to_config().same(config)
+}
+
+/// The next configuration has a programme of this rate only.
+pub fn has_next<S: Store>(rt: &impl Abort, player: &Player<S>, kbits: u16) -> Result<(), Fail> {
+    let wanted = programme(kbits)?;
+    assert!(rt; is_next(player, &wanted));
+    Ok(())
+}
+
 /// Makes the next frame, which carries out this many instructions.
 fn step<S: Store>(rt: &impl Abort, player: &mut Player<S>, wanted: u8) {
     let _frame = frame(player);

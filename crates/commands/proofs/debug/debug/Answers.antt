@@ -2,10 +2,10 @@ use Rattle.std.proofs.Common.{◌≡◌, ℕ, List, ap, subst, ◌∙◌}
 use Rattle.plan_code.specs.Program.{Program}
 use Rattle.plan_runs.specs.declared.event.Start.{Start as Starting}
 use Rattle.plan_player.specs.Playing.{Playing, IsAtStart}
-use Rattle.plan_events.specs.declared.command.Command.{Command}
+use Rattle.plan_session.specs.declared.command.Command.{Command}
 use Rattle.plan_debug.specs.Commands.{Debugging, fresh}
-use Rattle.plan_playback.specs.Playback.{Request, asked, start_of}
-use Rattle.plan_playback.proofs.Requests.{same_start, only_memory}
+use Rattle.plan_session.specs.Playback.{Request, asked, start_of}
+use Rattle.plan_session.proofs.Requests.{same_start, only_memory}
 use Rattle.commands.specs.Transcript.{Transcript}
 use Rattle.commands.proofs.Leading.{transcript_of}
 use Rattle.commands.proofs.debug.debug.Goals as goal

@@ -2,7 +2,7 @@ use Rattle.std.proofs.Common.{◌≡◌, ℕ, ◌+◌, List, [], ◌∷◌, ◌+
 use Rattle.std.proofs.lemmas.List.{take_more}
 use Rattle.std.specs.Io.KnownBytes.{Appends}
 use Rattle.std.proofs.KnownBytes.{Appends-trans}
-use Rattle.plan_events.specs.declared.command.Command.{Command}
+use Rattle.plan_session.specs.declared.command.Command.{Command}
 use Rattle.plan_debug.specs.declared.report.Report.{Report}
 use Rattle.plan_debug.specs.Commands.{Debugging, Answers}
 use Rattle.commands.specs.Transcript.{report_lines, shown_lines, Transcript}

@@ -1,6 +1,9 @@
-use Rattle.std.proofs.Common.{◌<◌, ◌∙◌, arith}
-use Rattle.plan_runs.specs.Frames.{sent_entries, sent_rounds}
-use Rattle.plan_machine.specs.Positions.{state_of}
+use Rattle.std.proofs.Common.{ℕ, ◌<◌, sym, ap, subst, ◌∙◌, arith}
+use Rattle.plan_code.specs.Machine.{State}
+use Rattle.plan_runs.specs.Frames.{sent_entries, sent_rounds, with_next_counts}
+use Rattle.fib_carousel.specs.Pages.{page_after}
+use Rattle.plan_player.specs.Positions.{state_of}
+use Rattle.plan_player.specs.Phase.{HasPage}
 use Rattle.plan_player.proofs.Keeping.{turned, next_page}
 use Rattle.plan_player.proofs.frame_step.send.Goals as goal
 
@@ -9,7 +12,9 @@ show-requires g c =
     let plan = c.args.plan.now in
     let s = state_of g.S.Store.content c.args.machine.now in
     let made = c.make_page_to_send.ensures in
-    (plan.mode, sent_entries plan s, made.keeps.each s.turn made.made)
+    let pages = c.make_page_to_send.new.pages.pages in
+    let page = made.keeps.each s.turn made.made in
+    (plan.mode, sent_entries plan s, subst (λ (n : ℕ). HasPage plan.mode (sent_entries plan s) n pages) (sym c.turn-turn.ensures) page)
 
 pub returns-clause-keeps : goal.returns-clause-keeps
 returns-clause-keeps g c =
@@ -21,9 +26,9 @@ returns-clause-keeps g c =
 pub returns-clause-state : goal.returns-clause-state
 returns-clause-state g c =
     let plan = c.args.plan.now in
-    let s = state_of g.S.Store.content c.args.machine.now in
+    let s : State = state_of g.S.Store.content c.args.machine.now in
     let made = c.make_page_to_send.ensures in
     let pages = c.show.new.pages in
     let turn : s.turn < pages.made = omega (arith, made.made, c.show.ensures.made) in
     let next = next_page plan.mode (sent_entries plan s) s.turn c.count.result pages (c.show.ensures.keeps _ _ _ made.keeps) turn c.count.ensures.whole c.count.ensures.more in
-    c.pass.ensures plan (c.page_after.ensures ∙ next)
+    c.pass.ensures plan ∙ ap (λ (t : ℕ). let r : State = record (with_next_counts plan s) { turn = t } in r) (c.page_after.ensures ∙ ap (λ (n : ℕ). page_after c.count.result n) c.turn-turn.ensures ∙ next)

@@ -1,6 +1,6 @@
 use Rattle.std.proofs.Common.{[], ◌∷◌}
 use Rattle.plan_runs.specs.declared.event.Event.TheVariants.{Frame}
-use Rattle.plan_machine.specs.Positions.{state_of}
+use Rattle.plan_player.specs.Positions.{state_of}
 use Rattle.plan_player.proofs.player.promise.Goals as goal
 
 pub returns-clause-announced : goal.returns-clause-announced

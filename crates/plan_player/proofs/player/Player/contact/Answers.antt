@@ -3,7 +3,7 @@ use Rattle.plan_code.specs.Machine.{State}
 use Rattle.plan_runs.specs.declared.event.Event.TheVariants.{Contact}
 use Rattle.plan_runs.specs.Runs.{happens}
 use Rattle.plan_runs.specs.TypedRuns.{IsPlayed}
-use Rattle.plan_machine.specs.Positions.{state_of}
+use Rattle.plan_player.specs.Positions.{state_of}
 use Rattle.plan_player.specs.Phase.{IsGoing}
 use Rattle.plan_player.specs.Playing.{Playing}
 use Rattle.plan_player.proofs.FrameFacts.{contact_goes}

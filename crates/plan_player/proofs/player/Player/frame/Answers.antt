@@ -5,7 +5,7 @@ use Rattle.plan_runs.specs.Announced.{FrameRuns, heard_of}
 use Rattle.plan_runs.specs.RightBytes.{FrameIsRight, IsHeardEachPeriod}
 use Rattle.plan_runs.specs.Headline.{KeepsCount}
 use Rattle.plan_player.specs.Playing.{Playing}
-use Rattle.plan_machine.specs.Positions.{state_of}
+use Rattle.plan_player.specs.Positions.{state_of}
 use Rattle.plan_player.proofs.FrameFacts.{lent_ready, lent_goes}
 use Rattle.plan_player.proofs.player.Player.frame.Goals as goal
 

@@ -1,5 +1,5 @@
 use Rattle.std.proofs.Common.{refl}
-use Rattle.plan_machine.specs.Positions.{state_of}
+use Rattle.plan_player.specs.Positions.{state_of}
 use Rattle.plan_player.proofs.FrameFacts.{start_goes}
 use Rattle.plan_player.proofs.player.Player.new.Goals as goal
 

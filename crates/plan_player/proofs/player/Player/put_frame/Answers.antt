@@ -5,7 +5,7 @@ use Rattle.plan_runs.specs.Frames.{frame_bytes}
 use Rattle.plan_player.specs.Playing.{Playing}
 use Rattle.plan_player.specs.Delivery.{next_frame}
 use Rattle.plan_player.proofs.FrameFacts.{lent_ready, lent_goes}
-use Rattle.plan_machine.specs.Positions.{state_of}
+use Rattle.plan_player.specs.Positions.{state_of}
 use Rattle.plan_player.proofs.player.Player.put_frame.Goals as goal
 
 pub make_frame-self-inside-requires : goal.make_frame-self-inside-requires

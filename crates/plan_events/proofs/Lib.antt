@@ -1,3 +1,0 @@
-mod CommandWords
-mod Listed
-pub mod Spelled

@@ -1,3 +1,0 @@
-pub mod Remaining
-pub mod GoesOn
-mod Vectors

@@ -1,4 +1,0 @@
-mod Cutting
-mod Joining
-pub mod Requests
-mod Steps

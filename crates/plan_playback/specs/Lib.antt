@@ -1,3 +1,0 @@
-pub mod Buffering
-pub mod Parts
-pub mod Playback

@@ -1,0 +1,60 @@
+-- What is still to be carried out of a frame's instructions.
+use Rattle.std.proofs.Common.{◌≡◌, ℕ, zero, suc, ◌+◌, ◌≤◌, true, false, sym, subst, ◌∙◌, arith}
+use Rattle.plan_code.specs.Program.{Program, IsProgram}
+use Rattle.plan_code.specs.Machine.{State, step, StepIsAllowed}
+use Rattle.plan_runs.specs.Frames.{is_running, Executes, burst, burst_steps}
+use Rattle.plan_runs.proofs.Bursts.{bursts_are_one}
+use Rattle.plan_player.specs.Positions.{CanRun}
+
+-- this many instructions have led from the first state to this one, and the rest of the frame's is still to come
+pub record Remains (p : Program) (first : State) (steps : ℕ) (s : State) : Type 0 where
+  pub left : ℕ
+  pub counted : steps + left ≡ burst_steps p.plan.budget p first
+  pub within : steps + left ≤ 255
+  pub executes : Executes p s left (burst p.plan.budget p first)
+
+pub remains_all : (p : Program) (s : State) → IsProgram p → CanRun p s → Remains p s 0 s
+remains_all p s program can =
+    let one = (bursts_are_one p s can.steps can.end can.executes).computed p.plan.budget can.within in
+    let all : 0 + can.steps ≡ can.steps = omega arith in
+    record {
+      left = can.steps;
+      counted = all ∙ sym one.1;
+      within = omega (arith, can.within, program.planned.budget_to);
+      executes = subst (λ (t : State). Executes p s can.steps t) (sym one.0) can.executes;
+    }
+
+-- what a machine that runs can do next, and what then remains
+pub record Goes (p : Program) (first : State) (steps : ℕ) (s : State) : Type 0 where
+  pub allowed : StepIsAllowed p s
+  pub counted : steps + 1 ≤ 255
+  pub next : Remains p first (steps + 1) (step p s)
+
+goes_by : (p : Program) (first s : State) (steps left : ℕ) → steps + left ≡ burst_steps p.plan.budget p first → steps + left ≤ 255
+    → Executes p s left (burst p.plan.budget p first) → is_running s.hold ≡ true → Goes p first steps s
+goes_by p first s steps zero counted within executes runs = let stops = executes.0 in absurd cc
+goes_by p first s steps (suc left) counted within executes runs =
+    let same : steps + 1 + left ≡ steps + suc left = omega arith in
+    record {
+      allowed = executes.1;
+      counted = omega (arith, within);
+      next = record { left = left; counted = same ∙ counted; within = omega (arith, within); executes = executes.2 };
+    }
+
+pub goes : (p : Program) (first : State) (steps : ℕ) (s : State) → Remains p first steps s → is_running s.hold ≡ true → Goes p first steps s
+goes p first steps s h runs = goes_by p first s steps h.left h.counted h.within h.executes runs
+
+-- a machine that is suspended has come to the end of the frame's instructions
+pub record Stops (p : Program) (first : State) (steps : ℕ) (s : State) : Type 0 where
+  pub state : s ≡ burst p.plan.budget p first
+  pub counted : steps ≡ burst_steps p.plan.budget p first
+
+stops_by : (p : Program) (first s : State) (steps left : ℕ) → steps + left ≡ burst_steps p.plan.budget p first
+    → Executes p s left (burst p.plan.budget p first) → is_running s.hold ≡ false → Stops p first steps s
+stops_by p first s steps zero counted executes held =
+    let same : steps ≡ steps + 0 = omega arith in
+    record { state = executes.1; counted = same ∙ counted }
+stops_by p first s steps (suc left) counted executes held = let runs = executes.0 in absurd cc
+
+pub stops : (p : Program) (first : State) (steps : ℕ) (s : State) → Remains p first steps s → is_running s.hold ≡ false → Stops p first steps s
+stops p first steps s h held = stops_by p first s steps h.left h.counted h.executes held

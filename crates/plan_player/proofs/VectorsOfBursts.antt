@@ -1,0 +1,111 @@
+-- What a frame of a machine rests on: where it holds, and where it fails.
+use Rattle.std.proofs.Common.{◌≡◌, ℕ, zero, suc, ◌<◌, true, false, List, [], ◌∷◌, replicate, Some, None, refl, sym, subst, arith}
+use Rattle.mux_config.specs.Configuration.{IsConfiguration, nothing}
+use Rattle.fib_codec.specs.declared.modes.Mode.TheVariants.{I}
+use Rattle.plan_code.specs.declared.plan.Plan.{Plan}
+use Rattle.plan_code.specs.declared.flags.Counters.{Counters}
+use Rattle.plan_code.specs.declared.flags.Contacts.{Contacts}
+use Rattle.plan_code.specs.declared.hold.Hold.TheVariants.{Waits}
+use Rattle.plan_code.specs.declared.label.Label.{Label}
+use Rattle.plan_code.specs.declared.label.Swap.TheVariants.{Idle}
+use Rattle.plan_code.specs.declared.instr.Instr.{Instr}
+use Rattle.plan_code.specs.declared.instr.Line.{Line}
+use Rattle.plan_code.specs.declared.instr.Instr.TheVariants.{Wait, Join, End}
+use Rattle.plan_code.specs.Program.{Program}
+use Rattle.plan_code.specs.Machine.{State, IsAllowed}
+use Rattle.plan_runs.specs.Frames.{Executes, ready, after_burst}
+use Rattle.plan_player.specs.Positions.{CanRun, CanGoOn}
+
+abbrev plan : Plan
+plan = record { eid = 0xe1c5; mode = I; period = 4; notice = 24; budget = 20 }
+
+abbrev no_counters : Counters
+no_counters = record { 0 = 0 }
+
+abbrev all_open : Contacts
+all_open = record { 0 = 0 }
+
+abbrev label : Label
+label = record { pc = 0; cur = 0; next = 0; pending = Idle; counters = no_counters; cost = 1 }
+
+abbrev line : Instr → Line
+line i = record { number = 1; instr = i }
+
+abbrev code : List Line → Program
+code lines = record { plan = plan; configurations = nothing ∷ []; labels = label ∷ []; lines = lines }
+
+abbrev waits : Program
+waits = code (line (Wait 1) ∷ line End ∷ [])
+
+abbrev joins : Program
+joins = code (line Join ∷ [])
+
+-- at count 1, on which no FIG 0/0 is sent
+abbrev first : State
+first =
+    record {
+      current = nothing;
+      next = nothing;
+      left = None;
+      pc = 0;
+      hold = Waits 0;
+      counters = replicate 8 0;
+      contacts = all_open;
+      count = 1;
+      day = 0;
+      eid = 0xe1c5;
+      turn = 0;
+    }
+
+-- ---- instructions
+
+waits_for_a_frame : CanRun waits (ready first)
+waits_for_a_frame = record {
+  steps = 1;
+  end = after_burst waits first;
+  within = omega arith;
+  executes = (refl, record { instr = Wait 1; within = refl; allowed = tt }, (refl, refl));
+}
+
+no_join : (i : Instr) → Some Join ≡ Some i → IsAllowed plan i first → ⊥
+no_join i at allowed =
+    let same : Join ≡ i = cc in
+    let pending : IsAllowed plan Join first = subst (λ (j : Instr). IsAllowed plan j first) (sym same) allowed in
+    let some : false ≡ true = pending in
+    absurd cc
+
+join_traps : (n : ℕ) (t : State) → Executes joins (ready first) n t → ⊥
+join_traps zero t h = let e : true ≡ false = h.0 in absurd cc
+join_traps (suc n) t h = no_join h.1.instr h.1.within h.1.allowed
+
+joins_no_swap : CanRun joins (ready first) → ⊥
+joins_no_swap h = join_traps h.steps h.end h.executes
+
+-- ---- a frame
+
+empty_is : IsConfiguration nothing
+empty_is = record {
+  subs_ascend = tt;
+  services_ascend = tt;
+  packets_ascend = tt;
+  subs_placed = tt;
+  services_formed = tt;
+  packets_addressed = tt;
+  subs_few = omega arith;
+  services_few = omega arith;
+  packets_few = omega arith;
+}
+
+goes_on : CanGoOn waits first
+goes_on = record {
+  runs = waits_for_a_frame;
+  sent = record { turn = omega arith; current = empty_is; next = empty_is; count = omega arith; ensemble = tt };
+  few = omega arith;
+}
+
+-- all entries stand on page 0
+no_second_page : CanGoOn waits (record first { turn = 1 }) → ⊥
+no_second_page h = let e : 1 < 1 = h.sent.turn in omega (arith, e)
+
+join_goes_nowhere : CanGoOn joins first → ⊥
+join_goes_nowhere h = joins_no_swap h.runs

@@ -1,0 +1,135 @@
+//! The state of a machine, over any store of configurations.
+
+mod burst;
+mod commit;
+mod counts;
+mod instruction;
+mod opening;
+mod sending;
+
+ghost use Rattle.std.specs.Prelude.{◌≡◌};
+ghost use Rattle.plan_code.specs.Program.{Program};
+ghost use Rattle.plan_runs.specs.Runs.{IsStart, happens};
+ghost use Rattle.plan_runs.specs.declared.event.Event.TheVariants.{Contact};
+ghost use Rattle.plan_player.specs.Positions.{state_of};
+
+pub(crate) use burst::run;
+pub(crate) use counts::{page_after, pass};
+use mux_config::Store;
+pub(crate) use opening::begin;
+use plan_code::{ContactId, Contacts, Hold};
+use plan_runs::Start;
+use plan_verifier::Verified;
+pub(crate) use sending::{begin_notice, ensemble, is_first_noticed, next_sent};
+
+/// A machine between two steps of a frame: its current and its next configuration in two stores, what it waits for,
+/// and its counts. Contracts see it as a `State`. The steps of a frame are functions of their own: `begin` makes a
+/// swap that is due and ends a hold, `run` carries out the frame's instructions without a test of any trap,
+/// `begin_notice` and `ensemble` give what is sent, and `pass` takes the counts forward.
+#[derive(Drop)]
+pub(crate) struct Machine<S: Store> {
+    /// The current configuration.
+    current: S,
+    /// The next configuration.
+    next: S,
+    /// How many frames are left until the swap, where one is pending.
+    left: Option<u16>,
+    /// The place of the instruction to come, counted from 0.
+    pc: u16,
+    /// What has to come before it is carried out.
+    hold: Hold,
+    /// What is left of each of the eight counters: 0 where it is not set.
+    counters: [u16; 8],
+    /// The contacts that are closed.
+    contacts: Contacts,
+    /// The CIF count of the next frame, 0 to 4999 (EN 300 401 clause 5.1).
+    count: u16,
+    /// The frame of the day, 0 to 3,599,999, in frames of 24 ms.
+    day: u32,
+    /// The identifier of the ensemble, EId (EN 300 401 clause 6.4).
+    eid: u16,
+    /// The number of the page in turn, counted from 0.
+    turn: u8,
+}
+
+impl<S: Store> Machine<S> {
+    /// The machine at the start of a typed code: both configurations are those of its first label, no swap is
+    /// pending, no counter is set, and the instructions begin with the first frame. No memory is taken.
+    pub(crate) fn start(code: &Verified, start: Start) -> Machine<S>
+        ensures { IsStart code.now start (state_of S.content result) }
+    {
+        let code = code.code();
+        let label = code.label_at(0).unwrap();
+        let config = code.config(label.cur).unwrap();
+        Machine {
+            current: S::from_config(config),
+            next: S::from_config(config),
+            left: None,
+            pc: 0,
+            hold: Hold::Waits(0),
+            counters: [0; 8],
+            contacts: start.contacts,
+            count: start.count,
+            day: start.day,
+            eid: start.eid,
+            turn: 0,
+        }
+    }
+
+    /// Closes a contact, or opens it; the others stay.
+    pub(crate) fn set_contact(&mut self, contact: ContactId, closed: bool)
+        ensures { (p : Program) → state_of S.content self.new ≡
+            happens p (state_of S.content self.old) (Contact contact closed) }
+    {
+        self.contacts = self.contacts.with(contact, closed);
+    }
+
+    /// The current configuration.
+    pub(crate) fn current(&self) -> &S
+        ensures { result.now ≡ self.now.current }
+    {
+        &self.current
+    }
+
+    /// The next configuration.
+    pub(crate) fn next(&self) -> &S
+        ensures { result.now ≡ self.now.next }
+    {
+        &self.next
+    }
+
+    /// How many frames are left until the swap, where one is pending.
+    pub(crate) fn left(&self) -> Option<u16>
+        ensures { result ≡ self.now.left }
+    {
+        self.left
+    }
+
+    /// The place of the instruction to come, counted from 0.
+    pub(crate) fn pc(&self) -> u16
+        ensures { result ≡ self.now.pc }
+    {
+        self.pc
+    }
+
+    /// The CIF count of the next frame, 0 to 4999 (EN 300 401 clause 5.1).
+    pub(crate) fn count(&self) -> u16
+        ensures { result ≡ self.now.count }
+    {
+        self.count
+    }
+
+    /// The frame of the day, 0 to 3,599,999, in frames of 24 ms.
+    pub(crate) fn day(&self) -> u32
+        ensures { result ≡ self.now.day }
+    {
+        self.day
+    }
+
+    /// The number of the page in turn, counted from 0.
+    pub(crate) fn turn(&self) -> u8
+        ensures { result ≡ self.now.turn }
+    {
+        self.turn
+    }
+}

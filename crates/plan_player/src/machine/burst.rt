@@ -1,0 +1,53 @@
+//! The instructions of one frame.
+
+ghost use Rattle.std.specs.Prelude.{◌≡◌};
+ghost use Rattle.plan_code.specs.Machine.{StepIsAllowed, step};
+ghost use Rattle.plan_runs.specs.Frames.{is_running, burst, burst_steps};
+ghost use Rattle.plan_player.specs.Positions.{state_of, CanRun};
+
+use super::Machine;
+use super::instruction::carry_out;
+use mux_config::Store;
+use plan_code::{Code, Hold, Plan};
+
+/// Whether nothing holds the machine: instructions are carried out.
+fn is_running(hold: Hold) -> bool
+    ensures { result ≡ is_running hold }
+{
+    match hold {
+        Hold::Waits(frames) => frames == 0,
+        Hold::WaitsDay(_) => false,
+        Hold::WaitsContact { .. } => false,
+        Hold::WaitsSwap => false,
+        Hold::Ended => false,
+    }
+}
+
+/// Carries out the instruction at the machine's place, where it doesn't trap.
+fn step<S: Store>(code: &Code, plan: &Plan, machine: &mut Machine<S>)
+    requires plan { plan.now ≡ code.now.plan }
+    requires allowed { StepIsAllowed code.now (state_of S.content machine.old) }
+    ensures { state_of S.content machine.new ≡ step code.now (state_of S.content machine.old) }
+{
+    let instr = code.instr(machine.pc).unwrap();
+    carry_out(plan, instr, machine);
+}
+
+/// Carries out instructions until one suspends, where none of them traps and they are within the budget; how many
+/// they are is the result. Neither a trap nor the budget is tested for.
+#[tactic(auto, using(crate::proofs::Remaining::remains_all, crate::proofs::Remaining::stops))]
+pub(crate) fn run<S: Store>(code: &Code, machine: &mut Machine<S>) -> u8
+    requires { CanRun code.now (state_of S.content machine.old) }
+    ensures state { state_of S.content machine.new ≡
+        burst code.now.plan.budget code.now (state_of S.content machine.old) }
+    ensures steps { result ≡
+        burst_steps code.now.plan.budget code.now (state_of S.content machine.old) }
+{
+    let plan = code.plan();
+    let mut steps = 0u8;
+    'instructions: while is_running(machine.hold) {
+        step(code, &plan, machine);
+        steps += 1;
+    }
+    steps
+}

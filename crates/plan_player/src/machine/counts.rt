@@ -1,0 +1,74 @@
+//! What comes last in a frame: the counts are taken forward.
+
+ghost use Rattle.std.specs.Prelude.{◌≡◌, ◌≤◌, ◌+◌, ◌%◌};
+ghost use Rattle.fib_carousel.specs.Pages.{page_after};
+ghost use Rattle.plan_code.specs.declared.plan.Plan.{Plan};
+ghost use Rattle.plan_runs.specs.Frames.{left_after_frame, hold_after_frame, with_next_counts};
+ghost use Rattle.plan_player.specs.Positions.{state_of};
+
+use super::Machine;
+use mux_config::Store;
+use plan_code::Hold;
+use plan_code::limits::{COUNTS, FRAMES_A_DAY};
+
+/// The frames until the swap, one frame later.
+fn left_after_frame(left: Option<u16>) -> Option<u16>
+    ensures { result ≡ left_after_frame left }
+{
+    match left {
+        None => None,
+        Some(left) => Some(left.saturating_sub(1)),
+    }
+}
+
+/// What is waited for, one frame later.
+fn hold_after_frame(hold: Hold) -> Hold
+    ensures { result ≡ hold_after_frame hold }
+{
+    match hold {
+        Hold::Waits(frames) => Hold::Waits(frames.saturating_sub(1)),
+        Hold::WaitsDay(frame) => Hold::WaitsDay(frame),
+        Hold::WaitsContact { contact, closed } => Hold::WaitsContact { contact, closed },
+        Hold::WaitsSwap => Hold::WaitsSwap,
+        Hold::Ended => Hold::Ended,
+    }
+}
+
+/// The CIF count after this one: 0 again after 4999 (EN 300 401 clause 5.1).
+fn count_after(count: u16) -> u16
+    ensures { result ≡ (count + 1) % COUNTS }
+{
+    ((u32::from(count) + 1) % u32::from(COUNTS)) as u16
+}
+
+/// The frame of the day after this one: 0 again after 3,599,999.
+fn day_after(day: u32) -> u32
+    ensures { result ≡ (day + 1) % FRAMES_A_DAY }
+{
+    ((u64::from(day) + 1) % u64::from(FRAMES_A_DAY)) as u32
+}
+
+/// The page after page k, where there are this many pages, at most 256: page 0 again after the last.
+pub(crate) fn page_after(pages: usize, page: u8) -> u8
+    requires { pages ≤ 256 }
+    ensures { result ≡ page_after pages page }
+{
+    if usize::from(page) + 1 < pages {
+        page + 1
+    } else {
+        0
+    }
+}
+
+/// Ends a frame: the next CIF count and the next frame of the day, one frame fewer until a pending swap and of a wait,
+/// and this page in turn.
+pub(crate) fn pass<S: Store>(turn: u8, machine: &mut Machine<S>)
+    ensures { (plan : Plan) → state_of S.content machine.new ≡
+        record (with_next_counts plan (state_of S.content machine.old)) { turn = turn } }
+{
+    machine.left = left_after_frame(machine.left);
+    machine.hold = hold_after_frame(machine.hold);
+    machine.count = count_after(machine.count);
+    machine.day = day_after(machine.day);
+    machine.turn = turn;
+}

@@ -1,0 +1,155 @@
+//! One instruction, where it doesn't trap.
+
+ghost use Rattle.std.specs.Prelude.{◌≡◌, ◌<◌};
+ghost use Rattle.plan_code.specs.Machine.{IsAllowed, effect, suspend};
+ghost use Rattle.plan_code.specs.declared.instr.Instr.TheVariants.{CommitIn, CommitAt, Settle, Edit as Edits, Test, Jump, Set, Loop, End};
+ghost use Rattle.plan_player.specs.Positions.{state_of};
+
+use super::Machine;
+use super::commit::{left_at, left_in};
+use mux_config::{Edit, Store};
+use plan_code::limits::COUNTS;
+use plan_code::{ContactId, CounterId, Delay, Hold, Instr, Plan, Times};
+
+/// Suspends; the next instruction runs when the hold has ended.
+fn suspend<S: Store>(hold: Hold, machine: &mut Machine<S>)
+    requires { machine.old.pc < 65535 }
+    ensures { state_of S.content machine.new ≡ suspend hold (state_of S.content machine.old) }
+{
+    machine.hold = hold;
+    machine.pc += 1;
+}
+
+/// Commits the next configuration, for a swap after this delay.
+fn commit_in<S: Store>(plan: &Plan, delay: Delay, machine: &mut Machine<S>)
+    requires { machine.old.pc < 65535 }
+    ensures { state_of S.content machine.new ≡ effect plan.now (CommitIn delay)
+        (state_of S.content machine.old) }
+{
+    machine.left = Some(left_in(plan.mode.step(), machine.count, delay.get()));
+    machine.pc += 1;
+}
+
+/// Commits the next configuration, for a swap at this CIF count.
+fn commit_at<S: Store>(plan: &Plan, count: u16, machine: &mut Machine<S>)
+    requires within { machine.old.pc < 65535 }
+    requires count { count < COUNTS }
+    ensures { state_of S.content machine.new ≡ effect plan.now (CommitAt count)
+        (state_of S.content machine.old) }
+{
+    machine.left = Some(left_at(machine.count, plan.notice, count));
+    machine.pc += 1;
+}
+
+/// Waits for the swap where one is pending; else continues.
+fn settle<S: Store>(plan: &Plan, machine: &mut Machine<S>)
+    requires { machine.old.pc < 65535 }
+    ensures { state_of S.content machine.new ≡ effect plan.now Settle
+        (state_of S.content machine.old) }
+{
+    let _notice = plan.notice;
+    match machine.left {
+        None => machine.pc += 1,
+        Some(_) => suspend(Hold::WaitsSwap, machine),
+    }
+}
+
+/// Ends: nothing is waited for that ever comes.
+fn end<S: Store>(plan: &Plan, machine: &mut Machine<S>)
+    ensures { state_of S.content machine.new ≡ effect plan.now End
+        (state_of S.content machine.old) }
+{
+    let _notice = plan.notice;
+    machine.hold = Hold::Ended;
+}
+
+/// Edits the next configuration.
+fn edit<S: Store>(plan: &Plan, edit: Edit, machine: &mut Machine<S>)
+    requires within { machine.old.pc < 65535 }
+    requires allowed { IsAllowed plan.now (Edits edit) (state_of S.content machine.old) }
+    ensures { state_of S.content machine.new ≡ effect plan.now (Edits edit)
+        (state_of S.content machine.old) }
+{
+    let _notice = plan.notice;
+    edit.apply_known(&mut machine.next);
+    machine.pc += 1;
+}
+
+/// Continues where the contact is closed; else jumps to the target.
+fn test<S: Store>(plan: &Plan, contact: ContactId, target: u16, machine: &mut Machine<S>)
+    requires { machine.old.pc < 65535 }
+    ensures { state_of S.content machine.new ≡ effect plan.now (Test contact target)
+        (state_of S.content machine.old) }
+{
+    let _notice = plan.notice;
+    if machine.contacts.is_closed(contact) {
+        machine.pc += 1;
+    } else {
+        machine.pc = target;
+    }
+}
+
+/// Jumps to the target.
+fn jump<S: Store>(plan: &Plan, target: u16, machine: &mut Machine<S>)
+    ensures { state_of S.content machine.new ≡ effect plan.now (Jump target)
+        (state_of S.content machine.old) }
+{
+    let _notice = plan.notice;
+    machine.pc = target;
+}
+
+/// Sets a counter.
+fn set<S: Store>(plan: &Plan, counter: CounterId, times: Times, machine: &mut Machine<S>)
+    requires { machine.old.pc < 65535 }
+    ensures { state_of S.content machine.new ≡ effect plan.now (Set counter times)
+        (state_of S.content machine.old) }
+{
+    let _notice = plan.notice;
+    machine.counters[usize::from(counter.get())] = times.get();
+    machine.pc += 1;
+}
+
+/// Lowers a counter by one, and jumps to the target if something is left of it.
+fn repeat<S: Store>(plan: &Plan, counter: CounterId, target: u16, machine: &mut Machine<S>)
+    requires within { machine.old.pc < 65535 }
+    requires allowed { IsAllowed plan.now (Loop counter target) (state_of S.content machine.old) }
+    ensures { state_of S.content machine.new ≡ effect plan.now (Loop counter target)
+        (state_of S.content machine.old) }
+{
+    let _notice = plan.notice;
+    let place = usize::from(counter.get());
+    let times = machine.counters[place];
+    machine.counters[place] = times - 1;
+    if 1 < times {
+        machine.pc = target;
+    } else {
+        machine.pc += 1;
+    }
+}
+
+/// Carries an instruction out, where it doesn't trap: no trap is tested for. Its place in the code leaves room for
+/// the place after it.
+pub(crate) fn carry_out<S: Store>(plan: &Plan, instr: Instr, machine: &mut Machine<S>)
+    requires within { machine.old.pc < 65535 }
+    requires allowed { IsAllowed plan.now instr (state_of S.content machine.old) }
+    ensures { state_of S.content machine.new ≡ effect plan.now instr
+        (state_of S.content machine.old) }
+{
+    match instr {
+        Instr::Wait(frames) => suspend(Hold::Waits(frames.get()), machine),
+        Instr::Until(frame) => suspend(Hold::WaitsDay(frame), machine),
+        Instr::WaitContact { contact, closed } => {
+            suspend(Hold::WaitsContact { contact, closed }, machine)
+        }
+        Instr::CommitIn(delay) => commit_in(plan, delay, machine),
+        Instr::CommitAt(count) => commit_at(plan, count, machine),
+        Instr::Join => suspend(Hold::WaitsSwap, machine),
+        Instr::Settle => settle(plan, machine),
+        Instr::End => end(plan, machine),
+        Instr::Edit(change) => edit(plan, change, machine),
+        Instr::Test { contact, target } => test(plan, contact, target, machine),
+        Instr::Jump(target) => jump(plan, target, machine),
+        Instr::Set { counter, times } => set(plan, counter, times, machine),
+        Instr::Loop { counter, target } => repeat(plan, counter, target, machine),
+    }
+}

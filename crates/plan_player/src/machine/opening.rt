@@ -1,0 +1,78 @@
+//! What comes first in a frame: a swap that is due, and the end of what was waited for.
+
+ghost use Rattle.std.specs.Prelude.{◌≡◌};
+ghost use Rattle.plan_runs.specs.Frames.{is_due, is_here, hold_after_swap, with_swap, with_hold_ended, ready};
+ghost use Rattle.plan_player.specs.Positions.{state_of};
+
+use super::Machine;
+use mux_config::Store;
+use plan_code::Hold;
+
+/// Whether a swap is due: one is pending, and no frame is left until it.
+pub(crate) fn is_due(left: Option<u16>) -> bool
+    ensures { result ≡ is_due left }
+{
+    match left {
+        None => false,
+        Some(left) => left == 0,
+    }
+}
+
+/// What is waited for after a swap: what waited for it resumes.
+fn hold_after_swap(hold: Hold) -> Hold
+    ensures { result ≡ hold_after_swap hold }
+{
+    match hold {
+        Hold::WaitsSwap => Hold::Waits(0),
+        Hold::Waits(frames) => Hold::Waits(frames),
+        Hold::WaitsDay(frame) => Hold::WaitsDay(frame),
+        Hold::WaitsContact { contact, closed } => Hold::WaitsContact { contact, closed },
+        Hold::Ended => Hold::Ended,
+    }
+}
+
+/// Makes the swap: the next configuration becomes the current one, what waits for it resumes, and page 0 is in turn.
+fn swap<S: Store>(machine: &mut Machine<S>)
+    ensures { state_of S.content machine.new ≡ with_swap (state_of S.content machine.old) }
+{
+    machine.current.copy_from(&machine.next);
+    machine.left = None;
+    machine.hold = hold_after_swap(machine.hold);
+    machine.turn = 0;
+}
+
+/// Whether what the machine waits for is here.
+fn is_here<S: Store>(machine: &Machine<S>) -> bool
+    ensures { result ≡ is_here (state_of S.content machine.now) machine.now.hold }
+{
+    match machine.hold {
+        Hold::Waits(frames) => frames == 0,
+        Hold::WaitsDay(frame) => machine.day == frame.get(),
+        Hold::WaitsContact { contact, closed } => machine.contacts.is_closed(contact) == closed,
+        Hold::WaitsSwap => false,
+        Hold::Ended => false,
+    }
+}
+
+/// Lets instructions be carried out where what the machine waits for is here.
+fn end_hold<S: Store>(machine: &mut Machine<S>)
+    ensures { state_of S.content machine.new ≡ with_hold_ended (state_of S.content machine.old) }
+{
+    if is_here(machine) {
+        machine.hold = Hold::Waits(0);
+    }
+}
+
+/// Begins a frame: makes the swap where one is due, and then ends the hold where what the machine waits for is
+/// here. Whether a swap was made is the result.
+pub(crate) fn begin<S: Store>(machine: &mut Machine<S>) -> bool
+    ensures state { state_of S.content machine.new ≡ ready (state_of S.content machine.old) }
+    ensures swapped { result ≡ is_due machine.old.left }
+{
+    let due = is_due(machine.left);
+    if due {
+        swap(machine);
+    }
+    end_hold(machine);
+    due
+}

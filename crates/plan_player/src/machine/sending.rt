@@ -1,0 +1,90 @@
+//! What a frame says of its notice, and its FIG 0/0.
+
+ghost use Rattle.std.specs.Prelude.{◌≡◌, ◌≤◌, IfSome, true};
+ghost use Rattle.std.specs.Option.{option_map, option_copied};
+ghost use Rattle.mux_config.specs.Change.{change_of, bits_of};
+ghost use Rattle.fib_codec.specs.Ranges.{IsEnsembleInformation};
+ghost use Rattle.plan_runs.specs.Frames.{is_noticed, is_first_noticed, low_of_swap, announced_next, ensemble_sent};
+ghost use Rattle.plan_player.specs.Positions.{state_of, with_notice_begun};
+
+use super::Machine;
+use mux_config::{Ensemble, Store};
+use plan_code::Plan;
+use plan_code::limits::COUNTS;
+
+/// Whether a frame is one of the notice: from this many frames before the swap to the last one before it.
+pub(crate) fn is_noticed(notice: u8, left: Option<u16>) -> bool
+    ensures { result ≡ is_noticed notice left }
+{
+    match left {
+        None => false,
+        Some(left) => 1 <= left && left <= u16::from(notice),
+    }
+}
+
+/// Whether a frame is the first of the notice.
+pub(crate) fn is_first_noticed(notice: u8, left: Option<u16>) -> bool
+    ensures { result ≡ is_first_noticed notice left }
+{
+    match left {
+        None => false,
+        Some(left) => left == u16::from(notice),
+    }
+}
+
+/// Begins a notice: in its first frame page 0 is in turn. Whether the frame is the first of a notice is the result.
+/// This comes after the frame's instructions.
+pub(crate) fn begin_notice<S: Store>(plan: &Plan, machine: &mut Machine<S>) -> bool
+    ensures state { state_of S.content machine.new ≡
+        with_notice_begun plan.now (state_of S.content machine.old) }
+    ensures first { result ≡ is_first_noticed plan.now.notice machine.old.left }
+{
+    let first = is_first_noticed(plan.notice, machine.left);
+    if first {
+        machine.turn = 0;
+    }
+    first
+}
+
+/// The next configuration, where the frame sends it beside the current one: in a notice.
+pub(crate) fn next_sent<'a, S: Store>(plan: &Plan, machine: &'a Machine<S>) -> Option<&'a S>
+    ensures { option_map S.content (option_copied result) ≡
+        announced_next plan.now (state_of S.content machine.now) }
+{
+    if is_noticed(plan.notice, machine.left) {
+        Some(&machine.next)
+    } else {
+        None
+    }
+}
+
+/// The low part of the CIF count of a swap that comes after this many frames: the count modulo 250.
+fn low_of_swap(count: u16, left: Option<u16>) -> u8
+    ensures { result ≡ low_of_swap count left }
+{
+    match left {
+        None => 0,
+        Some(left) => ((u32::from(count) + u32::from(left)) % u32::from(COUNTS) % 250) as u8,
+    }
+}
+
+/// The FIG 0/0 of the frame (EN 300 401 clause 6.4): the change flags and the low part of the count of the swap in a
+/// notice, neither elsewhere. In a notice `change` has to be the flags of what the swap changes. None where the CIF
+/// count is no multiple of the mode's step. Its fields must be within their bits.
+pub(crate) fn ensemble<S: Store>(plan: &Plan, machine: &Machine<S>, change: u8) -> Option<Ensemble>
+    requires within { IfSome (ensemble_sent plan.now (state_of S.content machine.now))
+        IsEnsembleInformation }
+    requires change { is_noticed plan.now.notice machine.now.left ≡ true →
+        change ≡ bits_of (change_of (S.content machine.now.current)
+        (S.content machine.now.next)) }
+    ensures { result ≡ ensemble_sent plan.now (state_of S.content machine.now) }
+{
+    if machine.count % plan.mode.step() != 0 {
+        return None;
+    }
+    if is_noticed(plan.notice, machine.left) {
+        let low = low_of_swap(machine.count, machine.left);
+        return Ensemble::new(machine.eid, change, false, machine.count, Some(low));
+    }
+    Ensemble::new(machine.eid, 0, false, machine.count, None)
+}

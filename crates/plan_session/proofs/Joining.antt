@@ -1,0 +1,105 @@
+-- Playing continues: events that were delivered, and then more of them.
+use Rattle.std.specs.Prelude.{replicate}
+use Rattle.std.proofs.Common.{◌≡◌, ℕ, zero, suc, ◌+◌, ◌<◌, ◌≤◌, List, [], ◌∷◌, ◌++◌, length, take, Option, refl, sym, ap, subst, ◌∙◌, arith, append_assoc, length-append}
+use Rattle.std.specs.Io.KnownBytes.{Appends}
+use Rattle.std.proofs.KnownBytes.{Appends-trans}
+use Rattle.plan_runs.specs.declared.event.Event.{Event}
+use Rattle.plan_runs.specs.declared.event.Event.TheVariants.{Contact, Frame}
+use Rattle.plan_code.specs.Program.{Program}
+use Rattle.plan_code.specs.Machine.{State}
+use Rattle.plan_runs.specs.Frames.{after_frame}
+use Rattle.plan_runs.specs.Runs.{happens, run_frames}
+use Rattle.plan_runs.proofs.Joined.{runs_join}
+use Rattle.plan_player.specs.Playing.{Playing, played}
+use Rattle.plan_player.specs.Delivery.{frames_of, played_bytes, next_frame, Stopped}
+use Rattle.plan_player.proofs.Delivering.{played_join, bytes_join}
+use Rattle.plan_session.specs.Parts.{Delivered}
+
+frames_join : (p : Playing) (events more : List Event) → frames_of p (events ++ more) ≡ frames_of p events ++ frames_of (played p events) more
+frames_join p events more = (runs_join p.code p.state [] events more).frames
+
+counts_join : (p : Playing) (events more : List Event) → length (frames_of p (events ++ more)) ≡ length (frames_of p events) + length (frames_of (played p events) more)
+counts_join p events more = ap (λ (fs : List (List ℕ)). length fs) (frames_join p events more) ∙ length-append (frames_of p events) (frames_of (played p events) more)
+
+-- ---- events delivered, and more
+
+pub joined : (a b c : Playing) (es fs : List Event) (x y z : Option (List ℕ)) (m n : ℕ) → Delivered a b es x y m → Delivered b c fs y z n → Delivered a c (es ++ fs) x z (m + n)
+joined a b c es fs x y z m n d e =
+    let bytes : played_bytes a es ++ played_bytes b fs ≡ played_bytes a (es ++ fs) = ap (λ (p : Playing). played_bytes a es ++ played_bytes p fs) d.state ∙ sym (bytes_join a es fs) in
+    let count : length (frames_of b fs) ≡ length (frames_of (played a es) fs) = ap (λ (p : Playing). length (frames_of p fs)) d.state in
+    let all = counts_join a es fs in
+    record {
+      state = e.state ∙ ap (λ (p : Playing). played p fs) d.state ∙ sym (played_join a es fs);
+      out = subst (λ (l : List ℕ). Appends x z l) bytes (Appends-trans x y z (played_bytes a es) (played_bytes b fs) d.out e.out);
+      whole = omega (arith, d.whole, e.whole, count, all);
+    }
+
+-- ---- the sink fails in later ones
+
+pub stopped_later : (a b c : Playing) (es fs : List Event) (x y z : Option (List ℕ)) (m n k : ℕ) → Delivered a b es x y m → Stopped b c fs y z n k → Stopped a c (es ++ fs) x z (m + n) k
+stopped_later a b c es fs x y z m n k d s =
+    let at : played b s.done ≡ played a (es ++ s.done) = ap (λ (p : Playing). played p s.done) d.state ∙ sym (played_join a es s.done) in
+    let next : next_frame (played b s.done) ≡ next_frame (played a (es ++ s.done)) = ap (λ (p : Playing). next_frame p) at in
+    let before : played_bytes a es ++ played_bytes b s.done ≡ played_bytes a (es ++ s.done) = ap (λ (p : Playing). played_bytes a es ++ played_bytes p s.done) d.state ∙ sym (bytes_join a es s.done) in
+    let bytes : played_bytes a es ++ (played_bytes b s.done ++ take k (next_frame (played b s.done))) ≡ played_bytes a (es ++ s.done) ++ take k (next_frame (played a (es ++ s.done))) =
+    sym (append_assoc (played_bytes a es) (played_bytes b s.done) (take k (next_frame (played b s.done))))
+    ∙ ap (λ (l : List ℕ). l ++ take k (next_frame (played b s.done))) before
+    ∙ ap (λ (l : List ℕ). played_bytes a (es ++ s.done) ++ take k l) next in
+    let count : length (frames_of b s.done) ≡ length (frames_of (played a es) s.done) = ap (λ (p : Playing). length (frames_of p s.done)) d.state in
+    let all = counts_join a es s.done in
+    record {
+      done = es ++ s.done;
+      rest = s.rest;
+      cut = ap (λ (l : List Event). es ++ l) s.cut ∙ sym (append_assoc es s.done (Frame ∷ s.rest));
+      whole = omega (arith, d.whole, s.whole, count, all);
+      part = subst (λ (l : List ℕ). k < length l) next s.part;
+      state = s.state ∙ ap (λ (p : Playing). played p (s.done ++ Frame ∷ [])) d.state ∙ sym (played_join a es (s.done ++ Frame ∷ []))
+          ∙ ap (λ (l : List Event). played a l) (sym (append_assoc es s.done (Frame ∷ [])));
+      out = subst (λ (l : List ℕ). Appends x z l) bytes (Appends-trans x y z (played_bytes a es) (played_bytes b s.done ++ take k (next_frame (played b s.done))) d.out s.out);
+    }
+
+-- and no later one is done
+pub stopped_before : (a c : Playing) (es fs : List Event) (x z : Option (List ℕ)) (n k : ℕ) → Stopped a c es x z n k → Stopped a c (es ++ fs) x z n k
+stopped_before a c es fs x z n k s = record {
+  done = s.done;
+  rest = s.rest ++ fs;
+  cut = ap (λ (l : List Event). l ++ fs) s.cut ∙ append_assoc s.done (Frame ∷ s.rest) fs;
+  whole = s.whole;
+  part = s.part;
+  state = s.state;
+  out = s.out;
+}
+
+-- ---- there are no more frames than events
+
+few : (p : Program) (s : State) (es : List Event) → length (run_frames p s es) ≤ length es
+few p s [] = omega arith
+few p s (Contact c closed ∷ es) = omega (arith, few p (happens p s (Contact c closed)) es)
+few p s (Frame ∷ es) = omega (arith, few p (after_frame p s) es)
+
+pub few_delivered : (a b : Playing) (es : List Event) (x y : Option (List ℕ)) (m : ℕ) → Delivered a b es x y m → m ≤ length es
+few_delivered a b es x y m d = omega (arith, d.whole, few a.code a.state es)
+
+pub few_stopped : (a c : Playing) (es : List Event) (x z : Option (List ℕ)) (n k : ℕ) → Stopped a c es x z n k → n ≤ length es
+few_stopped a c es x z n k s =
+    let all : length es ≡ length s.done + length (Frame ∷ s.rest) = ap (λ (l : List Event). length l) s.cut ∙ length-append s.done (Frame ∷ s.rest) in
+    omega (arith, s.whole, few a.code a.state s.done, all)
+
+-- ---- frames one after another
+
+pub replicate_more : (m n : ℕ) → replicate (m + n) Frame ≡ replicate m Frame ++ replicate n Frame
+replicate_more zero n =
+    let same : 0 + n ≡ n = omega arith in
+    ap (λ (k : ℕ). replicate k Frame) same
+replicate_more (suc m) n =
+    let next : suc m + n ≡ suc (m + n) = omega arith in
+    ap (λ (k : ℕ). replicate k Frame) next ∙ ap (λ (l : List Event). Frame ∷ l) (replicate_more m n)
+
+pub take_replicate : (n m : ℕ) → n ≤ m → take n (replicate m Frame) ≡ replicate n Frame
+take_replicate zero m le = refl
+take_replicate (suc n) zero le = absurd (omega (arith, le))
+take_replicate (suc n) (suc m) le = ap (λ (l : List Event). Frame ∷ l) (take_replicate n m (omega (arith, le)))
+
+pub length_replicate : (n : ℕ) → length (replicate n Frame) ≡ n
+length_replicate zero = refl
+length_replicate (suc n) = ap (λ (k : ℕ). suc k) (length_replicate n)

@@ -1,0 +1,9 @@
+mod CommandWords
+mod Cutting
+mod Holding
+mod ItemTexts
+mod Joining
+mod Listed
+pub mod Requests
+mod StepWords
+mod Steps

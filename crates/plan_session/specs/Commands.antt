@@ -1,0 +1,33 @@
+-- What the text of a command file holds: its tokens spell the commands one after another.
+use Rattle.std.specs.Prelude.{ℕ, ◌<◌, ◌≤◌, List, [], ◌∷◌, codes}
+use Rattle.std.specs.Fmt.{decimal}
+use Rattle.plan_code.specs.declared.limits.TheConstants.{FRAMES_A_DAY}
+use Rattle.plan_session.specs.declared.command.Command.{Command}
+use Rattle.plan_session.specs.declared.command.Command.TheVariants.{Contact, Run, Next, Break, Clear, Show}
+use Rattle.plan_session.specs.Items.{HoldsItems, HoldsOneListOf, contact_word}
+
+-- the numbers of a command are in their ranges
+abbrev pub IsCommand : Command → Type 0
+IsCommand (Contact c closed) = c < 16
+IsCommand (Run n) = (1 ≤ n) × (n ≤ FRAMES_A_DAY)
+IsCommand Next = Unit {0}
+IsCommand (Break line) = (1 ≤ line) × (line ≤ 65535)
+IsCommand Clear = Unit {0}
+IsCommand Show = Unit {0}
+
+-- the words that spell a command
+abbrev pub command_words : Command → List (List ℕ)
+command_words (Contact c closed) = codes "contact" ∷ decimal c ∷ contact_word closed ∷ []
+command_words (Run n) = codes "run" ∷ decimal n ∷ []
+command_words Next = codes "next" ∷ []
+command_words (Break line) = codes "break" ∷ decimal line ∷ []
+command_words Clear = codes "clear" ∷ []
+command_words Show = codes "show" ∷ []
+
+-- the text holds these commands
+abbrev pub HoldsCommands : List ℕ → List Command → Type 0
+HoldsCommands text commands = HoldsItems command_words IsCommand text commands
+
+-- a text holds one list of commands at most
+abbrev pub HoldsOneListOfCommands : Type 0
+HoldsOneListOfCommands = HoldsOneListOf command_words IsCommand

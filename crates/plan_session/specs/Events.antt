@@ -1,0 +1,44 @@
+-- What the text of an event file holds: its tokens spell the steps one after another.
+use Rattle.std.specs.Prelude.{ℕ, ◌<◌, ◌≤◌, Bool, true, false, List, [], ◌∷◌, flat_map, replicate, codes}
+use Rattle.std.specs.Fmt.{decimal}
+use Rattle.plan_runs.specs.declared.event.Event.{Event}
+use Rattle.plan_runs.specs.declared.event.Event.TheVariants.{Contact as ContactChanges, Frame}
+use Rattle.plan_code.specs.declared.limits.TheConstants.{FRAMES_A_DAY}
+use Rattle.plan_session.specs.declared.step.Step.{Step}
+use Rattle.plan_session.specs.declared.step.Step.TheVariants.{Contact, Frames}
+use Rattle.plan_session.specs.Items.{HoldsItems, HoldsOneListOf, contact_word}
+
+-- ---- steps
+
+abbrev pub IsStep : Step → Type 0
+IsStep (Contact c closed) = c < 16
+IsStep (Frames n) = (1 ≤ n) × (n ≤ FRAMES_A_DAY)
+
+-- the words that spell a step
+abbrev pub first_word : Bool → List ℕ
+first_word true = codes "frames"
+first_word false = codes "contact"
+
+abbrev pub step_words : Step → List (List ℕ)
+step_words (Contact c closed) = codes "contact" ∷ decimal c ∷ contact_word closed ∷ []
+step_words (Frames n) = codes "frames" ∷ decimal n ∷ []
+
+-- ---- texts
+
+-- the text holds these steps
+abbrev pub Holds : List ℕ → List Step → Type 0
+Holds text steps = HoldsItems step_words IsStep text steps
+
+-- a text holds one list of steps at most
+abbrev pub HoldsOneList : Type 0
+HoldsOneList = HoldsOneListOf step_words IsStep
+
+-- ---- events
+
+-- the events of a step: one contact change, or this many frames
+abbrev pub events_of_step : Step → List Event
+events_of_step (Contact c closed) = ContactChanges c closed ∷ []
+events_of_step (Frames n) = replicate n Frame
+
+abbrev pub events_of : List Step → List Event
+events_of steps = flat_map events_of_step steps

@@ -1,0 +1,96 @@
+//! Bytes that wait to be handed on.
+
+ghost use Rattle.std.specs.Prelude.{◌≡◌, ◌+◌, ◌<◌, ◌≤◌, [], ◌++◌, length, take, drop, false};
+
+use std::marker::Model;
+
+/// How many bytes a block holds: the frames of some 24 seconds.
+const SIZE: usize = 98_304;
+
+/// Up to 98,304 bytes, in the order in which they came. It is emptied by its length; no byte is written for it.
+#[derive(Drop)]
+pub(crate) struct Block {
+    bytes: [u8; SIZE],
+    len: usize,
+}
+
+impl Model for Block {
+    ghost use Rattle.std.specs.Prelude.{ℕ, List, ◌≡◌, ◌≤◌, length, take};
+
+    ghost Value = { List ℕ };
+
+    ghost view = { λ b. take b.len b.bytes };
+
+    ghost invariant = { λ b. (b.len ≤ 98304) × (length b.bytes ≡ 98304) };
+}
+
+/// Writes a piece over the bytes from an offset on.
+fn write_at(bytes: &mut [u8], offset: usize, piece: &[u8])
+    requires { offset + length piece.now ≤ length bytes.old }
+    ensures { bytes.new ≡ take offset bytes.old
+        ++ (piece.now ++ drop (offset + length piece.now) bytes.old) }
+{
+    bytes[offset..offset + piece.len()].copy_from_slice(piece);
+}
+
+impl Block {
+    /// No bytes.
+    pub(crate) fn new() -> Block
+        ensures { result ≡ [] }
+    {
+        Block {
+            bytes: [0; SIZE],
+            len: 0,
+        }
+    }
+
+    /// How many bytes wait.
+    pub(crate) fn len(&self) -> usize
+        ensures value { result ≡ length self.now }
+        ensures bound { result ≤ 98304 }
+    {
+        self.len
+    }
+
+    /// Whether there is no room left.
+    pub(crate) fn is_full(&self) -> bool
+        ensures { result ≡ false → length self.now < 98304 }
+    {
+        self.len == SIZE
+    }
+
+    /// The bytes that wait.
+    pub(crate) fn as_slice(&self) -> &[u8]
+        ensures { result.now ≡ self.now }
+    {
+        &self.bytes[..self.len]
+    }
+
+    /// Takes as many of these bytes as there is room for; how many is the result.
+    pub(crate) fn fill(&mut self, bytes: &[u8]) -> usize
+        ensures taken { self.new ≡ self.old ++ take result bytes.now }
+        ensures bound { result ≤ length bytes.now }
+        ensures some { length self.old < 98304 → 0 < length bytes.now → 1 ≤ result }
+    {
+        let count = bytes.len().min(SIZE - self.len);
+        write_at(&mut self.bytes, self.len, &bytes[..count]);
+        self.len += count;
+        count
+    }
+
+    /// Lets the first bytes go; the others move to the front.
+    pub(crate) fn let_go(&mut self, count: usize)
+        requires { count ≤ length self.old }
+        ensures { self.new ≡ drop count self.old }
+    {
+        self.bytes.copy_within(count..self.len, 0);
+        self.len -= count;
+    }
+
+    /// Lets all bytes go.
+    pub(crate) fn clear(&mut self)
+        ensures { self.new ≡ [] }
+    {
+        self.len = 0;
+    }
+}

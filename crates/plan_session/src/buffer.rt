@@ -1,0 +1,112 @@
+//! A sink that gathers the bytes of frames, and hands them to another sink in large pieces.
+
+ghost use Rattle.std.specs.Prelude.{◌≡◌, ◌+◌, ◌*◌, ◌<◌, ◌≤◌, length, true, false};
+ghost use Rattle.std.specs.Io.KnownBytes.{Keeps};
+
+use crate::block::Block;
+use plan_player::{Sink, put_all};
+
+/// A sink over a sink, which hands it pieces of up to 98,304 bytes: the frames of some 24 seconds.
+///
+/// What it has taken is what the sink below has, and then what is held. It has failed where the sink below has; nothing
+/// goes there after that.
+#[derive(Drop)]
+pub(crate) struct Buffer<K> {
+    out: K,
+    held: Block,
+}
+
+impl<K: Sink> Buffer<K> {
+    ghost use Rattle.plan_session.specs.Buffering.{taken_by};
+
+    /// A buffer that has taken nothing.
+    pub(crate) fn new(out: K) -> Self
+        ensures taken { Keeps (K.taken out) (taken_by K.taken result) }
+        ensures out { result.out ≡ out }
+    {
+        Buffer {
+            out,
+            held: Block::new(),
+        }
+    }
+
+    /// How many bytes are held.
+    pub(crate) fn held(&self) -> usize
+        ensures value { result ≡ length self.now.held }
+        ensures bound { result ≤ 98304 }
+    {
+        self.held.len()
+    }
+
+    /// The sink below. What is held is lost.
+    pub(crate) fn into_inner(self) -> K
+        ensures { result ≡ self.out }
+    {
+        self.out
+    }
+
+    /// Hands all that is held to the sink below, which must not have failed; whether it took all.
+    pub(crate) fn deliver(&mut self) -> bool
+        requires working { K.has_failed self.old.out ≡ false }
+        ensures bytes { Keeps (taken_by K.taken self.old) (taken_by K.taken self.new) }
+        ensures all { result ≡ true → length self.new.held ≡ 0 }
+        ensures left { result ≡ false → 0 < length self.new.held }
+        ensures works { result ≡ true → K.has_failed self.new.out ≡ false }
+        ensures fails { result ≡ false → K.has_failed self.new.out ≡ true }
+    {
+        match put_all(&mut self.out, self.held.as_slice()) {
+            Ok(()) => {
+                self.held.clear();
+                true
+            }
+            Err(taken) => {
+                self.held.let_go(taken);
+                false
+            }
+        }
+    }
+}
+
+impl<K: Sink> Sink for Buffer<K> {
+    ghost use Rattle.plan_session.specs.Buffering.{taken_by};
+
+    ghost taken = { taken_by K.taken };
+
+    ghost has_failed = { λ b. K.has_failed b.out };
+
+    /// Holds as many bytes as there is room for, once all that filled the room is handed on.
+    fn put(&mut self, bytes: &[u8]) -> Option<usize> {
+        if self.out.failed() {
+            return None;
+        }
+        if self.held.is_full() {
+            if !self.deliver() {
+                return None;
+            }
+        }
+        Some(self.held.fill(bytes))
+    }
+
+    fn failed(&self) -> bool {
+        self.out.failed()
+    }
+}
+
+/// Of this many frames of this size, and bytes of the next one, the last `held` bytes are held back: the whole frames that
+/// went on, and the bytes of the next one.
+pub(crate) fn delivered(frames: u128, bytes: usize, held: usize, size: usize) -> (u128, usize)
+    requires some { 0 < size }
+    requires few { held + size ≤ 100000 }
+    ensures whole { held ≤ frames * size + bytes
+        → result.0 * size + result.1 + held ≡ frames * size + bytes }
+    ensures part { bytes < size → result.1 < size }
+{
+    if held <= bytes {
+        return (frames, bytes - held);
+    }
+    let back = (held - bytes).div_ceil(size);
+    (
+        frames.saturating_sub(back as u128),
+        bytes + back * size - held,
+    )
+}

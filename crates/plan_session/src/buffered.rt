@@ -1,0 +1,111 @@
+//! A playback through a buffer: few large writes.
+
+ghost use Rattle.std.specs.Prelude.{◌≡◌, List, [], length, Some, false, IfOk, IfErr, OnOk};
+ghost use Rattle.plan_player.specs.Playing.{Playing};
+ghost use Rattle.plan_player.specs.Delivery.{frames_of};
+ghost use Rattle.plan_session.specs.declared.step.Step.{Step};
+ghost use Rattle.plan_session.specs.Events.{events_of};
+ghost use Rattle.plan_session.specs.Playback.{asked, IsPlayback, IsStarted, Delivers, IsRunFault, IsPlayFault, is_write, IsSilent};
+
+use crate::buffer::{Buffer, delivered};
+use crate::code_file::typed_code;
+use crate::playback::{play, start_with};
+use crate::run_fault::RunFault;
+use plan_code::Contacts;
+use plan_player::{Sink, Start};
+use plan_verifier::Verified;
+use std::alloc::Global;
+
+/// The bytes of a FIB.
+const FIB: usize = 32;
+
+/// [`play`] through a buffer; the sink is handed back.
+fn play_into<K: Sink>(
+    alloc: Global,
+    code: &Verified,
+    start: Start,
+    events: &str,
+    out: K,
+) -> (Result<u128, RunFault>, K)
+    requires working { K.has_failed out ≡ false }
+    ensures played { (p : Playing) (steps : List Step)
+        → IsStarted code.now start events.now p steps → K.taken out ≡ Some []
+        → Delivers p (events_of steps) (K.taken out) (K.taken result.1) result.0 }
+    ensures counted { IfOk result.0 (λ n. (p : Playing) (steps : List Step)
+        → IsStarted code.now start events.now p steps
+        → n ≡ length (frames_of p (events_of steps))) }
+    ensures only { OnOk result.0 ((p : Playing) × (steps : List Step)
+        × IsStarted code.now start events.now p steps) }
+    ensures first_fault { IfErr result.0 (λ e. IsPlayFault code.now start events.now e) }
+    ensures failed { K.has_failed result.1 ≡ is_write result.0 }
+    ensures silent { IfErr result.0 (λ e. K.taken out ≡ Some []
+        → IsSilent (K.taken out) (K.taken result.1) e) }
+{
+    let size = FIB * code.code().plan().mode.fibs();
+    plan_runs::laws::headline();
+    plan_runs::laws::reached();
+    let mut buffer = Buffer::new(out);
+    match play(alloc, code, start, events, &mut buffer) {
+        Ok(frames) => {
+            if buffer.deliver() {
+                return (Ok(frames), buffer.into_inner());
+            }
+            let (frames, bytes) = delivered(frames, 0, buffer.held(), size);
+            (Err(RunFault::Write { frames, bytes }), buffer.into_inner())
+        }
+        Err(RunFault::Write { frames, bytes }) => {
+            let (frames, bytes) = delivered(frames, bytes, buffer.held(), size);
+            (Err(RunFault::Write { frames, bytes }), buffer.into_inner())
+        }
+        Err(RunFault::Code(fault)) => (Err(RunFault::Code(fault)), buffer.into_inner()),
+        Err(RunFault::Refused { pc, line, cause }) => {
+            (
+                Err(RunFault::Refused { pc, line, cause }),
+                buffer.into_inner(),
+            )
+        }
+        Err(RunFault::Start(fault)) => (Err(RunFault::Start(fault)), buffer.into_inner()),
+        Err(RunFault::Events(fault)) => (Err(RunFault::Events(fault)), buffer.into_inner()),
+    }
+}
+
+/// [`run`](crate::run) into a sink that hasn't failed, in pieces of up to 98,304 bytes. The sink is handed back.
+///
+/// # Errors
+///
+/// Those of `run`. `Write` says what the sink took in the end, wherever it failed: at the last piece, too.
+pub fn run_into<K: Sink>(
+    alloc: Global,
+    code: &[u8],
+    events: &str,
+    count: u16,
+    day: u32,
+    contacts: Contacts,
+    out: K,
+) -> (Result<u128, RunFault>, K)
+    requires working { K.has_failed out ≡ false }
+    // Into a sink that tells its bytes and has none yet goes what `run` gives a sink.
+    ensures played { (p : Playing) (steps : List Step)
+        → IsPlayback (asked code.now events.now count day contacts) p steps
+        → K.taken out ≡ Some []
+        → Delivers p (events_of steps) (K.taken out) (K.taken result.1) result.0 }
+    // The frames of every sink are counted.
+    ensures counted { IfOk result.0 (λ n. (p : Playing) (steps : List Step)
+        → IsPlayback (asked code.now events.now count day contacts) p steps
+        → n ≡ length (frames_of p (events_of steps))) }
+    ensures only { OnOk result.0 ((p : Playing) × (steps : List Step)
+        × IsPlayback (asked code.now events.now count day contacts) p steps) }
+    ensures first_fault { IfErr result.0 (λ e.
+        IsRunFault (asked code.now events.now count day contacts) e) }
+    // The sink has failed exactly where the fault is `Write`.
+    ensures failed { K.has_failed result.1 ≡ is_write result.0 }
+    ensures silent { IfErr result.0 (λ e. K.taken out ≡ Some []
+        → IsSilent (K.taken out) (K.taken result.1) e) }
+{
+    let verified = match typed_code(alloc, code) {
+        Ok(verified) => verified,
+        Err(fault) => return (Err(fault), out),
+    };
+    let start = start_with(&verified, count, day, contacts);
+    play_into(alloc, &verified, start, events, out)
+}

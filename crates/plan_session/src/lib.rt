@@ -1,0 +1,34 @@
+//! Sessions: what a plan is played with, read from files, and the plan played.
+//!
+//! [`typed_code`] makes the code in a file one that can be played; [`read_events`] reads the text of an event file into
+//! its list of [`Step`]s, [`read_commands`] that of a command file into its list of [`Command`]s. [`play`] plays such a code
+//! over the text of an event file into a sink, [`run`] a code's file, and [`run_into`] too, by few large pieces. What a
+//! text holds is defined in `specs/Events.antt` and `specs/Commands.antt`; what a playback is asked for, what it delivers and its
+//! faults in `specs/Playback.antt`.
+#![tactic(auto)]
+
+mod block;
+mod buffer;
+pub mod buffered;
+pub mod code_file;
+pub mod command;
+pub mod commands;
+pub mod event_fault;
+pub mod events;
+mod items;
+pub mod laws;
+pub mod playback;
+mod playing;
+pub mod run_fault;
+pub mod step;
+mod words;
+
+pub use buffered::run_into;
+pub use code_file::typed_code;
+pub use command::Command;
+pub use commands::read_commands;
+pub use event_fault::EventFault;
+pub use events::read_events;
+pub use playback::{play, run};
+pub use run_fault::RunFault;
+pub use step::Step;

@@ -1,0 +1,120 @@
+//! A code's file and the text of an event file, played.
+
+ghost use Rattle.std.specs.Prelude.{◌≡◌, List, false, IfErr, OnOk};
+ghost use Rattle.plan_player.specs.Playing.{Playing};
+ghost use Rattle.plan_session.specs.declared.step.Step.{Step};
+ghost use Rattle.plan_session.specs.Events.{events_of};
+ghost use Rattle.plan_session.specs.Playback.{asked, IsPlayback, IsStarted, Delivers, IsRunFault, IsPlayFault, is_write, IsSilent};
+
+use crate::code_file::typed_code;
+use crate::events::read_events;
+use crate::laws;
+use crate::playing::play_steps;
+use crate::run_fault::RunFault;
+use mux_tables::Tables;
+use plan_code::Contacts;
+use plan_player::{Player, Sink, Start};
+use plan_verifier::Verified;
+use std::alloc::Global;
+
+/// The start of a code's player: the ensemble is that of its plan.
+pub(crate) fn start_with(code: &Verified, count: u16, day: u32, contacts: Contacts) -> Start
+    ensures { result ≡ record {
+      eid = code.now.plan.eid;
+      count = count;
+      day = day;
+      contacts = contacts;
+    } }
+{
+    Start {
+        eid: code.code().plan().eid,
+        count,
+        day,
+        contacts,
+    }
+}
+
+/// Plays a typed code from this start over the events of a text; each frame is put into the sink, which must not have
+/// failed. How many frames were made is the result. Events are not kept one by one: a step of many frames takes no more
+/// memory than one of a single frame.
+///
+/// # Errors
+///
+/// The first of these: `Start` where the count is 5000 or more, or the frame of the day 3,600,000 or more; `Events` where
+/// the text holds no events, or memory for them is refused; `Write` where the sink fails, with what went out. At every
+/// other fault nothing was written.
+pub fn play<K: Sink>(
+    alloc: Global,
+    code: &Verified,
+    start: Start,
+    events: &str,
+    out: &mut K,
+) -> Result<u128, RunFault>
+    requires working { K.has_failed out.old ≡ false }
+    // A start in range and a text of steps are played, unless memory or the sink fails.
+    ensures played { (p : Playing) (steps : List Step)
+        → IsStarted code.now start events.now p steps
+        → Delivers p (events_of steps) (K.taken out.old) (K.taken out.new) result }
+    // Nothing else is.
+    ensures only { OnOk result ((p : Playing) × (steps : List Step)
+        × IsStarted code.now start events.now p steps) }
+    ensures first_fault { IfErr result (λ e. IsPlayFault code.now start events.now e) }
+    // The sink has failed exactly where the fault is `Write`, and has taken nothing at another fault.
+    ensures failed { K.has_failed out.new ≡ is_write result }
+    ensures silent { IfErr result (λ e. IsSilent (K.taken out.old) (K.taken out.new) e) }
+{
+    laws::one_list();
+    let mut player: Player<Tables> = match Player::new(code, start) {
+        Ok(player) => player,
+        Err(fault) => return Err(RunFault::Start(fault)),
+    };
+    let steps = match read_events(alloc, events) {
+        Ok(steps) => steps,
+        Err(fault) => return Err(RunFault::Events(fault)),
+    };
+    match play_steps(&mut player, steps.as_slice(), out) {
+        Ok(frames) => Ok(frames),
+        Err(cut) => Err(RunFault::Write {
+            frames: cut.frames,
+            bytes: cut.bytes,
+        }),
+    }
+}
+
+/// Plays the code in a file over the events of a text: the player starts at this CIF count and frame of the day, with
+/// these contacts closed, and each frame is put into the sink, which must not have failed. How many frames were made is
+/// the result.
+///
+/// # Errors
+///
+/// The first of these: `Code` where the bytes are no code file, or memory for it is refused; `Refused` where the code
+/// is not typed; `Start` where the count is 5000 or more, or the frame of the day 3,600,000 or more; `Events` where the
+/// text holds no events, or memory for them is refused; `Write` where the sink fails, with what went out. At every other
+/// fault nothing was written.
+pub fn run<K: Sink>(
+    alloc: Global,
+    code: &[u8],
+    events: &str,
+    count: u16,
+    day: u32,
+    contacts: Contacts,
+    out: &mut K,
+) -> Result<u128, RunFault>
+    requires working { K.has_failed out.old ≡ false }
+    // A typed code, a start in range and a text of steps are played, unless memory or the sink fails.
+    ensures played { (p : Playing) (steps : List Step)
+        → IsPlayback (asked code.now events.now count day contacts) p steps
+        → Delivers p (events_of steps) (K.taken out.old) (K.taken out.new) result }
+    // Nothing else is.
+    ensures only { OnOk result ((p : Playing) × (steps : List Step)
+        × IsPlayback (asked code.now events.now count day contacts) p steps) }
+    ensures first_fault { IfErr result (λ e.
+        IsRunFault (asked code.now events.now count day contacts) e) }
+    // The sink has failed exactly where the fault is `Write`, and has taken nothing at another fault.
+    ensures failed { K.has_failed out.new ≡ is_write result }
+    ensures silent { IfErr result (λ e. IsSilent (K.taken out.old) (K.taken out.new) e) }
+{
+    let verified = typed_code(alloc, code)?;
+    let start = start_with(&verified, count, day, contacts);
+    play(alloc, &verified, start, events, out)
+}

@@ -1,0 +1,146 @@
+//! The steps of an event file, played into a sink.
+
+ghost use Rattle.std.specs.Prelude.{◌≡◌, ◌≤◌, false, true, replicate, IfOk, OnOk, IfErr, OnErr};
+ghost use Rattle.std.specs.List.{AllByRecursion};
+ghost use Rattle.plan_runs.specs.declared.event.Event.TheVariants.{Frame};
+ghost use Rattle.plan_player.specs.Delivery.{Stopped};
+ghost use Rattle.plan_session.specs.Events.{IsStep, events_of_step, events_of};
+ghost use Rattle.plan_session.specs.Parts.{Delivered};
+
+use crate::step::Step;
+use mux_config::Store;
+use plan_player::{Event, PlayFault, Player, Sink, play};
+
+/// How far playing came where the sink failed: this many frames went out whole, and this many bytes of the one after them.
+#[derive(Clone, Copy, Debug, PartialEq, Eq)]
+pub(crate) struct Cut {
+    pub(crate) frames: u128,
+    pub(crate) bytes: usize,
+}
+
+/// Plays some events, as a number of frames or where they were cut.
+fn play_events<'a, S: Store, K: Sink>(
+    player: &mut Player<'a, S>,
+    events: &[Event],
+    sink: &mut K,
+) -> Result<u128, Cut>
+    requires working { K.has_failed sink.old ≡ false }
+    ensures done { IfOk result (λ n.
+        Delivered player.old player.new events.now (K.taken sink.old) (K.taken sink.new) n) }
+    ensures works { OnOk result (K.has_failed sink.new ≡ false) }
+    ensures stopped { IfErr result (λ cut.
+        Stopped player.old player.new events.now (K.taken sink.old) (K.taken sink.new)
+        cut.frames cut.bytes) }
+    ensures fails { OnErr result (K.has_failed sink.new ≡ true) }
+{
+    match play(player, events, sink) {
+        Ok(frames) => Ok(u128::from(frames)),
+        Err(PlayFault::Write { frames, bytes }) => Err(Cut {
+            frames: u128::from(frames),
+            bytes,
+        }),
+    }
+}
+
+/// Plays up to 64 frames.
+fn play_some<'a, S: Store, K: Sink>(
+    player: &mut Player<'a, S>,
+    count: u32,
+    sink: &mut K,
+) -> Result<u128, Cut>
+    requires working { K.has_failed sink.old ≡ false }
+    requires few { count ≤ 64 }
+    ensures done { IfOk result (λ n. Delivered player.old player.new (replicate count Frame)
+        (K.taken sink.old) (K.taken sink.new) n) }
+    ensures works { OnOk result (K.has_failed sink.new ≡ false) }
+    ensures stopped { IfErr result (λ cut. Stopped player.old player.new (replicate count Frame)
+        (K.taken sink.old) (K.taken sink.new) cut.frames cut.bytes) }
+    ensures fails { OnErr result (K.has_failed sink.new ≡ true) }
+{
+    let frames = [Event::Frame; 64];
+    play_events(player, &frames[..count as usize], sink)
+}
+
+/// Plays this many frames, up to 64 of them at a time.
+fn play_frames<'a, S: Store, K: Sink>(
+    player: &mut Player<'a, S>,
+    count: u32,
+    sink: &mut K,
+) -> Result<u128, Cut>
+    requires working { K.has_failed sink.old ≡ false }
+    ensures done { IfOk result (λ n. Delivered player.old player.new (replicate count Frame)
+        (K.taken sink.old) (K.taken sink.new) n) }
+    ensures works { OnOk result (K.has_failed sink.new ≡ false) }
+    ensures stopped { IfErr result (λ cut. Stopped player.old player.new (replicate count Frame)
+        (K.taken sink.old) (K.taken sink.new) cut.frames cut.bytes) }
+    ensures fails { OnErr result (K.has_failed sink.new ≡ true) }
+{
+    let mut done = 0u32;
+    let mut frames = 0u128;
+    while done < count {
+        let next = (count - done).min(64);
+        match play_some(player, next, sink) {
+            Ok(made) => frames += made,
+            Err(cut) => {
+                return Err(Cut {
+                    frames: frames + cut.frames,
+                    bytes: cut.bytes,
+                });
+            }
+        }
+        done += next;
+    }
+    Ok(frames)
+}
+
+/// Plays a step.
+fn play_step<'a, S: Store, K: Sink>(
+    player: &mut Player<'a, S>,
+    step: Step,
+    sink: &mut K,
+) -> Result<u128, Cut>
+    requires working { K.has_failed sink.old ≡ false }
+    ensures done { IfOk result (λ n. Delivered player.old player.new (events_of_step step)
+        (K.taken sink.old) (K.taken sink.new) n) }
+    ensures works { OnOk result (K.has_failed sink.new ≡ false) }
+    ensures stopped { IfErr result (λ cut. Stopped player.old player.new (events_of_step step)
+        (K.taken sink.old) (K.taken sink.new) cut.frames cut.bytes) }
+    ensures fails { OnErr result (K.has_failed sink.new ≡ true) }
+{
+    match step {
+        Step::Contact(contact, closed) => {
+            play_events(player, &[Event::Contact(contact, closed)], sink)
+        }
+        Step::Frames(count) => play_frames(player, count, sink),
+    }
+}
+
+/// Plays steps, one after another.
+pub(crate) fn play_steps<'a, S: Store, K: Sink>(
+    player: &mut Player<'a, S>,
+    steps: &[Step],
+    sink: &mut K,
+) -> Result<u128, Cut>
+    requires working { K.has_failed sink.old ≡ false }
+    requires steps { AllByRecursion IsStep steps.now }
+    ensures done { IfOk result (λ n. Delivered player.old player.new (events_of steps.now)
+        (K.taken sink.old) (K.taken sink.new) n) }
+    ensures works { OnOk result (K.has_failed sink.new ≡ false) }
+    ensures stopped { IfErr result (λ cut. Stopped player.old player.new (events_of steps.now)
+        (K.taken sink.old) (K.taken sink.new) cut.frames cut.bytes) }
+    ensures fails { OnErr result (K.has_failed sink.new ≡ true) }
+{
+    let mut frames = 0u128;
+    for step in steps {
+        match play_step(player, *step, sink) {
+            Ok(made) => frames += made,
+            Err(cut) => {
+                return Err(Cut {
+                    frames: frames + cut.frames,
+                    bytes: cut.bytes,
+                });
+            }
+        }
+    }
+    Ok(frames)
+}

@@ -1,0 +1,149 @@
+//! Playback through a buffer, into sinks that take less than all.
+
+use super::codes::{PLAN, ended, first_swap, played};
+use plan_code::{Contacts, Mode, Plan};
+use plan_player::{Sink, Writer};
+use plan_session::{RunFault, run_into};
+use std::alloc::Global;
+use std::io::{self, Error, ErrorKind, Write};
+use std::test::Fail;
+
+/// How a writer ends that has no room left.
+#[derive(Clone, Copy)]
+enum End {
+    Nothing,
+    Fault,
+    Interrupted,
+}
+
+/// A writer that takes this many bytes at a call and this many in all, and then ends.
+#[derive(Drop)]
+struct Narrow {
+    at_once: usize,
+    room: usize,
+    end: End,
+    bytes: Vec<u8>,
+    calls_after: u32,
+}
+
+impl Write for Narrow {
+    fn write(&mut self, bytes: &[u8]) -> io::Result<usize> {
+        if self.room == 0 {
+            self.calls_after = self.calls_after.saturating_add(1);
+            return match self.end {
+                End::Nothing => Ok(0),
+                End::Fault => Err(Error::from(ErrorKind::Other)),
+                End::Interrupted => Err(Error::from(ErrorKind::Interrupted)),
+            };
+        }
+        let count = bytes.len().min(self.room).min(self.at_once);
+        if self.bytes.extend_from_slice(&bytes[..count]).is_err() {
+            return Err(Error::from(ErrorKind::OutOfMemory));
+        }
+        self.room -= count;
+        Ok(count)
+    }
+
+    fn flush(&mut self) -> io::Result<()> {
+        Ok(())
+    }
+}
+
+/// What is answered, and the sink then.
+fn into(
+    alloc: Global,
+    file: &[u8],
+    text: &str,
+    writer: Narrow,
+) -> (Result<u128, RunFault>, Writer<Narrow>) {
+    run_into(alloc, file, text, 0, 0, Contacts(0), Writer::new(writer))
+}
+
+/// A writer of this room, that ends so.
+fn writer_of(alloc: Global, room: usize, at_once: usize, end: End) -> Narrow {
+    Narrow {
+        at_once,
+        room,
+        end,
+        bytes: Vec::new(alloc),
+        calls_after: 0,
+    }
+}
+
+#[test]
+fn what_went_out_is_told(rt: HostRuntime) -> Result<(), Fail> {
+    let alloc = rt.alloc();
+    let file = ended(alloc, PLAN)?;
+    let write = |frames, bytes| Err(RunFault::Write { frames, bytes });
+    for (room, wanted) in [
+        (0, write(0, 0)),
+        (1, write(0, 1)),
+        (100, write(1, 4)),
+        (6144, write(64, 0)),
+        (98_303, write(1023, 95)),
+        (98_304, write(1024, 0)),
+        (98_305, write(1024, 1)),
+        (100_000, write(1041, 64)),
+        (196_608, write(2048, 0)),
+        (239_999, write(2499, 95)),
+        (240_000, Ok(2500)),
+    ] {
+        for end in [End::Nothing, End::Fault, End::Interrupted] {
+            let text = "frames 1000 contact 0 closed frames 1000 frames 500";
+            let writer = writer_of(alloc, room, 50_000, end);
+            let (answer, sink) = into(alloc, file.as_slice(), text, writer);
+            assert_eq!(rt; answer, wanted, "{room}");
+            assert_eq!(rt; sink.failed(), wanted.is_err());
+            assert_eq!(rt; sink.inner().bytes.len(), room);
+            assert_eq!(rt; sink.inner().calls_after, u32::from(wanted.is_err()));
+        }
+    }
+    Ok(())
+}
+
+#[test]
+fn frames_of_mode_iii_are_longer(rt: HostRuntime) -> Result<(), Fail> {
+    let plan = Plan {
+        mode: Mode::III,
+        ..PLAN
+    };
+    let file = ended(rt.alloc(), plan)?;
+    let writer = writer_of(rt.alloc(), 130, 1000, End::Nothing);
+    let (answer, _sink) = into(rt.alloc(), file.as_slice(), "frames 3", writer);
+    let wanted = RunFault::Write {
+        frames: 1,
+        bytes: 2,
+    };
+    assert_eq!(rt; answer, Err(wanted));
+    Ok(())
+}
+
+#[test]
+fn a_writer_that_takes_a_byte_at_a_time_gets_the_same_bytes(rt: HostRuntime) -> Result<(), Fail> {
+    let alloc = rt.alloc();
+    let file = first_swap(alloc, 6)?;
+    let (answer, bytes) = played(alloc, file.as_slice(), "frames 200", 0)?;
+    let writer = writer_of(alloc, 1_000_000, 1, End::Fault);
+    let (same, sink) = into(alloc, file.as_slice(), "frames 200", writer);
+    assert_eq!(rt; answer, same);
+    assert!(rt; bytes.as_slice() == sink.inner().bytes.as_slice());
+    Ok(())
+}
+
+#[test]
+fn nothing_is_written_at_another_fault(rt: HostRuntime) -> Result<(), Fail> {
+    let alloc = rt.alloc();
+    let file = ended(alloc, PLAN)?;
+    for (file, text) in [
+        (file.as_slice(), "frames 0"),
+        (b"DABP".as_slice(), "frames 1"),
+        (first_swap(alloc, 21)?.as_slice(), "frames 1"),
+    ] {
+        let writer = writer_of(alloc, 1000, 1000, End::Nothing);
+        let (answer, sink) = into(alloc, file, text, writer);
+        assert!(rt; answer.is_err());
+        assert!(rt; !sink.failed());
+        assert_eq!(rt; sink.inner().bytes.len(), 0);
+    }
+    Ok(())
+}
