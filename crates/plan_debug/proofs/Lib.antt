@@ -1,3 +1,5 @@
 pub mod Headers
 pub mod Lasts
 pub mod Stretches
+pub mod Flagged
+mod Vectors

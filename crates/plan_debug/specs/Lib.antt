@@ -1,2 +1,3 @@
 pub mod Announcements
 pub mod Commands
+pub mod Flagged

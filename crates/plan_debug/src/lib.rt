@@ -8,6 +8,7 @@
 pub mod announcement;
 pub mod debugger;
 mod heard;
+pub mod laws;
 mod log;
 pub mod report;
 

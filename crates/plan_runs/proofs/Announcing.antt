@@ -304,7 +304,7 @@ swap_announced laws p ts c s h due =
     subst (λ (xs : List (List ℕ)). IsAnnounced s.current s.next s.count xs) (sym heard) (notice_announces laws p.plan s.current s.next s.eid s.count d)
 
 -- contacts have no part in what was heard
-heard_contacts : (plan : Plan) (s : State) (d : ℕ) (closed : Bool) (left : Option ℕ) → s.left ≡ left → heard_of plan (let r : State = record s { contacts = with_contact d closed s.contacts } in r) ≡ heard_of plan s
+pub heard_contacts : (plan : Plan) (s : State) (d : ℕ) (closed : Bool) (left : Option ℕ) → s.left ≡ left → heard_of plan (let r : State = record s { contacts = with_contact d closed s.contacts } in r) ≡ heard_of plan s
 heard_contacts plan s d closed None e = ap (heard_left plan (record s { contacts = with_contact d closed s.contacts })) e ∙ sym (ap (heard_left plan s) e)
 heard_contacts plan s d closed (Some l) e = heard_is plan (record s { contacts = with_contact d closed s.contacts }) l e ∙ sym (heard_is plan s l e)
 

@@ -144,7 +144,7 @@ holds p ts s (WaitsContact d closed) away ahead h = expects_as p ts s.pc s.count
 holds p ts s WaitsSwap away ahead h = expects_as p ts s.pc s.counters _ _ (λ t. joins_later t s.left s.next) h
 holds p ts s Ended away ahead h = tt
 
-still : (s : State) (hold : Hold) → is_here s hold ≡ false → is_running hold ≡ false
+pub still : (s : State) (hold : Hold) → is_here s hold ≡ false → is_running hold ≡ false
 still s (Waits k) e = e
 still s (WaitsDay d) e = refl
 still s (WaitsContact d closed) e = refl

@@ -129,7 +129,7 @@ effect_carries plan (Loop r target) s f a = record { current = refl; count = ref
 
 -- ---- a burst
 
-burst_carries : (p : Program) → IsProgram p → (s : State) (n : ℕ) (t : State) → Executes p s n t → Carries p.plan s t
+pub burst_carries : (p : Program) → IsProgram p → (s : State) (n : ℕ) (t : State) → Executes p s n t → Carries p.plan s t
 burst_carries p pr s zero t h = subst (λ (u : State). Carries p.plan s u) h.1 (carries_itself p.plan s)
 burst_carries p pr s (suc n) t h =
     let i = h.1.instr in

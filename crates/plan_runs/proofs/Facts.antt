@@ -68,10 +68,13 @@ started_tracked p start s pr range st =
 pub code_of : (p : Program) (s : State) → (h : IsPlayed p s) → IsCode p h.typed.0
 code_of p s h = record { program = h.program; typing = h.typed.1 }
 
+pub started_holds : (p : Program) (ts : List Known) (start : Start) (s : State) → IsCode p ts → StartIsInRange start → IsStart p start s → Holds p ts s
+started_holds p ts start s c range started =
+    record { between = started_between p ts start s c.typing started; tracked = started_tracked p start s c.program range started }
+
 pub played_holds : (p : Program) (s : State) → (h : IsPlayed p s) → Holds p h.typed.0 s
 played_holds p s h =
     let r = h.reached in
     let ts : List Known = h.typed.0 in
-    let first : Holds p ts r.first =
-    record { between = started_between p ts r.start r.first h.typed.1 r.started; tracked = started_tracked p r.start r.first h.program r.in_range r.started } in
+    let first : Holds p ts r.first = started_holds p ts r.start r.first (code_of p s h) r.in_range r.started in
     subst (λ (t : State). Holds p ts t) r.leads (run_holds p ts (code_of p s h) r.first r.events first)

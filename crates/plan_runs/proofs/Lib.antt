@@ -21,6 +21,13 @@ pub mod Announcing
 pub mod Counted
 pub mod Periods
 pub mod Headline
+pub mod Clock
+pub mod Swaps
+pub mod Uncommitted
+pub mod Waits
+pub mod LastSent
+pub mod SentHeaders
 mod VectorsOfRuns
 mod VectorsOfBytes
 mod VectorsOfPromises
+mod VectorsOfLaws

@@ -292,6 +292,9 @@ joins_is = record {
 pub played : IsPlayed waits second
 played = record { program = waits_is; typed = typed_if waits waits_is refl; reached = reached_by_a_frame }
 
+pub played_first : IsPlayed waits first
+played_first = record { program = waits_is; typed = typed_if waits waits_is refl; reached = starts_are_reached waits start first in_range it_starts }
+
 -- its verifier refuses the join
 not_played : (s : State) → IsPlayed joins s → ⊥
 not_played s h = (codes_have_one_verdict joins joins_is).never_both 0 JoinIdle h.typed (refused_if joins 0 JoinIdle joins_is refl)

@@ -1,8 +1,14 @@
 pub mod Frames
 pub mod Runs
+pub mod Firsts
 pub mod Phases
 pub mod TypedRuns
+pub mod Swaps
+pub mod Waits
+pub mod Clock
 pub mod Announced
+pub mod LastSent
+pub mod SentHeaders
 pub mod RightBytes
 pub mod Settings
 pub mod Headline

@@ -6,6 +6,11 @@ ghost use Rattle.plan_runs.specs.TypedRuns.{StartsAreReached, ReachedIsKept, Typ
 ghost use Rattle.plan_runs.specs.Headline.{FramesOfTypedCodeAreRight, PeriodsAreWhole, SwapsAreAnnounced, SwapsComeAsAnnounced, HeardIsKnown, HeadlineHolds};
 ghost use Rattle.plan_runs.specs.Announced.{RunsJoin};
 ghost use Rattle.plan_runs.specs.Settings.{LastLevelsCount};
+ghost use Rattle.plan_runs.specs.LastSent.{HeardWasSent};
+ghost use Rattle.plan_runs.specs.SentHeaders.{HeadersAreSent};
+ghost use Rattle.plan_runs.specs.Clock.{FramesAreCounted, ContactsAreAsSet};
+ghost use Rattle.plan_runs.specs.Swaps.{SwapsAreOnSteps, SwapsChangeTheCurrent, CommitsAreKept, SwapsAreCommitted};
+ghost use Rattle.plan_runs.specs.Waits.{InstructionsSuspend, WaitsAreKept};
 
 /// The law of bursts: a frame's instructions lead to one state, and are as many as the frame counts.
 pub fn bursts()
@@ -28,6 +33,32 @@ pub fn runs()
 /// of settings of different contacts doesn't.
 pub fn contacts()
     ensures { LastLevelsCount }
+{}
+
+/// The law of swaps: a swap is due only in a frame whose CIF count is a multiple of the mode's step. In that frame the
+/// next configuration becomes the current one, and in every other frame the current one stays. After a frame that
+/// carries out `CommitAt n` the first swap is due in the first frame of count n that comes at least a notice later, and
+/// after `CommitIn k` in the first one on a multiple of the step that comes at least k frames later; without a commit
+/// none comes.
+pub fn swaps()
+    ensures on_steps { SwapsAreOnSteps }
+    ensures current { SwapsChangeTheCurrent }
+    ensures commits { CommitsAreKept }
+    ensures committed { SwapsAreCommitted }
+{
+    plan_code::laws::commits();
+}
+
+/// The law of waits: an instruction that suspends is the last of its frame, and says what is waited for. After that
+/// frame the first one that carries out instructions is the n-th, where the code waits n frames; the first with the
+/// frame of the day, the first with the contact at the level, or the first in which a swap is due, where it waits for
+/// these; and none where the code has ended. The counts are those of the start and one more for each frame, and a
+/// contact is at the level to which it was set last.
+pub fn waits()
+    ensures suspends { InstructionsSuspend }
+    ensures kept { WaitsAreKept }
+    ensures counted { FramesAreCounted }
+    ensures levels { ContactsAreAsSet }
 {}
 
 /// The law of typed codes: from every state that a typed code comes to, over every list of events, no trap is
@@ -70,6 +101,21 @@ pub fn notices()
     ensures announced { SwapsAreAnnounced }
     ensures counted { SwapsComeAsAnnounced }
     ensures heard { HeardIsKnown }
+{
+    fib_carousel::laws::pages();
+    fib_carousel::laws::carried();
+}
+
+/// The law of what was heard: over every run of a typed code from its start, the frames that the state says were heard
+/// of a notice are those heard along the run, and the last ones that it sent; before a swap they are as many as a
+/// notice has.
+pub fn heard()
+    ensures { HeardWasSent }
+{}
+
+/// The law of FIG 0/0: what is heard of it in the bytes of a frame is what the state sends, with C/N 0, and nothing else.
+pub fn headers()
+    ensures { HeadersAreSent }
 {
     fib_carousel::laws::pages();
     fib_carousel::laws::carried();

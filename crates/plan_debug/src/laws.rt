@@ -1,0 +1,12 @@
+//! What holds of all announcements. The function does nothing; its contract is the law.
+
+ghost use Rattle.plan_debug.specs.Flagged.{AnnouncementsAreFlagged};
+
+/// The law of announcements: those that a debugger notes of the frames of a typed code are exactly the FIG 0/0 with
+/// change flags that are heard in the bytes of these frames, one for each frame that has one, in order.
+pub fn announcements()
+    ensures { AnnouncementsAreFlagged }
+{
+    plan_runs::laws::headers();
+    plan_runs::laws::reached();
+}

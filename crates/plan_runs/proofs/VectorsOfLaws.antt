@@ -1,0 +1,211 @@
+-- Swaps, waits, counts, contacts and what was heard: each definition where it holds, and where it fails.
+use Rattle.std.specs.Prelude.{map, get_or}
+use Rattle.std.proofs.Common.{◌≡◌, ℕ, zero, suc, ◌<◌, ◌≤◌, ◌%◌, true, false, List, [], ◌∷◌, length, Some, None, refl, sym, ap, arith, inl, inr}
+use Rattle.mux_types.specs.declared.parts.Sub.{Sub}
+use Rattle.mux_config.specs.Configuration.{Configuration}
+use Rattle.mux_entries.specs.Entries.{EnsembleInformation}
+use Rattle.fib_codec.specs.declared.modes.Mode.{Mode}
+use Rattle.fib_codec.specs.declared.modes.Mode.TheVariants.{I, II}
+use Rattle.plan_code.specs.declared.plan.Plan.{Plan}
+use Rattle.plan_code.specs.declared.flags.Contacts.{Contacts}
+use Rattle.plan_code.specs.declared.hold.Hold.TheVariants.{Waits, WaitsDay, WaitsContact, WaitsSwap, Ended}
+use Rattle.plan_code.specs.declared.instr.Instr.{Instr}
+use Rattle.plan_code.specs.declared.instr.Instr.TheVariants.{Wait, CommitIn, CommitAt, End, Set}
+use Rattle.plan_code.specs.declared.instr.Line.{Line}
+use Rattle.plan_code.specs.Program.{Program}
+use Rattle.plan_code.specs.Machine.{State}
+use Rattle.plan_runs.specs.declared.event.Event.TheVariants.{Contact, Frame}
+use Rattle.plan_runs.specs.declared.event.Start.{Start}
+use Rattle.plan_runs.specs.Frames.{is_due, ensemble_of, shown, frame_bytes, after_frame}
+use Rattle.plan_runs.specs.Firsts.{is_active, CarriesOut, IsFirstWhere}
+use Rattle.plan_runs.specs.Swaps.{IsOnStep, SwapsWhereDue, ComesAtCount, ComesInTime, IsCommit}
+use Rattle.plan_runs.specs.Waits.{IsWaitOf, HasCome, WaitsUntil}
+use Rattle.plan_runs.specs.Clock.{IsCounted, level_after}
+use Rattle.plan_runs.specs.LastSent.{AreLastSent}
+use Rattle.plan_runs.specs.SentHeaders.{HasHeaderOf}
+use Rattle.plan_runs.proofs.Waits.{waits_are_kept}
+use Rattle.plan_runs.proofs.SentHeaders.{headers_are_sent}
+use Rattle.plan_runs.proofs.VectorsOfRuns.{with_sub, all_open, waits, first, second, played, played_first}
+use Rattle.plan_runs.proofs.VectorsOfBytes.{laws}
+
+abbrev plan : Mode → ℕ → ℕ → Plan
+plan mode notice budget = record { eid = 0xe1c5; mode = mode; period = 1; notice = notice; budget = budget }
+
+abbrev line : Instr → Line
+line i = record { number = 1; instr = i }
+
+-- with FIG 0/0 in every frame, and a notice of one frame
+abbrev code : ℕ → List Line → Program
+code budget lines = record { plan = plan II 1 budget; configurations = []; labels = []; lines = lines }
+
+-- ---- the instructions of a frame
+
+abbrev third : State
+third = after_frame waits second
+
+carries_out_one : is_active waits second ≡ true
+carries_out_one = refl
+
+has_ended : is_active waits third ≡ true → ⊥
+has_ended e = let clash : false ≡ true = e in absurd cc
+
+the_wait : CarriesOut waits first (Wait 1)
+the_wait = (0, omega arith, refl)
+
+not_the_end : CarriesOut waits first End → ⊥
+not_the_end (zero, below, at) = let same : Some (Wait 1) ≡ Some End = at in absurd cc
+not_the_end (suc k, below, at) = let e : suc k < 1 = below in omega (arith, e)
+
+first_of_two : IsFirstWhere (is_active waits) (λ n t. n ≡ 1) 1 waits second (Frame ∷ Frame ∷ [])
+first_of_two = inl (refl, refl)
+
+not_the_second : IsFirstWhere (is_active waits) (λ n t. n ≡ 2) 1 waits second (Frame ∷ Frame ∷ []) → ⊥
+not_the_second (inl h) = let e : 1 ≡ 2 = h.1 in omega (arith, e)
+not_the_second (inr h) = let clash : true ≡ false = h.0 in absurd cc
+
+-- ---- swaps, with 128 kbit/s on the air and 96 kbit/s to come
+
+abbrev due_at : ℕ → State
+due_at count = record first { next = with_sub 96; left = Some 0; count = count }
+
+on_a_step : IsOnStep (plan I 12 20) (due_at 8)
+on_a_step due = refl
+
+off_the_step : IsOnStep (plan I 12 20) (due_at 7) → ⊥
+off_the_step h = let e : 3 ≡ 0 = h refl in omega (arith, e)
+
+other_rate : with_sub 128 ≡ with_sub 96 → ⊥
+other_rate e = let rate : 128 ≡ 96 = ap (λ (c : Configuration). get_or (map (λ (sub : Sub). sub.kbits) c.subs) 0 0) e in omega (arith, rate)
+
+swapped : SwapsWhereDue (due_at 8) (record first { current = with_sub 96 })
+swapped = record { becomes_next = λ due. refl; stays = λ none. let clash : true ≡ false = none in absurd cc }
+
+not_swapped : SwapsWhereDue (due_at 8) (due_at 8) → ⊥
+not_swapped h = other_rate (h.becomes_next refl)
+
+swapped_too_early : SwapsWhereDue (record (due_at 7) { left = Some 1 }) (record first { current = with_sub 96 }) → ⊥
+swapped_too_early h = let e : with_sub 96 ≡ with_sub 128 = h.stays refl in other_rate (sym e)
+
+a_commit : IsCommit (CommitIn 24)
+a_commit = tt
+
+no_commit : IsCommit (Wait 24) → ⊥
+no_commit h = h
+
+-- a commit for the next count, at count 0
+at_its_count : ComesAtCount 1 (code 20 (line (CommitAt 1) ∷ line End ∷ [])) first (Frame ∷ [])
+at_its_count carries = inl (refl, (omega arith, refl))
+
+-- a second commit in the same frame, which is not allowed, takes the place of the first
+abbrev commits_twice : Program
+commits_twice = code 20 (line (CommitAt 1) ∷ line (CommitAt 2) ∷ line End ∷ [])
+
+at_another_count : ComesAtCount 1 commits_twice first (Frame ∷ []) → ⊥
+at_another_count h = by (h (0, omega arith, refl))
+  where
+    by : IsFirstWhere (λ t. is_due t.left) (λ later t. (1 ≤ later) × (t.count ≡ 1)) 1 commits_twice (after_frame commits_twice first) (Frame ∷ []) → ⊥
+    by (inl g) = let clash : false ≡ true = g.0 in absurd cc
+    by (inr g) = g.1 (omega arith, refl)
+
+in_time : ComesInTime 1 (code 20 (line (CommitIn 1) ∷ line End ∷ [])) first (Frame ∷ [])
+in_time carries = inl (refl, (omega arith, refl))
+
+abbrev commits_again : Program
+commits_again = code 20 (line (CommitIn 1) ∷ line (CommitIn 2) ∷ line End ∷ [])
+
+out_of_time : ComesInTime 1 commits_again first (Frame ∷ []) → ⊥
+out_of_time h = by (h (0, omega arith, refl))
+  where
+    by : IsFirstWhere (λ t. is_due t.left) (λ later t. (1 ≤ later) × (t.count % 1 ≡ 0)) 1 commits_again (after_frame commits_again first) (Frame ∷ []) → ⊥
+    by (inl g) = let clash : false ≡ true = g.0 in absurd cc
+    by (inr g) = g.1 (omega arith, refl)
+
+-- ---- waits
+
+suspends_for_three : IsWaitOf (Wait 3) (Waits 3)
+suspends_for_three = refl
+
+suspends_for_two : IsWaitOf (Wait 3) (Waits 2) → ⊥
+suspends_for_two h = let e : 2 ≡ 3 = waited 2 3 h in omega (arith, e)
+  where
+    waited : (a b : ℕ) → Waits a ≡ Waits b → a ≡ b
+    waited a b same = cc same
+
+third_frame : HasCome (Waits 3) 3 first
+third_frame = refl
+
+second_frame : HasCome (Waits 3) 2 first → ⊥
+second_frame h = let e : 2 ≡ 3 = h in omega (arith, e)
+
+-- 22:00:00 is 79,200 s of 24 ms a frame
+at_ten : HasCome (WaitsDay 3300000) 1 (record first { day = 3300000 })
+at_ten = refl
+
+a_frame_late : HasCome (WaitsDay 3300000) 1 (record first { day = 3300001 }) → ⊥
+a_frame_late h = let e : 3300001 ≡ 3300000 = h in omega (arith, e)
+
+abbrev third_closed : Contacts
+third_closed = record { 0 = 8 }
+
+contact_closed : HasCome (WaitsContact 3 true) 1 (record first { contacts = third_closed })
+contact_closed = refl
+
+contact_open : HasCome (WaitsContact 3 true) 1 first → ⊥
+contact_open h = let clash : false ≡ true = h in absurd cc
+
+with_the_swap : HasCome WaitsSwap 1 (due_at 8)
+with_the_swap = refl
+
+before_the_swap : HasCome WaitsSwap 1 (record (due_at 7) { left = Some 1 }) → ⊥
+before_the_swap h = let clash : false ≡ true = h in absurd cc
+
+never : HasCome Ended 1 first → ⊥
+never h = h
+
+waits_for_one : WaitsUntil waits second (Frame ∷ Contact 3 true ∷ Frame ∷ [])
+waits_for_one = waits_are_kept waits second (Frame ∷ Contact 3 true ∷ Frame ∷ []) played
+
+-- a code that a budget of one instruction cuts off in the middle of a frame
+abbrev cut_off : Program
+cut_off = code 1 (line (Set 0 1) ∷ line (Set 0 1) ∷ line End ∷ [])
+
+waits_for_nothing : WaitsUntil cut_off first (Frame ∷ []) → ⊥
+waits_for_nothing (inl h) = let e : 1 ≡ 0 = h.1 in omega (arith, e)
+waits_for_nothing (inr h) = let clash : true ≡ false = h.0 in absurd cc
+
+-- ---- counts and contacts
+
+abbrev before_midnight : Start
+before_midnight = record { eid = 0xe1c5; count = 4999; day = 3599999; contacts = all_open }
+
+counted : IsCounted before_midnight 2 (record first { count = 1; day = 1 })
+counted = record { count = refl; day = refl }
+
+not_counted : IsCounted before_midnight 2 (record first { count = 1; day = 2 }) → ⊥
+not_counted h = let e : 2 ≡ 1 = h.day in omega (arith, e)
+
+last_setting : level_after 3 false (Contact 3 true ∷ Contact 4 false ∷ Frame ∷ []) ≡ true
+last_setting = refl
+
+earlier_setting : level_after 3 false (Contact 3 true ∷ Contact 3 false ∷ Frame ∷ []) ≡ true → ⊥
+earlier_setting e = let clash : false ≡ true = e in absurd cc
+
+-- ---- what was heard
+
+nothing_was_heard : AreLastSent waits first (Frame ∷ [])
+nothing_was_heard = record { along = refl; earlier = frame_bytes waits first ∷ []; sent = refl; whole = λ due. let clash : false ≡ true = due in absurd cc }
+
+-- one frame of a notice of 12 frames is past, but none was sent
+heard_unsent : AreLastSent (record waits { plan = plan I 12 20 }) (record (due_at 1) { left = Some 11 }) [] → ⊥
+heard_unsent h = let e : 0 ≡ 1 = ap (λ (frames : List (List ℕ)). length frames) h.along in omega (arith, e)
+
+its_own_header : HasHeaderOf waits.plan (shown waits first) (frame_bytes waits first)
+its_own_header = headers_are_sent laws waits first played_first
+
+-- the frame after it has no FIG 0/0
+another_header : HasHeaderOf waits.plan (shown waits second) (frame_bytes waits first) → ⊥
+another_header h =
+    let e : EnsembleInformation = ensemble_of waits.plan (shown waits first) in
+    let heard = (its_own_header false e).1 (refl, refl) in
+    let sent : None ≡ Some e = ((h false e).0 heard).1 in
+    absurd cc

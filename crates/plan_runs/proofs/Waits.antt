@@ -1,0 +1,226 @@
+-- A suspended code goes on in the first frame with which what it waits for has come.
+use Rattle.std.specs.Prelude.{nat_le, ◌==◌}
+use Rattle.std.proofs.Common.{◌≡◌, ℕ, zero, suc, ◌+◌, ◌-◌, ◌≤◌, Bool, true, false, cond, List, [], ◌∷◌, refl, sym, ap, subst, ◌∙◌, arith, inl, inr}
+use Rattle.std.proofs.lemmas.Bool.{eqb-true, eqb-false, le-leb}
+use Rattle.mux_config.specs.Sameness.{is_same_flag}
+use Rattle.plan_code.specs.declared.hold.Hold.{Hold}
+use Rattle.plan_code.specs.declared.hold.Hold.TheVariants.{Waits, WaitsDay, WaitsContact, WaitsSwap, Ended}
+use Rattle.plan_code.specs.declared.instr.Instr.{Instr}
+use Rattle.plan_code.specs.declared.instr.Instr.TheVariants.{Wait, Until, WaitContact, CommitIn, CommitAt, Join, Settle, End, Edit as Edits, Test, Jump, Set, Loop}
+use Rattle.plan_code.specs.Flags.{is_closed}
+use Rattle.plan_code.specs.Program.{Program, IsInstr}
+use Rattle.plan_code.specs.Machine.{State, step, effect}
+use Rattle.plan_runs.specs.declared.event.Event.{Event}
+use Rattle.plan_runs.specs.declared.event.Event.TheVariants.{Contact, Frame}
+use Rattle.plan_runs.specs.Frames.{is_due, with_swap, with_due_swap, hold_after_swap, is_running, is_here, ready, Executes, burst, burst_steps, after_burst, is_first_noticed, shown, hold_after_frame, after_frame}
+use Rattle.plan_runs.specs.Runs.{happens}
+use Rattle.plan_runs.specs.Firsts.{is_active, CarriesOut, IsFirstWhere}
+use Rattle.plan_runs.specs.TypedRuns.{IsPlayed}
+use Rattle.plan_runs.specs.Waits.{HasCome, WaitsAreKept, InstructionsSuspend}
+use Rattle.plan_runs.proofs.Between.{line_formed, step_is, frame_goes, still}
+use Rattle.plan_runs.proofs.Facts.{code_of, played_holds}
+use Rattle.plan_runs.proofs.Swaps.{midway}
+
+-- ---- the wait ends with the frame from this state
+
+abbrev ends_by : State → Hold → Bool
+ends_by s (Waits n) = n == 0
+ends_by s (WaitsDay t) = s.day == t
+ends_by s (WaitsContact c closed) = is_same_flag (is_closed s.contacts c) closed
+ends_by s WaitsSwap = is_due s.left
+ends_by s Ended = false
+
+after_swap : (s : State) (h : Hold) → is_due s.left ≡ true → is_here (with_swap s) (hold_after_swap h) ≡ ends_by s h
+after_swap s (Waits n) due = refl
+after_swap s (WaitsDay t) due = refl
+after_swap s (WaitsContact c closed) due = refl
+after_swap s WaitsSwap due = sym due
+after_swap s Ended due = refl
+
+without_swap : (s : State) (h : Hold) → is_due s.left ≡ false → is_here s h ≡ ends_by s h
+without_swap s (Waits n) due = refl
+without_swap s (WaitsDay t) due = refl
+without_swap s (WaitsContact c closed) due = refl
+without_swap s WaitsSwap due = sym due
+without_swap s Ended due = refl
+
+ends_is : (s : State) (due : Bool) → is_due s.left ≡ due → is_here (cond due (with_swap s) s) (cond due (with_swap s) s).hold ≡ ends_by s s.hold
+ends_is s true e = after_swap s s.hold e
+ends_is s false e = without_swap s s.hold e
+
+-- ---- then, and only then, the frame carries out instructions
+
+steps_by : (budget : ℕ) (p : Program) (s : State) (runs : Bool) → is_running s.hold ≡ runs → 1 ≤ budget → nat_le 1 (burst_steps budget p s) ≡ runs
+steps_by zero p s runs e some = absurd (omega (arith, some))
+steps_by (suc most) p s true e some =
+    ap (λ (b : Bool). nat_le 1 (cond b (1 + burst_steps most p (step p s)) 0)) e ∙ le-leb 1 (1 + burst_steps most p (step p s)) (omega arith)
+steps_by (suc most) p s false e some = ap (λ (b : Bool). nat_le 1 (cond b (1 + burst_steps most p (step p s)) 0)) e
+
+ready_runs : (s : State) (here : Bool) → is_here s s.hold ≡ here → is_running (cond here (let r : State = record s { hold = Waits 0 } in r) s).hold ≡ here
+ready_runs s true e = refl
+ready_runs s false e = still s s.hold e
+
+active_is : (p : Program) (s : State) → 1 ≤ p.plan.budget → is_active p s ≡ ends_by s s.hold
+active_is p s some =
+    let t : State = with_due_swap s in
+    steps_by p.plan.budget p (ready s) (is_here t t.hold) (ready_runs t (is_here t t.hold) refl) some ∙ ends_is s (is_due s.left) refl
+
+-- ---- else it is still held after the frame
+
+burst_stays : (most : ℕ) (p : Program) (s : State) → is_running s.hold ≡ false → burst most p s ≡ s
+burst_stays zero p s e = refl
+burst_stays (suc most) p s e = ap (λ (b : Bool). cond b (burst most p (step p s)) s) e
+
+hold_turned : (s : State) (b : Bool) → (cond b (let r : State = record s { turn = 0 } in r) s).hold ≡ s.hold
+hold_turned s true = refl
+hold_turned s false = refl
+
+hold_shown : (p : Program) (s : State) → (shown p s).hold ≡ (after_burst p s).hold
+hold_shown p s = hold_turned (after_burst p s) (is_first_noticed p.plan.notice (after_burst p s).left)
+
+hold_swapped : (s : State) (h : Hold) → is_due s.left ≡ true → ends_by s h ≡ false → hold_after_swap h ≡ h
+hold_swapped s (Waits n) due away = refl
+hold_swapped s (WaitsDay t) due away = refl
+hold_swapped s (WaitsContact c closed) due away = refl
+hold_swapped s WaitsSwap due away = let clash : true ≡ false = sym due ∙ away in absurd cc
+hold_swapped s Ended due away = refl
+
+hold_begun : (s : State) (due : Bool) → is_due s.left ≡ due → ends_by s s.hold ≡ false → (cond due (with_swap s) s).hold ≡ s.hold
+hold_begun s true e away = hold_swapped s s.hold e away
+hold_begun s false e away = refl
+
+still_held : (p : Program) (s : State) → ends_by s s.hold ≡ false → (after_frame p s).hold ≡ hold_after_frame s.hold
+still_held p s away =
+    let t : State = with_due_swap s in
+    let not_here : is_here t t.hold ≡ false = ends_is s (is_due s.left) refl ∙ away in
+    let same : ready s ≡ t = ap (λ (b : Bool). cond b (let r : State = record t { hold = Waits 0 } in r) t) not_here in
+    let rests : is_running (ready s).hold ≡ false = ap (λ (x : State). is_running x.hold) same ∙ still t t.hold not_here in
+    let held : (shown p s).hold ≡ s.hold =
+    hold_shown p s
+    ∙ ap (λ (x : State). x.hold) (burst_stays p.plan.budget p (ready s) rests)
+    ∙ ap (λ (x : State). x.hold) same
+    ∙ hold_begun s (is_due s.left) refl away in
+    ap hold_after_frame held
+
+-- ---- frame by frame
+
+-- this holds the machine before the n-th frame after one that left it in `hold`
+abbrev IsHeld : Hold → ℕ → Hold → Type 0
+IsHeld (Waits frames) n h = (h ≡ Waits (frames - n)) × (n ≤ frames)
+IsHeld (WaitsDay t) n h = h ≡ WaitsDay t
+IsHeld (WaitsContact c closed) n h = h ≡ WaitsContact c closed
+IsHeld WaitsSwap n h = h ≡ WaitsSwap
+IsHeld Ended n h = h ≡ Ended
+
+same_flag : (a b : Bool) → is_same_flag a b ≡ true → a ≡ b
+same_flag true true e = refl
+same_flag true false e = absurd cc
+same_flag false true e = absurd cc
+same_flag false false e = refl
+
+flag_same : (a b : Bool) → a ≡ b → is_same_flag a b ≡ true
+flag_same true true e = refl
+flag_same true false e = absurd cc
+flag_same false true e = absurd cc
+flag_same false false e = refl
+
+has_come : (hold : Hold) (n : ℕ) (s : State) (h : Hold) → IsHeld hold n h → ends_by s h ≡ true → HasCome hold n s
+has_come (Waits frames) n s h held e =
+    let over : (frames - n == 0) ≡ true = sym (ap (ends_by s) held.0) ∙ e in
+    let none : frames - n ≡ 0 = eqb-true (frames - n) 0 over in
+    omega (arith, none, held.1)
+has_come (WaitsDay t) n s h held e = eqb-true s.day t (sym (ap (ends_by s) held) ∙ e)
+has_come (WaitsContact c closed) n s h held e = same_flag (is_closed s.contacts c) closed (sym (ap (ends_by s) held) ∙ e)
+has_come WaitsSwap n s h held e = sym (ap (ends_by s) held) ∙ e
+has_come Ended n s h held e = let clash : false ≡ true = sym (ap (ends_by s) held) ∙ e in absurd cc
+
+not_yet : (hold : Hold) (n : ℕ) (s : State) (h : Hold) → IsHeld hold n h → ends_by s h ≡ false → HasCome hold n s → ⊥
+not_yet (Waits frames) n s h held e came =
+    let over : (frames - n == 0) ≡ false = sym (ap (ends_by s) held.0) ∙ e in
+    let none : frames - n ≡ 0 = omega (arith, came) in
+    eqb-false (frames - n) 0 over none
+not_yet (WaitsDay t) n s h held e came = eqb-false s.day t (sym (ap (ends_by s) held) ∙ e) came
+not_yet (WaitsContact c closed) n s h held e came =
+    let clash : true ≡ false = sym (flag_same (is_closed s.contacts c) closed came) ∙ sym (ap (ends_by s) held) ∙ e in
+    absurd cc
+not_yet WaitsSwap n s h held e came = let clash : true ≡ false = sym came ∙ sym (ap (ends_by s) held) ∙ e in absurd cc
+not_yet Ended n s h held e came = came
+
+held_later : (hold : Hold) (n : ℕ) (s : State) (h : Hold) → IsHeld hold n h → ends_by s h ≡ false → IsHeld hold (n + 1) (hold_after_frame h)
+held_later (Waits frames) n s h held e =
+    let over : (frames - n == 0) ≡ false = sym (ap (ends_by s) held.0) ∙ e in
+    let apart = eqb-false (frames - n) 0 over in
+    let fewer : frames - n - 1 ≡ frames - (n + 1) = omega arith in
+    (ap hold_after_frame held.0 ∙ ap (λ (k : ℕ). Waits k) fewer, omega (arith, apart, held.1))
+held_later (WaitsDay t) n s h held e = ap hold_after_frame held
+held_later (WaitsContact c closed) n s h held e = ap hold_after_frame held
+held_later WaitsSwap n s h held e = ap hold_after_frame held
+held_later Ended n s h held e = ap hold_after_frame held
+
+frame_waits : (p : Program) (hold : Hold) (n : ℕ) (s : State) (es : List Event) → 1 ≤ p.plan.budget → IsHeld hold n s.hold
+    → (IsHeld hold (n + 1) (after_frame p s).hold → IsFirstWhere (is_active p) (HasCome hold) (n + 1) p (after_frame p s) es)
+    → (ends : Bool) → ends_by s s.hold ≡ ends → IsFirstWhere (is_active p) (HasCome hold) n p s (Frame ∷ es)
+frame_waits p hold n s es some held rest true e = inl (active_is p s some ∙ e, has_come hold n s s.hold held e)
+frame_waits p hold n s es some held rest false e =
+    let later : IsHeld hold (n + 1) (after_frame p s).hold = subst (λ (h : Hold). IsHeld hold (n + 1) h) (sym (still_held p s e)) (held_later hold n s s.hold held e) in
+    inr (active_is p s some ∙ e, not_yet hold n s s.hold held e, rest later)
+
+waits_from : (p : Program) (hold : Hold) (n : ℕ) (s : State) (events : List Event) → 1 ≤ p.plan.budget → IsHeld hold n s.hold
+    → IsFirstWhere (is_active p) (HasCome hold) n p s events
+waits_from p hold n s [] some held = tt
+waits_from p hold n s (Contact c closed ∷ es) some held = waits_from p hold n (happens p s (Contact c closed)) es some held
+waits_from p hold n s (Frame ∷ es) some held =
+    frame_waits p hold n s es some held (λ later. waits_from p hold (n + 1) (after_frame p s) es some later) (ends_by s s.hold) refl
+
+held_first : (h : Hold) → is_running h ≡ false → IsHeld h 1 (hold_after_frame h)
+held_first (Waits n) e = let apart = eqb-false n 0 e in (refl, omega (arith, apart))
+held_first (WaitsDay t) e = refl
+held_first (WaitsContact c closed) e = refl
+held_first WaitsSwap e = refl
+held_first Ended e = refl
+
+pub waits_are_kept : WaitsAreKept
+waits_are_kept p s events h =
+    let c = code_of p s h in
+    let goes = frame_goes p h.typed.0 c.program c.typing s (played_holds p s h).between in
+    let stops : is_running (shown p s).hold ≡ false = ap is_running (hold_shown p s) ∙ goes.suspends.stops in
+    waits_from p (shown p s).hold 1 (after_frame p s) events h.program.planned.budget_from (held_first (shown p s).hold stops)
+
+-- ---- instructions that suspend
+
+suspended_end : (p : Program) (s end : State) (n : ℕ) → is_running s.hold ≡ false → Executes p s n end → s ≡ end
+suspended_end p s end zero stops h = h.1
+suspended_end p s end (suc n) stops h = let clash : true ≡ false = sym h.0 ∙ stops in absurd cc
+
+leaves : (p : Program) (s : State) (i : Instr) (hold : Hold) → IsPlayed p s → (IsInstr i → is_running hold ≡ false) → ((t : State) → (effect p.plan i t).hold ≡ hold) → CarriesOut p s i → (shown p s).hold ≡ hold
+leaves p s i hold h stops holds (k, below, instr) =
+    let c = code_of p s h in
+    let goes = frame_goes p h.typed.0 c.program c.typing s (played_holds p s h).between in
+    let at : State = burst k p (ready s) in
+    let m = midway p (ready s) (after_burst p s) goes.allowed.steps k goes.allowed.executes (omega (arith, below, goes.allowed.counted)) in
+    let now : (step p at).hold ≡ hold = ap (λ (t : State). t.hold) (step_is p at i instr) ∙ holds at in
+    let formed : IsInstr i = line_formed p.lines at.pc i h.program.lines_formed instr in
+    let end = suspended_end p (step p at) (after_burst p s) m.more (ap is_running now ∙ stops formed) m.executes in
+    hold_shown p s ∙ ap (λ (t : State). t.hold) (sym end) ∙ now
+
+some_frames : (n : ℕ) → 1 ≤ n → is_running (Waits n) ≡ false
+some_frames n some = by (n == 0) refl
+  where
+    by : (b : Bool) → (n == 0) ≡ b → (n == 0) ≡ false
+    by true e = let none = eqb-true n 0 e in absurd (omega (arith, none, some))
+    by false e = e
+
+pub instructions_suspend : InstructionsSuspend
+instructions_suspend p s (Wait n) h carries = leaves p s (Wait n) (Waits n) h (λ formed. some_frames n formed.0) (λ t. refl) carries
+instructions_suspend p s (Until d) h carries = leaves p s (Until d) (WaitsDay d) h (λ formed. refl) (λ t. refl) carries
+instructions_suspend p s (WaitContact d closed) h carries = leaves p s (WaitContact d closed) (WaitsContact d closed) h (λ formed. refl) (λ t. refl) carries
+instructions_suspend p s (CommitIn k) h carries = tt
+instructions_suspend p s (CommitAt n) h carries = tt
+instructions_suspend p s Join h carries = leaves p s Join WaitsSwap h (λ formed. refl) (λ t. refl) carries
+instructions_suspend p s Settle h carries = tt
+instructions_suspend p s End h carries = leaves p s End Ended h (λ formed. refl) (λ t. refl) carries
+instructions_suspend p s (Edits e) h carries = tt
+instructions_suspend p s (Test d target) h carries = tt
+instructions_suspend p s (Jump target) h carries = tt
+instructions_suspend p s (Set r n) h carries = tt
+instructions_suspend p s (Loop r target) h carries = tt

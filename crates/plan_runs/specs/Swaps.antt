@@ -1,0 +1,69 @@
+-- When a swap is made, and what it changes (EN 300 401 clause 6.5).
+use Rattle.std.specs.Prelude.{◌≡◌, ◌⊎◌, ℕ, ◌%◌, ◌≤◌, true, false, List, None}
+use Rattle.fib_codec.specs.Modes.{count_step}
+use Rattle.plan_code.specs.declared.plan.Plan.{Plan}
+use Rattle.plan_code.specs.declared.instr.Instr.{Instr}
+use Rattle.plan_code.specs.declared.instr.Instr.TheVariants.{Wait, Until, WaitContact, CommitIn, CommitAt, Join, Settle, End, Edit as Edits, Test, Jump, Set, Loop}
+use Rattle.plan_code.specs.Program.{Program}
+use Rattle.plan_code.specs.Machine.{State}
+use Rattle.plan_runs.specs.declared.event.Event.{Event}
+use Rattle.plan_runs.specs.Frames.{is_due, shown, after_frame}
+use Rattle.plan_runs.specs.Firsts.{CarriesOut, IsFirstWhere}
+use Rattle.plan_runs.specs.TypedRuns.{IsPlayed}
+
+-- a swap is due in frames alone whose CIF count is a multiple of the mode's step
+abbrev pub IsOnStep : Plan → State → Type 0
+IsOnStep plan s = is_due s.left ≡ true → s.count % count_step plan.mode ≡ 0
+
+-- from the state before a frame to another: where a swap is due the next configuration becomes the current one, and where
+-- none is the current one stays
+pub record SwapsWhereDue (before after : State) : Type 0 where
+  pub becomes_next : is_due before.left ≡ true → after.current ≡ before.next
+  pub stays : is_due before.left ≡ false → after.current ≡ before.current
+
+-- where the frame carries out `CommitAt n`, the first swap after it is due in the first frame of count n that comes at
+-- least a notice later
+abbrev pub ComesAtCount : ℕ → Program → State → List Event → Type 0
+ComesAtCount n p s events =
+    CarriesOut p s (CommitAt n)
+    → IsFirstWhere (λ t. is_due t.left) (λ later t. (p.plan.notice ≤ later) × (t.count ≡ n)) 1 p (after_frame p s) events
+
+-- where it carries out `CommitIn k`, the first swap after it is due in the first frame on a multiple of the step that
+-- comes at least k frames later
+abbrev pub ComesInTime : ℕ → Program → State → List Event → Type 0
+ComesInTime k p s events =
+    CarriesOut p s (CommitIn k)
+    → IsFirstWhere (λ t. is_due t.left) (λ later t. (k ≤ later) × (t.count % count_step p.plan.mode ≡ 0)) 1 p (after_frame p s) events
+
+abbrev pub IsCommit : Instr → Type 0
+IsCommit (Wait n) = ⊥
+IsCommit (Until t) = ⊥
+IsCommit (WaitContact c closed) = ⊥
+IsCommit (CommitIn k) = Unit {0}
+IsCommit (CommitAt n) = Unit {0}
+IsCommit Join = ⊥
+IsCommit Settle = ⊥
+IsCommit End = ⊥
+IsCommit (Edits e) = ⊥
+IsCommit (Test c target) = ⊥
+IsCommit (Jump target) = ⊥
+IsCommit (Set r n) = ⊥
+IsCommit (Loop r target) = ⊥
+
+-- ---- the laws
+
+abbrev pub SwapsAreOnSteps : Type 0
+SwapsAreOnSteps = (p : Program) (s : State) → IsPlayed p s → IsOnStep p.plan s
+
+-- this is so of the state that a frame sends, and of the one after it
+abbrev pub SwapsChangeTheCurrent : Type 0
+SwapsChangeTheCurrent = (p : Program) (s : State) → SwapsWhereDue s (shown p s) × SwapsWhereDue s (after_frame p s)
+
+-- where no swap is pending, or one is due, and the frame carries out no commit, none is pending after it
+abbrev pub SwapsAreCommitted : Type 0
+SwapsAreCommitted =
+    (p : Program) (s : State) → (s.left ≡ None) ⊎ (is_due s.left ≡ true) → ((i : Instr) → CarriesOut p s i → IsCommit i → ⊥)
+    → (after_frame p s).left ≡ None
+
+abbrev pub CommitsAreKept : Type 0
+CommitsAreKept = (p : Program) (s : State) (n : ℕ) (events : List Event) → IsPlayed p s → ComesAtCount n p s events × ComesInTime n p s events

@@ -1,0 +1,50 @@
+-- How long a suspended code waits.
+use Rattle.std.specs.Prelude.{◌≡◌, ℕ, true, List}
+use Rattle.plan_code.specs.declared.hold.Hold.{Hold}
+use Rattle.plan_code.specs.declared.hold.Hold.TheVariants.{Waits, WaitsDay, WaitsContact, WaitsSwap, Ended}
+use Rattle.plan_code.specs.declared.instr.Instr.{Instr}
+use Rattle.plan_code.specs.declared.instr.Instr.TheVariants.{Wait, Until, WaitContact, CommitIn, CommitAt, Join, Settle, End, Edit as Edits, Test, Jump, Set, Loop}
+use Rattle.plan_code.specs.Flags.{is_closed}
+use Rattle.plan_code.specs.Program.{Program}
+use Rattle.plan_code.specs.Machine.{State}
+use Rattle.plan_runs.specs.declared.event.Event.{Event}
+use Rattle.plan_runs.specs.Frames.{is_due, shown, after_frame}
+use Rattle.plan_runs.specs.Firsts.{is_active, CarriesOut, IsFirstWhere}
+use Rattle.plan_runs.specs.TypedRuns.{IsPlayed}
+
+-- where the instruction suspends whatever the state is, this is what the machine waits for after it
+abbrev pub IsWaitOf : Instr → Hold → Type 0
+IsWaitOf (Wait frames) hold = hold ≡ Waits frames
+IsWaitOf (Until t) hold = hold ≡ WaitsDay t
+IsWaitOf (WaitContact c closed) hold = hold ≡ WaitsContact c closed
+IsWaitOf (CommitIn k) hold = Unit {0}
+IsWaitOf (CommitAt n) hold = Unit {0}
+IsWaitOf Join hold = hold ≡ WaitsSwap
+IsWaitOf Settle hold = Unit {0}
+IsWaitOf End hold = hold ≡ Ended
+IsWaitOf (Edits e) hold = Unit {0}
+IsWaitOf (Test c target) hold = Unit {0}
+IsWaitOf (Jump target) hold = Unit {0}
+IsWaitOf (Set r n) hold = Unit {0}
+IsWaitOf (Loop r target) hold = Unit {0}
+
+-- what is waited for has come with the frame from this state, the n-th after the one that suspended
+abbrev pub HasCome : Hold → ℕ → State → Type 0
+HasCome (Waits frames) n s = n ≡ frames
+HasCome (WaitsDay t) n s = s.day ≡ t
+HasCome (WaitsContact c closed) n s = is_closed s.contacts c ≡ closed
+HasCome WaitsSwap n s = is_due s.left ≡ true
+HasCome Ended n s = ⊥
+
+-- the first frame after this one that carries out instructions is the first with which what is waited for has come
+abbrev pub WaitsUntil : Program → State → List Event → Type 0
+WaitsUntil p s events = IsFirstWhere (is_active p) (HasCome (shown p s).hold) 1 p (after_frame p s) events
+
+-- ---- the laws
+
+-- an instruction that suspends is the last of its frame
+abbrev pub InstructionsSuspend : Type 0
+InstructionsSuspend = (p : Program) (s : State) (i : Instr) → IsPlayed p s → CarriesOut p s i → IsWaitOf i (shown p s).hold
+
+abbrev pub WaitsAreKept : Type 0
+WaitsAreKept = (p : Program) (s : State) (events : List Event) → IsPlayed p s → WaitsUntil p s events
