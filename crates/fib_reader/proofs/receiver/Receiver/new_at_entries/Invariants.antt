@@ -1,7 +1,7 @@
 use Rattle.std.proofs.Common.{ℕ}
 use Rattle.fib_reader.specs.Listening.{hear_entries}
 use Rattle.fib_reader.specs.Forecast.{LeavesRoom}
-use Rattle.fib_reader.proofs.listener.Listener.new_at_entries.Given as goal
+use Rattle.fib_reader.proofs.receiver.Receiver.new_at_entries.Given as goal
 
 abbrev pub invariant-loop-entry : goal.invariant-loop-entry
 invariant-loop-entry l =

@@ -1,6 +1,6 @@
 use Rattle.std.proofs.Common.{◌≡◌, length}
 use Rattle.fib_reader.specs.Listening.{hear_figs}
-use Rattle.fib_reader.proofs.listener.Listener.hear_figs.Given as goal
+use Rattle.fib_reader.proofs.receiver.Receiver.hear_figs.Given as goal
 
 abbrev pub invariant-loop-fig : goal.invariant-loop-fig
 invariant-loop-fig l = hear_figs l.figs l.self ≡ hear_figs l.initial.figs l.initial.self

@@ -2,7 +2,7 @@ use Rattle.std.proofs.Common.{◌≢◌, ◌∙◌, ap, true, false, sym, subst,
 use Rattle.fib_reader.specs.Listening.{Listening, hear_entry}
 use Rattle.fib_reader.specs.Forecast.{LeavesRoom}
 use Rattle.fib_reader.proofs.Forecast.{leaves_if_next, leaves_if_current}
-use Rattle.fib_reader.proofs.listener.Listener.new_at_entry.Goals as goal
+use Rattle.fib_reader.proofs.receiver.Receiver.new_at_entry.Goals as goal
 
 pub returns-then-next : goal.returns-then-next
 returns-then-next c =

@@ -4,7 +4,7 @@ use Rattle.fib_reader.specs.Raw.{Raw}
 use Rattle.fib_reader.specs.Listening.{hear_entries, hear_fig, hear_figs}
 use Rattle.fib_reader.specs.Forecast.{LeavesRoom}
 use Rattle.fib_reader.proofs.Forecast.{leaves_both, leaves_fig, leaves_other, leaves_nothing, never_full}
-use Rattle.fib_reader.proofs.listener.Listener.has_room.Goals as goal
+use Rattle.fib_reader.proofs.receiver.Receiver.has_room.Goals as goal
 
 pub loop-fig-preserved-in-Some-new_at_entries : goal.loop-fig-preserved-in-Some-new_at_entries
 loop-fig-preserved-in-Some-new_at_entries c = λ all more.

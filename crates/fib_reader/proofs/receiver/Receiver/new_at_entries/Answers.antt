@@ -3,7 +3,7 @@ use Rattle.fib_reader.specs.Raw.{Raw}
 use Rattle.fib_reader.specs.Listening.{hear_entry, hear_entries}
 use Rattle.fib_reader.specs.Forecast.{LeavesRoom}
 use Rattle.fib_reader.proofs.Forecast.{leaves_both}
-use Rattle.fib_reader.proofs.listener.Listener.new_at_entries.Goals as goal
+use Rattle.fib_reader.proofs.receiver.Receiver.new_at_entries.Goals as goal
 
 pub loop-entry-preserved : goal.loop-entry-preserved
 loop-entry-preserved c = λ all more.

@@ -1,7 +1,7 @@
 use Rattle.std.proofs.Common.{ℕ}
 use Rattle.fib_reader.specs.Listening.{hear_figs}
 use Rattle.fib_reader.specs.Forecast.{LeavesRoom}
-use Rattle.fib_reader.proofs.listener.Listener.has_room.Given as goal
+use Rattle.fib_reader.proofs.receiver.Receiver.has_room.Given as goal
 
 abbrev pub invariant-loop-fig : goal.invariant-loop-fig
 invariant-loop-fig l =
