@@ -5,6 +5,7 @@ pub mod Walk
 pub mod Listening
 pub mod Picture
 pub mod Forecast
+pub mod Remembering
 pub mod Laws
 pub use Rattle.mux_config.specs.Configuration
 pub use Rattle.mux_entries.specs.Entries

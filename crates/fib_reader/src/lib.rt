@@ -2,6 +2,7 @@
 //! The layout of an entry stands in the file of its FIG in `fib_codec`, which is called for lengths and values.
 #![tactic(auto)]
 
+mod basis;
 mod bytes;
 pub mod checking;
 pub mod entries;
@@ -12,8 +13,10 @@ mod from_entry;
 pub mod laws;
 pub mod listener;
 mod members;
+mod memory;
 mod owned_entry;
 pub mod picture;
+mod receiver;
 
 pub use checking::check;
 pub use entries::{Entries, RawEntry};

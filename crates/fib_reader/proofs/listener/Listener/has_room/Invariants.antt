@@ -1,8 +1,0 @@
-use Rattle.std.proofs.Common.{ℕ}
-use Rattle.fib_reader.specs.Listening.{hear_figs}
-use Rattle.fib_reader.specs.Forecast.{LeavesRoom}
-use Rattle.fib_reader.proofs.listener.Listener.has_room.Given as goal
-
-abbrev pub invariant-loop-fig : goal.invariant-loop-fig
-invariant-loop-fig l =
-    (all : ℕ) → LeavesRoom l.self l.new all (hear_figs l.figs) → LeavesRoom l.self 0 all (hear_figs l.initial.figs)

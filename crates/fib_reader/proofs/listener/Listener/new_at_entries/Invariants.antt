@@ -1,8 +1,0 @@
-use Rattle.std.proofs.Common.{ℕ}
-use Rattle.fib_reader.specs.Listening.{hear_entries}
-use Rattle.fib_reader.specs.Forecast.{LeavesRoom}
-use Rattle.fib_reader.proofs.listener.Listener.new_at_entries.Given as goal
-
-abbrev pub invariant-loop-entry : goal.invariant-loop-entry
-invariant-loop-entry l =
-    (all : ℕ) → LeavesRoom l.self l.new all (hear_entries l.next l.entries) → LeavesRoom l.self l.others all (hear_entries l.next l.initial.entries)

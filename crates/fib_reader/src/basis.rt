@@ -1,0 +1,66 @@
+//! What it rests on that a receiver is told nothing new.
+
+ghost use Rattle.std.specs.Prelude.{◌≡◌, true};
+ghost use Rattle.fib_reader.specs.Listening.{Listening, hear_figs};
+ghost use Rattle.fib_reader.specs.Remembering.{KeepsCurrent};
+
+use crate::figs::Figs;
+use fib_codec::Head;
+
+/// What it rests on that FIGs tell a receiver nothing new, beside whether it has heard a FIG 0/0 yet.
+#[derive(Clone, Copy, Debug, PartialEq, Eq)]
+pub(crate) enum Basis {
+    /// On what it has heard of the current configuration.
+    Current,
+    /// On what it has heard of the current and of the next configuration.
+    Pictures,
+    /// On all that it knows.
+    All,
+}
+
+impl Basis {
+    ghost use Rattle.std.specs.Prelude.{◌≡◌};
+    ghost use Rattle.fib_reader.specs.Listening.{Listening};
+    ghost use Rattle.fib_reader.specs.Remembering.{Agrees, basis_of};
+
+    /// What FIGs of this head rest on: FIG 0/0 on all, entries with C/N 1 on both pictures.
+    pub(crate) fn of(head: Head) -> Basis
+        ensures { result ≡ basis_of head.next head.ext }
+    {
+        if head.ext == 0 {
+            return Basis::All;
+        }
+        if head.next {
+            Basis::Pictures
+        } else {
+            Basis::Current
+        }
+    }
+
+    /// What two things rest on together.
+    pub(crate) fn and(self, other: Basis) -> Basis
+        ensures one { (old l : Listening) → Agrees result old l → Agrees self old l }
+        ensures other { (old l : Listening) → Agrees result old l → Agrees other old l }
+    {
+        match (self, other) {
+            (Basis::All, _) | (_, Basis::All) => Basis::All,
+            (Basis::Pictures, _) | (_, Basis::Pictures) => Basis::Pictures,
+            (Basis::Current, Basis::Current) => Basis::Current,
+        }
+    }
+}
+
+/// Whether FIGs have entries of the next configuration alone, so that the current one stays as it was heard.
+pub(crate) fn are_of_next(mut figs: Figs<'_>) -> bool
+    ensures { result ≡ true → KeepsCurrent (hear_figs figs.entry) }
+{
+    while let Some(fig) = figs.next() {
+        if let Some(head) = fig.head() {
+            match Basis::of(head) {
+                Basis::Pictures => {}
+                Basis::Current | Basis::All => return false,
+            }
+        }
+    }
+    true
+}

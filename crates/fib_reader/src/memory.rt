@@ -1,0 +1,95 @@
+//! FIBs that told nothing new, by which they are known when they come again.
+
+ghost use Rattle.std.specs.Prelude.{◌<◌};
+
+use crate::basis::Basis;
+
+/// How many FIBs are remembered at most.
+const FIBS: usize = 1024;
+
+/// FIBs that told a receiver nothing new, each in the place that its CRC names, where a later one replaces it.
+#[derive(Drop)]
+pub(crate) struct Memory {
+    fibs: [[u8; 32]; FIBS],
+    /// Which of them rest on the current picture alone.
+    of_current: [bool; FIBS],
+    /// Which of them rest on both pictures.
+    of_pictures: [bool; FIBS],
+}
+
+impl Memory {
+    ghost use Rattle.std.specs.Prelude.{◌≡◌, ◌⊎◌, true, List, ℕ};
+    ghost use Rattle.fib_reader.specs.declared.basis.Basis.{Basis};
+    ghost use Rattle.fib_reader.specs.declared.basis.Basis.TheVariants.{Current};
+    ghost use Rattle.fib_reader.specs.Remembering.{Remembers};
+
+    /// No FIB is remembered.
+    pub(crate) fn new() -> Memory
+        ensures { (bytes : List ℕ) (basis : Basis) → Remembers result bytes basis → ⊥ }
+    {
+        Memory::of([[0; 32]; FIBS])
+    }
+
+    /// Room for FIBs, of which none is remembered.
+    fn of(fibs: [[u8; 32]; FIBS]) -> Memory
+        ensures { (bytes : List ℕ) (basis : Basis) → Remembers result bytes basis → ⊥ }
+    {
+        Memory {
+            fibs,
+            of_current: [false; FIBS],
+            of_pictures: [false; FIBS],
+        }
+    }
+
+    /// Whether a FIB is remembered.
+    #[inline(always)]
+    pub(crate) fn has(&self, bytes: &[u8; 32]) -> bool
+        ensures { result ≡ true → (basis : Basis) × Remembers self.now bytes.now basis }
+    {
+        let place = place_of(bytes);
+        if self.fibs[place] != *bytes {
+            return false;
+        }
+        if self.of_current[place] {
+            return true;
+        }
+        self.of_pictures[place]
+    }
+
+    /// Remembers a FIB that rests on this, in place of the one that was in its place; not one that rests on all.
+    pub(crate) fn keep(&mut self, bytes: &[u8; 32], basis: Basis)
+        ensures { (other : List ℕ) (of : Basis) → Remembers self.new other of
+            → Remembers self.old other of ⊎ ((other ≡ bytes.now) × (of ≡ basis)) }
+    {
+        if basis == Basis::All {
+            return;
+        }
+        let place = place_of(bytes);
+        self.fibs[place] = *bytes;
+        self.of_current[place] = basis == Basis::Current;
+        self.of_pictures[place] = basis == Basis::Pictures;
+    }
+
+    /// Forgets the FIBs that rest on what was heard of the next configuration.
+    pub(crate) fn forget_next(&mut self)
+        ensures { (bytes : List ℕ) (basis : Basis) → Remembers self.new bytes basis
+            → Remembers self.old bytes basis × (basis ≡ Current) }
+    {
+        self.of_pictures = [false; FIBS];
+    }
+
+    /// Forgets all.
+    pub(crate) fn forget(&mut self)
+        ensures { (bytes : List ℕ) (basis : Basis) → Remembers self.new bytes basis → ⊥ }
+    {
+        self.of_current = [false; FIBS];
+        self.of_pictures = [false; FIBS];
+    }
+}
+
+/// The place of a FIB, below 1,024: the lowest ten bits of its CRC.
+fn place_of(bytes: &[u8; 32]) -> usize
+    ensures { result < 1024 }
+{
+    usize::from(u16::from_be_bytes([bytes[30], bytes[31]]) % 1024)
+}
