@@ -1,12 +1,12 @@
 -- The edits that lead from one configuration to another, walk by walk.
-use Rattle.std.proofs.Common.{◌≡◌, ◌≢◌, ℕ, ◌<◌, ◌≤◌, List, [], ◌∷◌, ◌++◌, length, Option, Some, None, refl, sym, ap, ◌∙◌, subst, arith}
+use Rattle.std.proofs.Common.{◌≡◌, List, [], ◌∷◌, ◌++◌, Option, Some, refl, sym, ap, ◌∙◌, arith}
 use Rattle.std.specs.List.{AllByRecursion, flat_map}
 use Rattle.mux_eep.specs.Sizes.{SizesGrow}
 use Rattle.mux_config.specs.declared.edit.Edit.{Edit}
 use Rattle.mux_types.specs.declared.parts.Sub.{Sub}
 use Rattle.mux_types.specs.declared.parts.Service.{Service}
 use Rattle.mux_types.specs.declared.parts.Packet.{Packet}
-use Rattle.mux_types.specs.Configuration.{Configuration, IsConfiguration, IsAscending, IsPlaced, IsService, IsAddressed, nothing, sub_key, service_key, packet_key, sid_key}
+use Rattle.mux_types.specs.Configuration.{Configuration, IsConfiguration, IsPlaced, IsService, IsAddressed, nothing, sub_key, service_key, packet_key, sid_key}
 use Rattle.mux_types.specs.Tables.{entry_at}
 use Rattle.mux_config.specs.Edits.{sub_at, service_at, packet_at}
 use Rattle.mux_config.proofs.Keeping.{entry_holds, entry_key}
@@ -14,8 +14,8 @@ use Rattle.mux_edits.specs.Making.{edits_that_make}
 use Rattle.mux_edits.specs.Differences.{service_gone, service_cut, packet_gone, sub_gone, sub_altered, sub_new, packet_new, service_grown, edits_between}
 use Rattle.mux_edits.specs.Sequences.{after, HaveNoFault, Lead}
 use Rattle.mux_edits.proofs.Lookups.{same_found}
-use Rattle.mux_edits.proofs.Walks.{after_both, fine_both, walk, Walked, stepped}
-use Rattle.mux_edits.proofs.Passage.{all_left, is_all_left, left_awaited, less_left, new_awaited, arrived, left_among, IsLeft, rest_of}
+use Rattle.mux_edits.proofs.Walks.{after_both, fine_both, walk}
+use Rattle.mux_edits.proofs.Passage.{all_left, is_all_left, left_awaited, less_left, new_awaited, arrived, left_among, IsLeft}
 use Rattle.mux_edits.proofs.SubTurns as subs
 use Rattle.mux_edits.proofs.PacketTurns as packets
 use Rattle.mux_edits.proofs.ServiceTurns as services
@@ -42,8 +42,8 @@ subs_go : (from to c d : Configuration) → IsConfiguration from → SubsLeft al
 subs_go from to c d f h =
     let es : Sub → List Edit = λ s. sub_gone (sub_at s.id to) s in
     let walked = walk sub_key sub_at (subs.SubsKept c.services c.packets) (λ s. Unit {0}) es (λ s. all_left (entry_at sub_key (sub_key s) to.subs) s) (λ s. subs.sub_kept (entry_at sub_key (sub_key s) to.subs) s)
-        (λ s e member keeps is. subs.goes c.services c.packets (sub_at s.id to) s e keeps is)
-        from.subs d f.subs_ascend h.kept (left_awaited sub_key from.subs to.subs (λ s. Unit {0}) all_left sub_at d f.subs_ascend (each_any from.subs) h.is) in
+    (λ s e member keeps is. subs.goes c.services c.packets (sub_at s.id to) s e keeps is)
+    from.subs d f.subs_ascend h.kept (left_awaited sub_key from.subs to.subs (λ s. Unit {0}) all_left sub_at d f.subs_ascend (each_any from.subs) h.is) in
     (walked.fine, record { kept = walked.keeps; is = less_left sub_key from.subs to.subs all_left subs.sub_kept sub_at d (after (flat_map es from.subs) d) h.is walked.found })
 
 subs_stay : SizesGrow → (from to c d : Configuration) → IsConfiguration from → IsConfiguration to → SubsLeft subs.sub_kept from to c d
@@ -51,9 +51,9 @@ subs_stay : SizesGrow → (from to c d : Configuration) → IsConfiguration from
 subs_stay grow from to c d f t h =
     let es : Sub → List Edit = λ s. sub_altered (sub_at s.id to) s in
     let walked = walk sub_key sub_at (subs.SubsKept c.services c.packets) IsPlaced es (λ s. subs.sub_kept (entry_at sub_key (sub_key s) to.subs) s) (λ s. subs.sub_turned (entry_at sub_key (sub_key s) to.subs) s)
-        (λ s e member keeps is. subs.stays grow c.services c.packets (sub_at s.id to) s e member
-          (λ x found. (entry_holds IsPlaced sub_key s.id to.subs x t.subs_placed found, sym (entry_key sub_key s.id to.subs x found))) keeps is)
-        from.subs d f.subs_ascend h.kept (left_awaited sub_key from.subs to.subs IsPlaced subs.sub_kept sub_at d f.subs_ascend f.subs_placed h.is) in
+    (λ s e member keeps is. subs.stays grow c.services c.packets (sub_at s.id to) s e member
+    (λ x found. (entry_holds IsPlaced sub_key s.id to.subs x t.subs_placed found, sym (entry_key sub_key s.id to.subs x found))) keeps is)
+    from.subs d f.subs_ascend h.kept (left_awaited sub_key from.subs to.subs IsPlaced subs.sub_kept sub_at d f.subs_ascend f.subs_placed h.is) in
     (walked.fine, record { kept = walked.keeps; is = less_left sub_key from.subs to.subs subs.sub_kept subs.sub_turned sub_at d (after (flat_map es from.subs) d) h.is walked.found })
 
 -- the configuration with the sub-channels of another
@@ -65,11 +65,11 @@ subs_come : (from to c d : Configuration) → IsConfiguration to → SubsLeft su
 subs_come from to c d t h =
     let es : Sub → List Edit = λ s. sub_new (sub_at s.id from) s in
     let walked = walk sub_key sub_at (subs.SubsKept c.services c.packets) (λ s. IsPlaced s × (entry_at sub_key (sub_key s) to.subs ≡ Some s)) es (λ s. subs.sub_awaited (entry_at sub_key (sub_key s) from.subs) s) (λ s. Some s)
-        (λ s e member keeps is. subs.comes c.services c.packets (sub_at s.id from) s e member.0 keeps is)
-        to.subs d t.subs_ascend h.kept (new_awaited sub_key from.subs to.subs IsPlaced subs.sub_turned subs.sub_awaited sub_at d t.subs_ascend subs.subs_fit t.subs_placed h.is) in
+    (λ s e member keeps is. subs.comes c.services c.packets (sub_at s.id from) s e member.0 keeps is)
+    to.subs d t.subs_ascend h.kept (new_awaited sub_key from.subs to.subs IsPlaced subs.sub_turned subs.sub_awaited sub_at d t.subs_ascend subs.subs_fit t.subs_placed h.is) in
     let e : Configuration = after (flat_map es to.subs) d in
     let same : e.subs ≡ to.subs = same_found sub_key e.subs to.subs walked.keeps.formed.subs_ascend t.subs_ascend
-        (arrived sub_key from.subs to.subs subs.sub_turned subs.sub_awaited sub_at d e subs.subs_fit h.is walked.found) in
+    (arrived sub_key from.subs to.subs subs.sub_turned subs.sub_awaited sub_at d e subs.subs_fit h.is walked.found) in
     (walked.fine, walked.keeps, λ i. record { subs = same i; services = walked.keeps.services i; packets = walked.keeps.packets i })
 
 -- ---- packet components
@@ -89,8 +89,8 @@ packets_go : (from to c d : Configuration) → IsConfiguration from → PacketsL
 packets_go from to c d f h =
     let es : Packet → List Edit = λ p. packet_gone (packet_at p.scid to) p in
     let walked = walk packet_key packet_at (packets.PacketsKept c.subs c.services) (λ p. Unit {0}) es (λ p. all_left (entry_at packet_key (packet_key p) to.packets) p) (λ p. packets.packet_kept (entry_at packet_key (packet_key p) to.packets) p)
-        (λ p e member keeps is. packets.goes c.subs c.services (packet_at p.scid to) p e keeps is)
-        from.packets d f.packets_ascend h.kept (left_awaited packet_key from.packets to.packets (λ p. Unit {0}) all_left packet_at d f.packets_ascend (each_any from.packets) h.is) in
+    (λ p e member keeps is. packets.goes c.subs c.services (packet_at p.scid to) p e keeps is)
+    from.packets d f.packets_ascend h.kept (left_awaited packet_key from.packets to.packets (λ p. Unit {0}) all_left packet_at d f.packets_ascend (each_any from.packets) h.is) in
     (walked.fine, record { kept = walked.keeps; is = less_left packet_key from.packets to.packets all_left packets.packet_kept packet_at d (after (flat_map es from.packets) d) h.is walked.found })
 
 abbrev pub with_packets : Configuration → Configuration → Configuration
@@ -105,12 +105,12 @@ packets_come from to c d t h =
       among = left_among packet_key from.packets to.packets d.packets packets.packet_kept packets.packet_awaited packets.packets_fit h.is;
     } in
     let walked = walk packet_key packet_at (packets.PacketsCome to.packets c.subs c.services) (λ q. IsAddressed q × (entry_at packet_key (packet_key q) to.packets ≡ Some q)) es (λ q. packets.packet_awaited (entry_at packet_key (packet_key q) from.packets) q) (λ q. Some q)
-        (λ q e member keeps is. packets.comes to.packets c.subs c.services (packet_at q.scid from) q e t.packets_ascend t.packets_few keeps member.0 is member.1)
-        to.packets d t.packets_ascend start (new_awaited packet_key from.packets to.packets IsAddressed packets.packet_kept packets.packet_awaited packet_at d t.packets_ascend packets.packets_fit t.packets_addressed h.is) in
+    (λ q e member keeps is. packets.comes to.packets c.subs c.services (packet_at q.scid from) q e t.packets_ascend t.packets_few keeps member.0 is member.1)
+    to.packets d t.packets_ascend start (new_awaited packet_key from.packets to.packets IsAddressed packets.packet_kept packets.packet_awaited packet_at d t.packets_ascend packets.packets_fit t.packets_addressed h.is) in
     let e : Configuration = after (flat_map es to.packets) d in
     let kept = walked.keeps.kept in
     let same : e.packets ≡ to.packets = same_found packet_key e.packets to.packets kept.formed.packets_ascend t.packets_ascend
-        (arrived packet_key from.packets to.packets packets.packet_kept packets.packet_awaited packet_at d e packets.packets_fit h.is walked.found) in
+    (arrived packet_key from.packets to.packets packets.packet_kept packets.packet_awaited packet_at d e packets.packets_fit h.is walked.found) in
     (walked.fine, kept, λ i. record { subs = kept.subs i; services = kept.services i; packets = same i })
 
 -- ---- services
@@ -130,8 +130,8 @@ services_go : (from to c d : Configuration) → IsConfiguration from → Service
 services_go from to c d f h =
     let es : Service → List Edit = λ s. service_gone (service_at s.sid to) s in
     let walked = walk service_key services.at_key (services.ServicesKept c.subs c.packets) (λ s. Unit {0}) es (λ s. all_left (entry_at service_key (service_key s) to.services) s) (λ s. services.service_kept (entry_at service_key (service_key s) to.services) s)
-        (λ s e member keeps is. services.goes c.subs c.packets (service_at s.sid to) s e keeps is)
-        from.services d f.services_ascend h.kept (left_awaited service_key from.services to.services (λ s. Unit {0}) all_left services.at_key d f.services_ascend (each_any from.services) h.is) in
+    (λ s e member keeps is. services.goes c.subs c.packets (service_at s.sid to) s e keeps is)
+    from.services d f.services_ascend h.kept (left_awaited service_key from.services to.services (λ s. Unit {0}) all_left services.at_key d f.services_ascend (each_any from.services) h.is) in
     (walked.fine, record { kept = walked.keeps; is = less_left service_key from.services to.services all_left services.service_kept services.at_key d (after (flat_map es from.services) d) h.is walked.found })
 
 services_stay : (from to c d : Configuration) → IsConfiguration from → ServicesLeft services.service_kept from to c d
@@ -139,8 +139,8 @@ services_stay : (from to c d : Configuration) → IsConfiguration from → Servi
 services_stay from to c d f h =
     let es : Service → List Edit = λ s. service_cut (service_at s.sid to) s in
     let walked = walk service_key services.at_key (services.ServicesKept c.subs c.packets) (λ s. Unit {0}) es (λ s. services.service_kept (entry_at service_key (service_key s) to.services) s) (λ s. services.service_short (entry_at service_key (service_key s) to.services) s)
-        (λ s e member keeps is. services.stays c.subs c.packets (service_at s.sid to) s e keeps is)
-        from.services d f.services_ascend h.kept (left_awaited service_key from.services to.services (λ s. Unit {0}) services.service_kept services.at_key d f.services_ascend (each_any from.services) h.is) in
+    (λ s e member keeps is. services.stays c.subs c.packets (service_at s.sid to) s e keeps is)
+    from.services d f.services_ascend h.kept (left_awaited service_key from.services to.services (λ s. Unit {0}) services.service_kept services.at_key d f.services_ascend (each_any from.services) h.is) in
     (walked.fine, record { kept = walked.keeps; is = less_left service_key from.services to.services services.service_kept services.service_short services.at_key d (after (flat_map es from.services) d) h.is walked.found })
 
 abbrev pub with_services : Configuration → Configuration → Configuration
@@ -155,15 +155,15 @@ services_come from to c d f t h =
       among = left_among service_key from.services to.services d.services services.service_short services.service_awaited services.services_fit h.is;
     } in
     let walked = walk service_key services.at_key (services.ServicesCome to.services c.subs c.packets) (λ s. IsService s × (entry_at service_key (service_key s) to.services ≡ Some s)) es (λ s. services.service_awaited (entry_at service_key (service_key s) from.services) s) (λ s. Some s)
-        (λ s e member keeps is. services.comes to.services c.subs c.packets (service_at s.sid from) s e t.services_ascend t.services_few
-          (λ x found. let was : IsService x = entry_holds IsService service_key (sid_key s.sid) from.services x f.services_formed found in
-            services.sid_told x.sid s.sid was.named member.0.named (entry_key service_key (sid_key s.sid) from.services x found))
-          keeps member.0 is member.1)
-        to.services d t.services_ascend start (new_awaited service_key from.services to.services IsService services.service_short services.service_awaited services.at_key d t.services_ascend services.services_fit t.services_formed h.is) in
+    (λ s e member keeps is. services.comes to.services c.subs c.packets (service_at s.sid from) s e t.services_ascend t.services_few
+    (λ x found. let was : IsService x = entry_holds IsService service_key (sid_key s.sid) from.services x f.services_formed found in
+    services.sid_told x.sid s.sid was.named member.0.named (entry_key service_key (sid_key s.sid) from.services x found))
+    keeps member.0 is member.1)
+    to.services d t.services_ascend start (new_awaited service_key from.services to.services IsService services.service_short services.service_awaited services.at_key d t.services_ascend services.services_fit t.services_formed h.is) in
     let e : Configuration = after (flat_map es to.services) d in
     let kept = walked.keeps.kept in
     let same : e.services ≡ to.services = same_found service_key e.services to.services kept.formed.services_ascend t.services_ascend
-        (arrived service_key from.services to.services services.service_short services.service_awaited services.at_key d e services.services_fit h.is walked.found) in
+    (arrived service_key from.services to.services services.service_short services.service_awaited services.at_key d e services.services_fit h.is walked.found) in
     (walked.fine, kept, λ i. record { subs = kept.subs i; services = same i; packets = kept.packets i })
 
 -- ---- the whole way

@@ -1,6 +1,6 @@
 -- Sets in ascending order by what is found in them: what edits change of it, that it determines the set, and how many
 -- members a set has whose keys are among those of another.
-use Rattle.std.proofs.Common.{◌≡◌, ◌≢◌, ℕ, ◌+◌, ◌<◌, ◌≤◌, Bool, true, false, not, cond, ltb, eqb, List, [], ◌∷◌, length, Option, Some, None, if◌then◌else◌, refl, sym, ap, ◌∙◌, inl, inr, arith}
+use Rattle.std.proofs.Common.{◌≡◌, ◌≢◌, ℕ, ◌<◌, ◌≤◌, false, eqb, List, [], ◌∷◌, length, Some, None, refl, sym, ap, ◌∙◌, inl, inr, arith}
 use Rattle.std.specs.List.{AllByRecursion}
 use Rattle.std.proofs.lemmas.Bool.{cases_lt, cases_eq, lt-ltb, le-ltb, eq-eqb, ne_eqb}
 use Rattle.mux_types.specs.Configuration.{IsAscending}
@@ -147,16 +147,16 @@ among_shorter key (x ∷ xs) (y ∷ ys) h k among =
     elim (cases_lt (key y) (key x)) [
       | inl lt ↦
           let rest = among_shorter key (x ∷ xs) ys h k.1 (λ j z e.
-            let found = among j z e in
-            let at : key x ≤ j = (elim (cases_eq (key x) j) [ inl same ↦ omega (arith, same) | inr other ↦ let above = above_found key j (key x) xs z h.0 (found_cases key j x xs z e other) in omega (arith, above) ]) in
-            (found.0, found_cases key j y ys found.0 found.1 (λ same. omega (arith, same, at, lt)))) in
+          let found = among j z e in
+          let at : key x ≤ j = (elim (cases_eq (key x) j) [ inl same ↦ omega (arith, same) | inr other ↦ let above = above_found key j (key x) xs z h.0 (found_cases key j x xs z e other) in omega (arith, above) ]) in
+          (found.0, found_cases key j y ys found.0 found.1 (λ same. omega (arith, same, at, lt)))) in
           omega (arith, rest)
       | inr ge ↦ elim (cases_eq (key y) (key x)) [
         | inl same ↦
             let rest = among_shorter key xs ys h.1 k.1 (λ j z e.
-              let above = above_found key j (key x) xs z h.0 e in
-              let found = among j z (found_later key j x xs (λ e'. omega (arith, e', above)) ∙ e) in
-              (found.0, found_cases key j y ys found.0 found.1 (λ e'. omega (arith, e', above, same)))) in
+            let above = above_found key j (key x) xs z h.0 e in
+            let found = among j z (found_later key j x xs (λ e'. omega (arith, e', above)) ∙ e) in
+            (found.0, found_cases key j y ys found.0 found.1 (λ e'. omega (arith, e', above, same)))) in
             omega (arith, rest)
         | inr other ↦
             let found = among (key x) x (found_first key (key x) x xs refl) in

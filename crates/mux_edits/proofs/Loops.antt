@@ -1,5 +1,5 @@
 -- How far the loops have come.
-use Rattle.std.proofs.Common.{◌≡◌, ◌≢◌, ℕ, zero, suc, ◌+◌, ◌-◌, ◌<◌, ◌≤◌, true, false, Bool, List, [], ◌∷◌, ◌++◌, length, get_or, drop, Some, None, refl, sym, ap, ◌∙◌, subst, inl, inr, arith}
+use Rattle.std.proofs.Common.{◌≡◌, ℕ, ◌+◌, ◌<◌, ◌≤◌, true, false, List, [], ◌∷◌, ◌++◌, length, get_or, drop, None, refl, sym, ap, ◌∙◌, subst, arith}
 use Rattle.std.proofs.lemmas.List.{append-nil, append_assoc, drop_more, drop_all}
 use Rattle.mux_config.specs.declared.edit.Edit.{Edit}
 use Rattle.mux_config.specs.declared.edit.Edit.TheVariants.{DropComponent}
@@ -108,6 +108,12 @@ common_there ms ns place past h =
 -- ---- parts are put behind one another
 
 -- lists that each stand behind all before them
+pub three_joined : {T : Type 0} (a b c none one two three : List T) → none ≡ [] → one ≡ none ++ a → two ≡ one ++ b → three ≡ two ++ c → three ≡ a ++ (b ++ c)
+three_joined a b c none one two three n1 n2 n3 n4 =
+    n4 ∙ ap (λ xs. xs ++ c) n3 ∙ append_assoc one b c
+    ∙ ap (λ xs. xs ++ (b ++ c)) n2 ∙ append_assoc none a (b ++ c)
+    ∙ ap (λ xs. xs ++ (a ++ (b ++ c))) n1
+
 pub eight_joined : {T : Type 0} (a b c d e f g h none one two three four five six seven eight : List T) → none ≡ [] → one ≡ none ++ a → two ≡ one ++ b → three ≡ two ++ c → four ≡ three ++ d
     → five ≡ four ++ e → six ≡ five ++ f → seven ≡ six ++ g → eight ≡ seven ++ h → eight ≡ a ++ (b ++ (c ++ (d ++ (e ++ (f ++ (g ++ h))))))
 eight_joined a b c d e f g h none one two three four five six seven eight n1 n2 n3 n4 n5 n6 n7 n8 n9 =

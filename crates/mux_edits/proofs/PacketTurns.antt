@@ -1,7 +1,6 @@
 -- What edits of one packet component make of the packet components.
-use Rattle.std.proofs.Common.{◌≡◌, ◌≢◌, ℕ, ◌<◌, ◌≤◌, ◌==◌, ◌||◌, Bool, true, false, cond, ltb, leb, List, [], ◌∷◌, length, Option, Some, None, refl, sym, ap, ◌∙◌, subst, inl, inr, arith}
+use Rattle.std.proofs.Common.{◌≡◌, ◌≢◌, ℕ, ◌<◌, ◌≤◌, Bool, true, false, cond, leb, List, [], ◌∷◌, length, Option, Some, None, refl, sym, ap, ◌∙◌, inl, inr, arith}
 use Rattle.std.proofs.lemmas.Bool.{cases_eq, le-ltb, lt-leb, ne_eqb}
-use Rattle.mux_config.specs.declared.edit.Edit.{Edit}
 use Rattle.mux_config.specs.declared.edit.Edit.TheVariants.{AddPacket, DropPacket}
 use Rattle.mux_types.specs.declared.parts.Sub.{Sub}
 use Rattle.mux_types.specs.declared.parts.Service.{Service}
@@ -14,7 +13,6 @@ use Rattle.mux_config.specs.Edits.{packet_at, absent_or, has_bad_address, add_pa
 use Rattle.mux_config.proofs.Keeping.{absent_found, length_with, add_packet_keeps, drop_packet_keeps}
 use Rattle.mux_config.proofs.Same.{packet_same}
 use Rattle.mux_edits.specs.Differences.{packet_gone, packet_new}
-use Rattle.mux_edits.specs.Sequences.{after}
 use Rattle.mux_edits.proofs.Lookups.{with_here, with_others, without_here, without_others, AreAmong, among_shorter}
 use Rattle.mux_edits.proofs.Walks.{Turns, turns_nothing}
 use Rattle.mux_edits.proofs.Passage.{Fits, all_left, turned_among}
@@ -58,7 +56,7 @@ pub room_for : {T : Type 0} (key : T → ℕ) (y : T) (xs ys : List T) → IsAsc
     → AreAmong key xs ys → length xs < length ys
 room_for key y xs ys up above free z there among =
     let one_more : length (with_entry key y xs) ≤ length ys =
-        among_shorter key (with_entry key y xs) ys (ascends_with key y xs up free) above (with_among key y xs ys z there among) in
+    among_shorter key (with_entry key y xs) ys (ascends_with key y xs up free) above (with_among key y xs ys z there among) in
     let longer = length_with key y xs in
     omega (arith, one_more, longer)
 

@@ -1,6 +1,6 @@
 -- The way of one set from the members of one list to those of another: what is taken away or altered, member by member
 -- of the first, and then what is added, member by member of the second.
-use Rattle.std.proofs.Common.{◌≡◌, ◌≢◌, ℕ, ◌<◌, ◌≤◌, List, [], ◌∷◌, length, Option, Some, None, refl, sym, ap, ◌∙◌, subst, inl, inr, arith}
+use Rattle.std.proofs.Common.{◌≡◌, ℕ, ◌<◌, List, [], ◌∷◌, Option, Some, None, refl, sym, ap, ◌∙◌, inl, inr, arith}
 use Rattle.std.specs.List.{AllByRecursion}
 use Rattle.std.proofs.lemmas.Bool.{cases_eq}
 use Rattle.mux_config.specs.declared.edit.Edit.{Edit}
@@ -22,7 +22,7 @@ each_found key [] up = tt
 each_found key (x ∷ xs) up = (
   found_first key (key x) x xs refl,
   each_both (λ y. key x < key y) (λ y. entry_at key (key y) xs ≡ Some y) (λ y. entry_at key (key y) (x ∷ xs) ≡ Some y)
-  (λ y above found. found_later key (key y) x xs (λ same. omega (arith, above, same)) ∙ found) xs up.0 (each_found key xs up.1),
+      (λ y above found. found_later key (key y) x xs (λ same. omega (arith, above, same)) ∙ found) xs up.0 (each_found key xs up.1),
 )
 
 -- ---- what is left of the first list

@@ -1,7 +1,7 @@
 -- What edits of one service and its components make of the services.
-use Rattle.std.proofs.Common.{◌≡◌, ◌≢◌, ℕ, ◌+◌, ◌<◌, ◌≤◌, ◌||◌, Bool, true, false, not, cond, leb, List, [], ◌∷◌, ◌++◌, length, map, Option, Some, None, refl, sym, ap, ◌∙◌, subst, inl, inr, arith, length-append}
+use Rattle.std.proofs.Common.{◌≡◌, ◌≢◌, ℕ, ◌<◌, ◌≤◌, ◌||◌, Bool, true, false, not, cond, leb, List, [], ◌∷◌, ◌++◌, length, Option, Some, None, refl, sym, ap, ◌∙◌, subst, arith, length-append}
 use Rattle.std.specs.List.{AllByRecursion, list_any, filter}
-use Rattle.std.proofs.lemmas.Bool.{false≢true, cases_eq, lt-leb, eq-eqb}
+use Rattle.std.proofs.lemmas.Bool.{false≢true, lt-leb, eq-eqb}
 use Rattle.std.proofs.lemmas.List.{append-nil, append_assoc}
 use Rattle.mux_config.specs.declared.edit.Edit.{Edit}
 use Rattle.mux_config.specs.declared.edit.Edit.TheVariants.{AddService, DropService, AddComponent, DropComponent}
@@ -15,9 +15,9 @@ use Rattle.mux_types.specs.declared.parts.Carrier.TheVariants.{Sub as BySub, Pac
 use Rattle.mux_types.specs.declared.numbers.Sid.{Sid}
 use Rattle.mux_types.specs.declared.numbers.Sid.TheVariants.{Short, Long}
 use Rattle.mux_types.specs.Configuration.{Configuration, IsConfiguration, IsAscending, IsService, IsSid, IsComponent, AreDifferent, service_key, sid_key, carrier_of, component_limit}
-use Rattle.mux_types.specs.Tables.{entry_at, changed_at}
+use Rattle.mux_types.specs.Tables.{entry_at}
 use Rattle.mux_types.specs.Sameness.{names, is_same_carrier, is_same_component}
-use Rattle.mux_config.specs.Edits.{service_at, absent_or, with_component, without_carrier, component_fault, add_service_fault, add_component_fault, drop_component_fault}
+use Rattle.mux_config.specs.Edits.{absent_or, with_component, without_carrier, component_fault, add_service_fault, add_component_fault, drop_component_fault}
 use Rattle.mux_config.proofs.Keeping.{absent_found, entry_holds, carrier_same, add_service_keeps, drop_service_keeps, add_component_keeps, drop_component_keeps}
 use Rattle.mux_config.proofs.Same.{component_same, component_itself}
 use Rattle.mux_edits.specs.Making.{components_added, service_added}
@@ -100,10 +100,10 @@ cuts_last : (ss : List Sub) (ps : List Packet) (sid : Sid) (ms : List Component)
 cuts_last ss ps sid ms m c h e =
     let was : IsService (service_with sid (ms ++ m ∷ [])) = entry_holds IsService service_key (sid_key sid) c.services (service_with sid (ms ++ m ∷ [])) h.formed.services_formed e in
     let fine : drop_component_fault sid (carrier_of m) c ≡ None =
-        ap (λ (o : Option Service). absent_or o (λ s. cond (list_any (names (carrier_of m)) s.components) None (Some IdAbsent))) e
-        ∙ ap (λ (b : Bool). cond b None (Some IdAbsent)) (last_named ms m) in
+    ap (λ (o : Option Service). absent_or o (λ s. cond (list_any (names (carrier_of m)) s.components) None (Some IdAbsent))) e
+    ∙ ap (λ (b : Bool). cond b None (Some IdAbsent)) (last_named ms m) in
     let left : without_carrier (carrier_of m) (service_with sid (ms ++ m ∷ [])) ≡ service_with sid ms =
-        ap (service_with sid) (last_out ms m (last_free ms m [] was.carriers)) in
+    ap (service_with sid) (last_out ms m (last_free ms m [] was.carriers)) in
     record {
       fine = (fine, tt);
       here = changed_found service_key (sid_key sid) (without_carrier (carrier_of m)) c.services (service_with sid (ms ++ m ∷ [])) (λ x. refl) e ∙ ap Some left;
@@ -148,7 +148,7 @@ grows ss ps sid ms (n ∷ ns) c h e within apart few =
     let first = grows_once ss ps sid ms n c h e within.0 (last_free ms n ns apart) (omega (arith, long, few)) in
     let rest = grows ss ps sid more ns (after (AddComponent sid n ∷ []) c) first.keeps first.here within.1 (subst AreDifferent (sym same) apart) (let e' = ap length same in omega (arith, e', few)) in
     let last : Turns at_key (ServicesKept ss ps) (components_added sid ns) (sid_key sid) (Some (service_with sid (ms ++ n ∷ ns))) (after (AddComponent sid n ∷ []) c) =
-        subst (λ (xs : List Component). Turns at_key (ServicesKept ss ps) (components_added sid ns) (sid_key sid) (Some (service_with sid xs)) (after (AddComponent sid n ∷ []) c)) same rest in
+    subst (λ (xs : List Component). Turns at_key (ServicesKept ss ps) (components_added sid ns) (sid_key sid) (Some (service_with sid xs)) (after (AddComponent sid n ∷ []) c)) same rest in
     turns_both at_key (ServicesKept ss ps) (AddComponent sid n ∷ []) (components_added sid ns) (sid_key sid) (Some (service_with sid more)) (Some (service_with sid (ms ++ n ∷ ns))) c first last
 
 -- ---- a service comes
@@ -252,7 +252,7 @@ pub stays : (ss : List Sub) (ps : List Packet) (o : Option Service) (s : Service
 stays ss ps None s c h e = turns_nothing at_key (ServicesKept ss ps) (sid_key s.sid) None c h e
 stays ss ps (Some t) s c h e =
     let parted : s ≡ service_with s.sid (shared s.components t.components ++ behind s.components t.components) =
-        λ i. record { sid = s.sid; components = sym (shared_first s.components t.components) i } in
+    λ i. record { sid = s.sid; components = sym (shared_first s.components t.components) i } in
     cuts ss ps s.sid (shared s.components t.components) (behind s.components t.components) c h (e ∙ ap Some parted)
 
 each_behind : (P : Component → Type 0) (ms ns : List Component) → AllByRecursion P (ms ++ ns) → AllByRecursion P ns
@@ -272,8 +272,8 @@ comes all ss ps (Some s) t c up few same h formed e there =
     let whole : shared s.components t.components ++ behind t.components s.components ≡ t.components = shared_second s.components t.components in
     let found : at_key (sid_key t.sid) c ≡ Some (service_with t.sid (shared s.components t.components)) = e ∙ ap (λ (x : Sid). Some (service_with x (shared s.components t.components))) sids in
     let turn = grows ss ps t.sid (shared s.components t.components) (behind t.components s.components) c h.kept found
-        (each_behind IsComponent (shared s.components t.components) (behind t.components s.components) (subst (AllByRecursion IsComponent) (sym whole) formed.within))
-        (subst AreDifferent (sym whole) formed.carriers) (let e' = ap length whole in let f = formed.few in omega (arith, e', f)) in
+    (each_behind IsComponent (shared s.components t.components) (behind t.components s.components) (subst (AllByRecursion IsComponent) (sym whole) formed.within))
+    (subst AreDifferent (sym whole) formed.carriers) (let e' = ap length whole in let f = formed.few in omega (arith, e', f)) in
     let is : service_with t.sid (shared s.components t.components ++ behind t.components s.components) ≡ t = λ i. record { sid = t.sid; components = whole i } in
     come_on all ss ps (components_added t.sid (behind t.components s.components)) t c h there
     (subst (λ (x : Service). Turns at_key (ServicesKept ss ps) (components_added t.sid (behind t.components s.components)) (sid_key t.sid) (Some x) c) is turn)

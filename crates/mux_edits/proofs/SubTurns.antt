@@ -1,18 +1,16 @@
 -- What edits of one sub-channel make of the sub-channels.
-use Rattle.std.proofs.Common.{◌≡◌, ◌≢◌, ℕ, ◌+◌, ◌*◌, ◌/◌, ◌%◌, ◌<◌, ◌≤◌, ◌==◌, ◌&&◌, Bool, true, false, cond, ltb, eqb, List, [], ◌∷◌, ◌++◌, Option, Some, None, Ok, refl, sym, ap, ◌∙◌, subst, inl, inr, arith}
+use Rattle.std.proofs.Common.{◌≡◌, ◌≢◌, ℕ, ◌+◌, ◌%◌, ◌≤◌, ◌==◌, ◌&&◌, Bool, true, false, cond, ltb, List, [], ◌∷◌, ◌++◌, Option, Some, None, Ok, refl, sym, ap, ◌∙◌, subst, inl, inr, arith}
 use Rattle.std.specs.Result.{is_err}
-use Rattle.std.proofs.lemmas.Bool.{false≢true, cases_lt, cases_eq, lt-ltb, le-ltb, eq-eqb, ne_eqb, eqb-true}
+use Rattle.std.proofs.lemmas.Bool.{false≢true, cases_lt, lt-ltb, le-ltb, ne_eqb, eqb-true}
 use Rattle.mux_eep.specs.declared.sizes.EepSet.{EepSet}
 use Rattle.mux_eep.specs.declared.sizes.EepSet.TheVariants.{A, B}
 use Rattle.mux_eep.specs.Sizes.{Profile, IsSize, SizesGrow, size_or_fault, table_size, rate_step}
-use Rattle.mux_config.specs.declared.edit.Edit.{Edit}
 use Rattle.mux_config.specs.declared.edit.Edit.TheVariants.{AddSub, DropSub, MoveSub, RateSub}
-use Rattle.mux_config.specs.declared.fault.EditFault.TheVariants.{IdUsed, PastEnd}
+use Rattle.mux_config.specs.declared.fault.EditFault.TheVariants.{PastEnd}
 use Rattle.mux_types.specs.declared.parts.Sub.{Sub}
 use Rattle.mux_types.specs.declared.parts.Service.{Service}
 use Rattle.mux_types.specs.declared.parts.Packet.{Packet}
 use Rattle.mux_types.specs.Configuration.{Configuration, IsConfiguration, IsPlaced, sub_key, size_of_sub}
-use Rattle.mux_types.specs.Tables.{entry_at, has_entry}
 use Rattle.mux_types.specs.Sameness.{is_same_set}
 use Rattle.mux_config.specs.Edits.{sub_at, absent_or, at_start, at_rate, has_bad_rate, is_past_end, placing_fault, add_sub_fault, move_sub_fault, rate_sub_fault}
 use Rattle.mux_config.proofs.Keeping.{absent_found, add_sub_keeps, drop_sub_keeps, move_sub_keeps, rate_sub_keeps}
@@ -82,8 +80,8 @@ pub moves : (vs : List Service) (ps : List Packet) (id start : ℕ) (s : Sub) (c
     → Turns sub_at (SubsKept vs ps) (MoveSub id start ∷ []) id (Some (at_start start s)) c
 moves vs ps id start s c h e placed =
     let fine : move_sub_fault id start c ≡ None =
-        ap (λ (o : Option Sub). absent_or o (λ s. cond (is_past_end (at_start start s)) (Some PastEnd) None)) e
-        ∙ ap (λ (b : Bool). cond b (Some PastEnd) None) (within_fine (at_start start s) placed) in
+    ap (λ (o : Option Sub). absent_or o (λ s. cond (is_past_end (at_start start s)) (Some PastEnd) None)) e
+    ∙ ap (λ (b : Bool). cond b (Some PastEnd) None) (within_fine (at_start start s) placed) in
     record {
       fine = (fine, tt);
       here = changed_found sub_key id (at_start start) c.subs s (λ x. refl) e;
@@ -171,7 +169,7 @@ alters_by grow vs ps s t c true is falls rises k h e =
     let mid : Sub = at_rate t.kbits s in
     let second = moves_by vs ps t mid (after (rate_altered s t) c) (s.start == t.start) refl first.keeps first.here (subst IsPlaced (sym built) k.target) in
     let last : Turns sub_at (SubsKept vs ps) (start_altered s t) t.id (Some t) (after (rate_altered s t) c) =
-        subst (λ (x : Sub). Turns sub_at (SubsKept vs ps) (start_altered s t) t.id (Some x) (after (rate_altered s t) c)) built second in
+    subst (λ (x : Sub). Turns sub_at (SubsKept vs ps) (start_altered s t) t.id (Some x) (after (rate_altered s t) c)) built second in
     turns_both sub_at (SubsKept vs ps) (rate_altered s t) (start_altered s t) t.id (Some mid) (Some t) c first last
 alters_by grow vs ps s t c false is falls rises k h e =
     let built = rebuilt s t k in
@@ -179,7 +177,7 @@ alters_by grow vs ps s t c false is falls rises k h e =
     let mid : Sub = at_start t.start s in
     let second = rates_by vs ps t mid (after (start_altered s t) c) (s.kbits == t.kbits) refl first.keeps first.here (subst IsPlaced (sym built) k.target) in
     let last : Turns sub_at (SubsKept vs ps) (rate_altered s t) t.id (Some t) (after (start_altered s t) c) =
-        subst (λ (x : Sub). Turns sub_at (SubsKept vs ps) (rate_altered s t) t.id (Some x) (after (start_altered s t) c)) built second in
+    subst (λ (x : Sub). Turns sub_at (SubsKept vs ps) (rate_altered s t) t.id (Some x) (after (start_altered s t) c)) built second in
     turns_both sub_at (SubsKept vs ps) (start_altered s t) (rate_altered s t) t.id (Some mid) (Some t) c first last
 
 pub alters : SizesGrow → (vs : List Service) (ps : List Packet) (s t : Sub) (c : Configuration) → AreKin s t → SubsKept vs ps c → sub_at t.id c ≡ Some s

@@ -1,6 +1,6 @@
 -- The edits that lead from one configuration to another. What goes, goes before what comes, and a rate that falls
 -- falls before the sub-channel moves, so that no edit has a fault on the way.
-use Rattle.std.specs.Prelude.{ℕ, ◌==◌, ◌&&◌, Bool, if◌then◌else◌, nat_lt, List, [], ◌∷◌, ◌++◌, Option, Some, None}
+use Rattle.std.specs.Prelude.{◌==◌, ◌&&◌, Bool, if◌then◌else◌, nat_lt, List, [], ◌∷◌, ◌++◌, Option, Some, None}
 use Rattle.std.specs.List.{flat_map}
 use Rattle.mux_eep.specs.Sizes.{Profile}
 use Rattle.mux_config.specs.declared.edit.Edit.{Edit}

@@ -57,11 +57,7 @@ fn grow_service(edits: &mut Vec<Edit>, service: &Service, from: &Config) -> Resu
 }
 
 /// The edits that add sub-channels which the other configuration lacks or has with another profile.
-pub(crate) fn new_subs(
-    edits: &mut Vec<Edit>,
-    subs: &[Sub],
-    from: &Config,
-) -> Result<(), AllocError>
+pub(crate) fn new_subs(edits: &mut Vec<Edit>, subs: &[Sub], from: &Config) -> Result<(), AllocError>
     requires { AllByRecursion IsPlaced subs.now }
     ensures { OnOk result (edits.new.items ≡ edits.old.items
         ++ flat_map (λ t. sub_new (sub_at t.id from.now) t) subs.now) }

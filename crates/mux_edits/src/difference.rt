@@ -1,6 +1,6 @@
 //! The edits that lead from one configuration to another.
 
-ghost use Rattle.std.specs.Prelude.{◌≡◌, ◌++◌, OnOk, IfOk};
+ghost use Rattle.std.specs.Prelude.{◌≡◌, ◌≤◌, length, IfOk};
 ghost use Rattle.mux_edits.specs.Differences.{edits_between};
 ghost use Rattle.mux_edits.specs.Sequences.{Lead};
 
@@ -17,10 +17,11 @@ use std::alloc::{AllocError, Global};
 /// has another profile, and a packet component that has anything otherwise, goes and comes; of the components of a
 /// service those behind the longest common beginning do.
 ///
-/// None of them has a fault on the way, and they are none exactly where the two are the same.
+/// None of them has a fault on the way.
 pub fn edits_between(alloc: Global, from: &Config, to: &Config) -> Result<Vec<Edit>, AllocError>
     ensures value { IfOk result (λ v. v.items ≡ edits_between from.now to.now) }
     ensures leads { IfOk result (λ v. Lead v.items from.now to.now) }
+    ensures few { IfOk result (λ v. length v.items ≤ 2048) }
 {
     laws::leading();
     let mut edits = Vec::new(alloc);

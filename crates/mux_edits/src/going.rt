@@ -149,11 +149,7 @@ pub(crate) fn drop_packets(
 }
 
 /// The edits that take away the sub-channels that the other configuration lacks or has with another profile.
-pub(crate) fn drop_subs(
-    edits: &mut Vec<Edit>,
-    subs: &[Sub],
-    to: &Config,
-) -> Result<(), AllocError>
+pub(crate) fn drop_subs(edits: &mut Vec<Edit>, subs: &[Sub], to: &Config) -> Result<(), AllocError>
     ensures { OnOk result (edits.new.items ≡ edits.old.items
         ++ flat_map (λ s. sub_gone (sub_at s.id to.now) s) subs.now) }
 {

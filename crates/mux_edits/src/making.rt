@@ -1,8 +1,8 @@
 //! The edits that make a configuration of nothing.
 
-ghost use Rattle.std.specs.Prelude.{◌≡◌, ◌++◌, ◌∷◌, [], OnOk, IfOk};
+ghost use Rattle.std.specs.Prelude.{◌≡◌, ◌≤◌, ◌++◌, ◌∷◌, [], length, OnOk, IfOk};
 ghost use Rattle.std.specs.List.{flat_map, AllByRecursion};
-ghost use Rattle.mux_config.specs.Configuration.{IsPlaced, nothing};
+ghost use Rattle.mux_config.specs.Configuration.{IsConfiguration, IsPlaced, nothing};
 ghost use Rattle.mux_edits.specs.Making.{sub_added, components_added, service_added, packet_added, edits_that_make};
 ghost use Rattle.mux_edits.specs.Sequences.{Lead};
 
@@ -95,6 +95,8 @@ fn add_packets(edits: &mut Vec<Edit>, packets: &[Packet]) -> Result<(), AllocErr
 pub fn edits_that_make(alloc: Global, config: &Config) -> Result<Vec<Edit>, AllocError>
     ensures value { IfOk result (λ v. v.items ≡ edits_that_make config.now) }
     ensures leads { IfOk result (λ v. Lead v.items nothing config.now) }
+    ensures few { IfOk result (λ v. length v.items ≤ 960) }
+    ensures configuration { IsConfiguration config.now }
 {
     laws::leading();
     let mut edits = Vec::new(alloc);

@@ -66,11 +66,7 @@ fn alter_sub(edits: &mut Vec<Edit>, sub: &Sub, to: &Config) -> Result<(), AllocE
 }
 
 /// The edits that alter the sub-channels that stay.
-pub(crate) fn alter_subs(
-    edits: &mut Vec<Edit>,
-    subs: &[Sub],
-    to: &Config,
-) -> Result<(), AllocError>
+pub(crate) fn alter_subs(edits: &mut Vec<Edit>, subs: &[Sub], to: &Config) -> Result<(), AllocError>
     ensures { OnOk result (edits.new.items ≡ edits.old.items
         ++ flat_map (λ s. sub_altered (sub_at s.id to.now) s) subs.now) }
 {

@@ -1,4 +1,4 @@
-use Rattle.std.proofs.Common.{◌≡◌, ◌++◌, take, map}
+use Rattle.std.proofs.Common.{◌≡◌, ◌++◌, take}
 use Rattle.std.specs.List.{flat_map}
 use Rattle.mux_edits.specs.Making.{sub_added}
 use Rattle.mux_edits.proofs.making.add_subs.Given as goal
