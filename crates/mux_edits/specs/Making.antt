@@ -1,0 +1,30 @@
+-- The edits that make a configuration of nothing.
+use Rattle.std.specs.Prelude.{List, [], ◌∷◌, ◌++◌, map}
+use Rattle.std.specs.List.{flat_map}
+use Rattle.mux_config.specs.declared.edit.Edit.{Edit}
+use Rattle.mux_config.specs.declared.edit.Edit.TheVariants.{AddSub, AddService, AddComponent, AddPacket}
+use Rattle.mux_types.specs.declared.numbers.Sid.{Sid}
+use Rattle.mux_types.specs.declared.parts.Sub.{Sub}
+use Rattle.mux_types.specs.declared.parts.Service.{Service}
+use Rattle.mux_types.specs.declared.parts.Component.{Component}
+use Rattle.mux_types.specs.declared.parts.Packet.{Packet}
+use Rattle.mux_types.specs.Configuration.{Configuration}
+
+abbrev pub sub_added : Sub → List Edit
+sub_added s = AddSub s ∷ []
+
+-- components, at the end of a service
+abbrev pub components_added : Sid → List Component → List Edit
+components_added sid ms = map (AddComponent sid) ms
+
+-- a service, and then its components
+abbrev pub service_added : Service → List Edit
+service_added s = AddService s.sid ∷ components_added s.sid s.components
+
+abbrev pub packet_added : Packet → List Edit
+packet_added p = AddPacket p ∷ []
+
+-- the sub-channels, each service with its components, and the packet components, each set in its order
+abbrev pub edits_that_make : Configuration → List Edit
+edits_that_make c =
+    flat_map sub_added c.subs ++ (flat_map service_added c.services ++ flat_map packet_added c.packets)
