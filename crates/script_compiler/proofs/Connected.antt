@@ -29,7 +29,7 @@ pub connected_both : (came : Bool) (a b : List Place) → Connected came a → C
 connected_both came [] b h k = k
 connected_both came (p ∷ a) b h k = (h.0, connected_both (continues p.instr) a b h.1 k)
 
--- connected, and so is what comes spot_after
+-- connected, and so is what comes after
 pub record Chain (came : Bool) (ps : List Place) (w : Option Spot) : Type 0 where
   pub inner : Connected came ps
   pub exits : (u : Spot) → w ≡ Some u → Follows (ends came ps) u

@@ -25,7 +25,7 @@ use Rattle.script_compiler.proofs.Laid.{Whole, whole_of, laid_length, length_lin
 use Rattle.script_compiler.proofs.Refusing.{some_is, head_is, when_first, either_first, either_second, repeat_body, forever_body}
 use Rattle.script_compiler.proofs.Spaces.{marks_count, marks_named, space_from, space_after, space_one, space_as, space_left, covered_here, covered_fits, covers_block, err_each}
 
--- ---- one statement spot_after another
+-- ---- one statement after another
 
 pub can_then : (plan : Plan) (r : ℕ) (b c : Block) (v w : Work) → Left plan r b v w true c → CanLay plan r b v → CanLay plan r c w
 can_then plan r b c v w left can =

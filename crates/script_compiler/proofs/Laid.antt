@@ -50,7 +50,7 @@ lays_both a b c ps qs h k = record {
   saved = k.saved ∙ h.saved;
 }
 
--- ---- one step spot_after another
+-- ---- one step after another
 
 pub left_start : (plan : Plan) (r : ℕ) (b : Block) (w : Work) → Left plan r b w w true b
 left_start plan r b w = record {

@@ -112,13 +112,13 @@ meets_right v w t h e = subst (λ x. WaysAgree v x → Meeting (meet v x) t.flow
 abbrev pub known_with : Flow → Counters → ℕ → Known
 known_with t c a = record { current = t.current; next = t.next; pending = t.pending; counters = c; allowance = a }
 
--- the counters spot_after an instruction
+-- the counters after an instruction
 abbrev pub set_after : Instr → Counters → Counters
 set_after (Set counter times) c = with_counter counter c
 set_after (Loop counter target) c = without_counter counter c
 set_after _ c = c
 
--- how many counters are set spot_after an instruction
+-- how many counters are set after an instruction
 abbrev pub counted : Instr → ℕ → ℕ
 counted (Set counter times) r = counter + 1
 counted (Loop counter target) r = counter
@@ -208,7 +208,7 @@ module _ (plan : Plan) (code : List Place) where
       let g = ih s refl j st ex in
       (g.0, λ u e. let same : s ≡ u = some_same s u e in subst (λ x. Lands code pc q x) same g.1)
 
-  -- where an instruction stands spot_after a block, if that falls out
+  -- where an instruction stands after a block, if that falls out
   back_exit : (line : ℕ) (i : Instr) (q pc : ℕ) (more : Spot → List Place) (w : Option Spot) → Stand code pc (onward w [] (λ u. place_of_instr line i q u ∷ more u)) → Exit code pc q w
   back_exit line i q pc more None st u e = cc
   back_exit line i q pc more (Some s) st u e =
@@ -221,7 +221,7 @@ module _ (plan : Plan) (code : List Place) where
   head_labelled : (body : Block) (s u : Spot) → spot_after plan body (head body s) ≡ Some u → (head body s).labelled ≡ true
   head_labelled body s u e = ap (λ f. if f then true else s.labelled) (falls_from plan body (head body s) u e)
 
-  -- spot_after a first branch, the jump over the second
+  -- after a first branch, the jump over the second
   jump_holds_where : (line end r pc : ℕ) (w : Option Spot) → ((u : Spot) → w ≡ Some u → Holds plan code pc (place_of_instr line (Jump end) r u)) → AllHold plan code pc (onward w [] (alone line (Jump end) r))
   jump_holds_where line end r pc None h = tt
   jump_holds_where line end r pc (Some u) h = (h u refl, tt)

@@ -184,7 +184,7 @@ room_names w t ps table cover h =
     let room : HasRoomFor w.marks.table (p.spot.flow.current ∷ p.spot.flow.next ∷ more) = table.room (p.spot.flow.current ∷ p.spot.flow.next ∷ more) (subst (λ cs. HasRoomFor [] (named_by w.marks.items ++ cs)) e h.configurations) in
     room_fewer w.marks.table (t.current ∷ t.next ∷ []) (p.spot.flow.current ∷ p.spot.flow.next ∷ more) (λ c k. stands_more p.spot.flow.current p.spot.flow.next c more (cover.names c k)) room
 
--- the table spot_after a label
+-- the table after a label
 pub table_mark : (v w : Work) (one : List Configuration) (m : Mark) → Added m.flow.current v.marks.table one → Added m.flow.next one w.marks.table → w.marks.items ≡ v.marks.items ++ m ∷ [] → length w.marks.table ≤ 256 → HasTable v → HasTable w
 table_mark v w one m a b e few table = record {
   few = few;
@@ -215,7 +215,7 @@ space_back w falls m n i ps e h = subst (λ f. HasSpace w (onward (way f w) [] (
 pub space_end : (w : Work) (falls : Bool) (m n : ℕ) (i : Instr) → falls ≡ true → HasSpace w (onward (way falls w) [] (alone m i n)) → HasSpace w (place_of_instr m i n w.now ∷ [])
 space_end w falls m n i e h = subst (λ f. HasSpace w (onward (way f w) [] (alone m i n))) e h
 
--- spot_after the way out of a first branch
+-- after the way out of a first branch
 pub space_left : (v w : Work) (falls : Bool) (line r m n : ℕ) (i : Instr) (ps : List Place) → length w.lines.items ≡ length v.lines.items + length (lines_of_places (jumping falls line r v)) → w.marks.items ≡ v.marks.items ++ marks_of (length v.lines.items) (jumping falls line r v) → HasSpace v (onward (way falls v) [] (alone m i n) ++ ps) → HasSpace w ps
 space_left v w falls line r m n i ps lines marks h =
     space_from v w (length v.lines.items) (jumping falls line r v) ps (let k = length_lines (jumping falls line r v) in omega (arith, lines, k)) marks (space_onward v m line n r i (Jump 0) (way falls v) ps h)

@@ -21,7 +21,7 @@ abbrev pub names_of : List Place → List Configuration
 names_of [] = []
 names_of (p ∷ ps) = if p.spot.labelled then p.spot.flow.current ∷ p.spot.flow.next ∷ names_of ps else names_of ps
 
--- spot_after what has been laid down there is room for these places
+-- after what has been laid down there is room for these places
 pub record HasSpace (w : Work) (ps : List Place) : Type 0 where
   pub lines : length w.lines.items + length ps ≤ 4096
   pub labels : length w.marks.items + count_of_labels ps ≤ 1024

@@ -107,7 +107,7 @@ module _ (p : Program) where
 
   -- the code is that of these places
   module _ (whole : List Place) (there : (pc : ℕ) (q : Place) → slice_get whole pc ≡ Some q → instr_at p pc ≡ Some q.instr) (formed : (pc : ℕ) (q : Place) → slice_get whole pc ≡ Some q → IsInstr q.instr) where
-    -- what comes spot_after a block does what is left
+    -- what comes after a block does what is left
     abbrev pub Goes : ℕ → ℕ → ℕ → Option Spot → List ℕ → Block → Type 0
     Goes n pc r w cs k = (m : ℕ) → m ≤ n → (u : Spot) (ds : List ℕ) → w ≡ Some u → SameBelow r cs ds → Follows m pc ds k
 
@@ -128,7 +128,7 @@ module _ (p : Program) where
     go_at : (n a b r : ℕ) (w : Option Spot) (cs : List ℕ) (k : Block) → a ≡ b → Goes n a r w cs k → Goes n b r w cs k
     go_at n a b r w cs k e g = subst (λ x. Goes n x r w cs k) e g
 
-    -- where an instruction stands spot_after a block
+    -- where an instruction stands after a block
     pub there_after : (line : ℕ) (i : Instr) (q pc : ℕ) (more : Spot → List Place) (w : Option Spot) (u : Spot) → w ≡ Some u → Stand whole pc (onward w [] (λ v. place_of_instr line i q v ∷ more v)) →
         (slice_get whole pc ≡ Some (place_of_instr line i q u)) × Stand whole (pc + 1) (more u)
     there_after line i q pc more None u e st = cc

@@ -49,7 +49,7 @@ join_falls None w = refl
 join_falls (Some u) None = refl
 join_falls (Some u) (Some v) = refl
 
--- what is known spot_after a block exists where it falls out
+-- what is known after a block exists where it falls out
 pub after_falls : (plan : Plan) (b : Block) (s : Spot) → is_some (spot_after plan b s) ≡ falls_out b
 after_falls plan nothing s = refl
 after_falls plan (basic line act rest) s = after_falls plan rest (past (moved plan (instr_of_act act) s.flow))

@@ -105,7 +105,7 @@ instr_there p ps h pc q e =
     ap (λ (ls : List Line). option_map (λ (l : Line). l.instr) (slice_get ls pc)) h
     ∙ ap (λ o. option_map (λ (l : Line). l.instr) o) (slice_get-map (λ (x : Place). let l : Line = record { number = x.line; instr = x.instr } in l) ps pc ∙ ap (λ o. option_map (λ (x : Place). let l : Line = record { number = x.line; instr = x.instr } in l) o) e)
 
--- nothing spot_after a block
+-- nothing after a block
 then_nothing : (b : Block) → followed b nothing ≡ b
 then_nothing nothing = refl
 then_nothing (basic line act rest) = ap (λ x. basic line act x) (then_nothing rest)

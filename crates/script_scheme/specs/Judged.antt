@@ -1,4 +1,4 @@
--- The judgement of a block of statements: from what is known before it, it leads to what is known spot_after it.
+-- The judgement of a block of statements: from what is known before it, it leads to what is known after it.
 use Rattle.std.specs.Prelude.{Option, Some, None}
 use Rattle.plan_code.specs.declared.plan.Plan.{Plan}
 use Rattle.plan_verifier.specs.Typing.{IsFine, FitsSwap}
@@ -16,7 +16,7 @@ abbrev pub WaysAgree : Option Spot → Option Spot → Type 0
 WaysAgree (Some s) (Some t) = FitsFlow s.flow (merged s.flow t.flow) × FitsFlow t.flow (merged s.flow t.flow)
 WaysAgree _ _ = Unit {0}
 
--- spot_after two branches
+-- after two branches
 abbrev pub BranchesAgree : Option Spot → Option Spot → Type 0
 BranchesAgree first second = WaysAgree second first
 

@@ -23,7 +23,7 @@ known_at t = record { current = t.current; next = t.next; pending = t.pending; c
 abbrev pub flow_of : Known → Flow
 flow_of t = record { current = t.current; next = t.next; pending = t.pending }
 
--- spot_after an instruction
+-- after an instruction
 abbrev pub moved : Plan → Instr → Flow → Flow
 moved plan i t = flow_of (leaves plan i (known_at t))
 
@@ -63,7 +63,7 @@ meet None (Some t) = Some (at_label t.flow)
 meet (Some s) None = Some (at_label s.flow)
 meet (Some s) (Some t) = Some (at_label (merged s.flow t.flow))
 
--- spot_after two branches: where the first doesn't fall out, the second continues and no label stands there
+-- after two branches: where the first doesn't fall out, the second continues and no label stands there
 abbrev pub join : Option Spot → Option Spot → Option Spot
 join None second = second
 join (Some s) second = meet second (Some s)
