@@ -43,6 +43,7 @@ def listings(rows):
         (("05 00 E1 C5 00 00 04 01 04 00 88 FF",), "fibs 1 damaged 1\ncurrent\nnext\nno swap\n"),
     ):
         rows.answers("listen x.fib", 0, wanted, {"x.fib": stream(*data)})
+        rows.answers("listen -", 0, wanted, stdin=stream(*data))
 
 
 def damaged_fibs(rows):
@@ -106,8 +107,40 @@ def refused_files(rows):
     whole = sixty_five(False)
     for part in (whole[:65], whole[:-1]):
         rows.answers("listen x.fib", 1, "refused: not whole FIBs\n", {"x.fib": part})
+        rows.answers("listen -", 1, "refused: not whole FIBs\n", stdin=part)
     rows.answers("listen x.fib", 1, "cannot read x.fib\n")
 
 
+def pieces(rows):
+    """Streams that end before, at and after the end of a piece of 8,192 FIBs, and what is full or not whole behind that."""
+    first, second = fib("05 00 E1 C5 00 00 05 01 04 00 88 60 FF"), fib("05 01 04 00 88 48 FF")
+    for count in (8191, 8192, 8193, 16384, 16385):
+        data = first + second * (count - 2) + first
+        wanted = f"fibs {count} damaged 0\ncurrent\nsub 1 at 0 size 96 eep 3-A\nnext\nno swap\n"
+        rows.answers("listen x.fib", 0, wanted, {"x.fib": data})
+        rows.answers("listen x.fib", 1, "refused: not whole FIBs\n", {"x.fib": data + b"\0"})
+        rows.answers("listen x.fib", 1, "refused: Full\n", {"x.fib": data + sixty_five(False)})
+        rows.answers("listen x.fib", 1, "refused: not whole FIBs\n", {"x.fib": sixty_five(False) + data + b"\0"})
+
+
+def forgotten_fibs(rows):
+    """A FIB that told nothing new tells something again once another one, or a swap, has changed what it is about."""
+    at_96, at_128 = "05 01 04 00 88 48 FF", "05 01 04 00 88 60 FF"
+    tuned, next_at_96 = "05 00 E1 C5 00 00 FF", "05 81 04 00 88 48 FF"
+    announced, swapped = "06 00 E1 C5 40 04 1C FF", "05 00 E1 C5 00 1C FF"
+    current_96, current_128 = ("sub 1 at 0 size 72 eep 3-A\n", "sub 1 at 0 size 96 eep 3-A\n")
+    for data, current, following, swap in (
+        ((tuned, at_96, at_96, at_96, at_128, at_96), current_96, "", "no swap"),
+        ((tuned, at_96, at_96, at_96, at_128, at_128, at_96, at_96, at_128), current_128, "", "no swap"),
+        ((at_96, at_96, tuned, at_96), current_96, "", "no swap"),
+        ((tuned, at_128, at_128, announced, next_at_96, next_at_96, at_128), current_128, current_96, "swap at low 28"),
+        ((tuned, at_128, at_128, announced, next_at_96, next_at_96, at_128, swapped, at_128), current_128, "", "no swap"),
+        ((tuned, at_128, at_128, announced, next_at_96, next_at_96, swapped, announced, next_at_96), current_96, current_96,
+         "swap at low 28"),
+    ):
+        wanted = f"fibs {len(data)} damaged 0\ncurrent\n{current}next\n{following}{swap}\n"
+        rows.answers("listen x.fib", 0, wanted, {"x.fib": stream(*data)})
+
+
 if __name__ == "__main__":
-    rows.main([listings, damaged_fibs, all_forms, a_reconfiguration, full_pictures, refused_files])
+    rows.main([listings, damaged_fibs, all_forms, a_reconfiguration, full_pictures, pieces, forgotten_fibs, refused_files])

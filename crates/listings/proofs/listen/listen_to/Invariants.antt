@@ -1,15 +1,17 @@
-use Rattle.std.proofs.Common.{ℕ, ◌≤◌, drop, Result}
-use Rattle.fib_reader.specs.Listening.{untuned}
-use Rattle.listings.specs.declared.listen.StreamFault.{StreamFault}
+-- What was heard of the pieces so far is what is heard of a stream of their bytes.
+use Rattle.std.proofs.Common.{◌≡◌, ℕ, ◌*◌, ◌%◌, ◌≤◌, Bool, List, length, Option}
+use Rattle.std.specs.Io.KnownBytes.{Consumes}
 use Rattle.listings.specs.declared.listen.Heard.{Heard}
-use Rattle.listings.specs.Stream.{HearsTheStream}
+use Rattle.listings.specs.Stream.{HearsTheStream, fibs_of_stream, unheard, ended}
 use Rattle.listings.proofs.listen.listen_to.Given as goal
 
--- what is heard from here on is what is heard from the start
-pub record GoesOn (goes : Result Heard StreamFault → Type 0) (whole : Result Heard StreamFault → Type 0) (damaged heard : ℕ) : Type 0 where
-  pub on : (given : Result Heard StreamFault) → goes given → whole given
-  pub few : damaged ≤ heard
+pub record HeardSoFar (before left : Option (List ℕ)) (has_room : Bool) (heard : Heard) (pieces : ℕ) : Type 0 where
+  pub stream : List ℕ
+  pub consumed : Consumes before left stream
+  pub whole : length stream % 32 ≡ 0
+  pub hears : HearsTheStream (fibs_of_stream stream) unheard (ended has_room heard)
+  pub few : heard.fibs ≤ 8192 * pieces
+  pub damaged : heard.damaged ≤ heard.fibs
 
-abbrev pub invariant-loop-fib : goal.invariant-loop-fib
-invariant-loop-fib l =
-    GoesOn (HearsTheStream (drop l.fib-index l.fibs) l.damaged l.listener) (HearsTheStream l.fibs 0 untuned) l.damaged l.fib-index
+abbrev pub invariant-loop : goal.invariant-loop
+invariant-loop g l = HeardSoFar l.initial.pieces.left l.pieces.left l.has_room l.heard l.counter
