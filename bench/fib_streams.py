@@ -1,7 +1,9 @@
 #!/usr/bin/env python3
 """Makes streams of FIBs for bench/listen_speed.sh: the pages of one configuration in transmission mode I, one after
-another, with FIG 0/0 in each fourth frame (EN 300 401 clauses 5.2, 6.2.1, 6.3.1, 6.3.2 and 6.4).
-    fib_streams.py full|sixteen|scattered FIBS FILE
+another, with FIG 0/0 in each fourth frame (EN 300 401 clauses 5.2, 6.2.1, 6.3.1, 6.3.2 and 6.4). In `swaps` two
+configurations take turns: every 300 frames there is a swap, and in the 48 frames before it the pages of the current
+and of the next configuration go out by turns, under change flags (clause 6.5).
+    fib_streams.py full|sixteen|scattered|swaps FIBS FILE
 """
 import binascii
 import sys
@@ -11,9 +13,9 @@ def word(number):
     return number.to_bytes(2, "big")
 
 
-def sub_channel(id):
-    """Of 3-A, 8 kbit/s, six capacity units."""
-    return word(id << 10 | id * 6) + word(0x8800 | 6)
+def sub_channel(id, size=6):
+    """Of 3-A, 8 kbit/s, six capacity units; or of more."""
+    return word(id << 10 | id * size) + word(0x8800 | size)
 
 
 def audio_service(sid, sub):
@@ -35,8 +37,8 @@ def configuration(kind):
         services = [audio_service(0xC000 + n, n) for n in range(32)]
         services += [packet_service(0xE000 + n * 7, n) for n in range(32)]
         packets = [packet_component(scid) for scid in range(64)]
-    elif kind == "sixteen":
-        subs = [sub_channel(id) for id in range(30)]
+    elif kind in ("sixteen", "wide"):
+        subs = [sub_channel(id, 6 if kind == "sixteen" else 12) for id in range(30)]
         services = [audio_service(0xC001 + n * 16, n) for n in range(30)]
         packets = []
     elif kind == "scattered":
@@ -73,21 +75,52 @@ def fib(data):
     return data + word(binascii.crc_hqx(data, 0xFFFF) ^ 0xFFFF)
 
 
+def frame_of(page, count, ensemble):
+    """A frame of three FIBs, with FIG 0/0 in front where the count is a multiple of four."""
+    first = ensemble + page[0] if count % 4 == 0 else page[0]
+    return b"".join(fib(data) for data in (first, *page[1:]))
+
+
+def announced_next(page):
+    """The same FIGs with C/N 1."""
+    marked = []
+    for data in page:
+        data, at = bytearray(data), 0
+        while at < len(data):
+            data[at + 1] |= 0x80
+            at += 1 + data[at] % 32
+        marked.append(bytes(data))
+    return marked
+
+
+def plain_frames(kind, frames):
+    """The pages of one configuration."""
+    pages = pages_of(configuration(kind))
+    for frame in range(frames):
+        count = frame % 5000
+        yield frame_of(pages[frame % len(pages)], count, bytes([5, 0, 0xE1, 0xC5, count // 250, count % 250]))
+
+
+def swapping_frames(frames):
+    """Two configurations by turns, with a swap every 300 frames."""
+    both = [pages_of(configuration(kind)) for kind in ("sixteen", "wide")]
+    for frame in range(frames):
+        count, turn, place = frame % 5000, frame // 300, frame % 300
+        current, following = both[turn % 2], [announced_next(page) for page in both[(turn + 1) % 2]]
+        low = (frame - place + 300) % 5000 % 250
+        announced = place >= 252
+        head = bytes([6, 0, 0xE1, 0xC5, 0xC0 | count // 250, count % 250, low]) if announced else \
+            bytes([5, 0, 0xE1, 0xC5, count // 250, count % 250])
+        pages = following if announced and frame % 2 else current
+        yield frame_of(pages[frame // (2 if announced else 1) % len(pages)], count, head)
+
+
 def main():
     kind, fibs, file = sys.argv[1], int(sys.argv[2]), sys.argv[3]
-    pages = pages_of(configuration(kind))
-    plain = [b"".join(fib(data) for data in page) for page in pages]
-    frames = []
-    for frame in range((fibs + 2) // 3):
-        page = frame % len(pages)
-        count = frame % 5000
-        if count % 4:
-            frames.append(plain[page])
-        else:
-            ensemble = bytes([5, 0, 0xE1, 0xC5, count // 250, count % 250])
-            frames.append(fib(ensemble + pages[page][0]) + plain[page][32:])
+    frames = (fibs + 2) // 3
+    made = swapping_frames(frames) if kind == "swaps" else plain_frames(kind, frames)
     with open(file, "wb") as out:
-        out.write(b"".join(frames)[: fibs * 32])
+        out.write(b"".join(made)[: fibs * 32])
 
 
 main()

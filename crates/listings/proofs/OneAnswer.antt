@@ -1,5 +1,5 @@
 -- A stream has one answer at most.
-use Rattle.std.proofs.Common.{◌≡◌, ℕ, ◌+◌, ◌<◌, List, [], ◌∷◌, Result, Ok, Err, Some, None, inl, inr, refl, sym, ap, ◌∙◌, subst, arith}
+use Rattle.std.proofs.Common.{◌≡◌, ℕ, ◌<◌, List, [], ◌∷◌, Result, Ok, Err, Some, None, inl, inr, refl, sym, ap, ◌∙◌, subst, arith}
 use Rattle.fib_codec.specs.Grammar.{Fig, OneList}
 use Rattle.fib_reader.specs.Laws.{FaultOrFigs}
 use Rattle.fib_reader.specs.Listening.{Listening, hear_figs}

@@ -14,6 +14,11 @@ use std::alloc::Global;
 use std::io::{self, Write};
 use thiserror::Error;
 
+/// The most bytes of a configuration record: the three numbers, 64 sub-channels and 64 packet components of 7 bytes each, and
+/// 64 services of 4 bytes with 12 components of 3 bytes each. Of a longer file one more byte is read, which stands after
+/// the record if it has one.
+const MOST_BYTES: usize = 3 + 64 * 7 + 64 * (4 + 12 * 3) + 64 * 7;
+
 /// Why the bytes of a record give no frame, in the order in which [`frame_of`] tests.
 #[derive(Clone, Copy, Debug, PartialEq, Eq, Error)]
 pub enum FrameFault {
@@ -38,7 +43,7 @@ pub fn show_frame<'a, F: Files, W: Write>(
     files: &mut F,
     out: &mut W,
 ) -> Result<Status, Failure<'a>> {
-    let record = read_input(alloc, files, request.config, usize::MAX)?;
+    let record = read_input(alloc, files, request.config, MOST_BYTES + 1)?;
     match frame_of(
         record.as_slice(),
         request.mode,

@@ -1,8 +1,8 @@
-use Rattle.std.proofs.Common.{◌≡◌, ◌+◌, ◌*◌, ◌/◌, ◌%◌, ◌<◌, ◌≤◌, ◌++◌, ◌∙◌, Bool, true, false, List, ℕ, length, rules, arith, refl, sym, ap, subst}
+use Rattle.std.proofs.Common.{◌≡◌, ◌%◌, ◌<◌, ◌≤◌, ◌++◌, ◌∙◌, length, arith, ap}
 use Rattle.std.proofs.lemmas.Grind.{common_steps}
 use Rattle.std.proofs.lemmas.List.{length-append}
 use Rattle.std.proofs.KnownBytes.{Consumes-trans}
-use Rattle.listings.specs.Stream.{HearsTheStream, fibs_of_stream, unheard, ended}
+use Rattle.listings.specs.Stream.{fibs_of_stream, unheard}
 use Rattle.listings.proofs.Hearing.{ends, piece_ends, piece_has_ended}
 use Rattle.listings.proofs.listen.listen_to.Goals as goal
 use Rattle.listings.proofs.listen.listen_to.Goals.{then-has_room, else-has_room}
