@@ -2,6 +2,8 @@
 
 mod codes;
 mod contacts;
+mod faults;
+mod laws;
 mod listening;
 mod modes;
 mod pages;
