@@ -6,6 +6,7 @@ mod files;
 mod full;
 mod kinds;
 mod largest;
+mod largest_file;
 mod lines;
 mod modes;
 mod seen;

@@ -3,6 +3,8 @@
 mod codes;
 mod commits;
 mod contacts;
+mod faults;
+mod laws;
 mod listening;
 mod modes;
 mod pages;
