@@ -5,8 +5,8 @@ ghost use Rattle.plan_player.specs.Positions.{TypedCodeGoesOn};
 
 pub use plan_listeners::laws::listener;
 pub use plan_runs::laws::{
-    bursts, contacts, frames, headline, notices, pages_in_turn, periods, reached, runs,
-    typed_code_runs,
+    bursts, contacts, frames, headers, headline, heard, notices, pages_in_turn, periods, reached,
+    runs, swaps, typed_code_runs, waits,
 };
 
 /// The law of continuing: in every state that a typed code comes to, the instructions of the next frame can be run
