@@ -76,7 +76,7 @@ pub fn show_compile<'a, F: Files, W: Write>(
     files: &mut F,
     out: &mut W,
 ) -> Result<Status, Failure<'a>> {
-    let bytes = read_file(alloc, files, request.script)?;
+    let bytes = read_file(alloc, files, request.script, usize::MAX)?;
     let text = text_of(bytes.as_slice(), request.script)?;
     let compiled = match compile_text(alloc, text) {
         Ok(compiled) => compiled,

@@ -47,8 +47,8 @@ pub fn show_debug<'a, F: Files, W: Write>(
     files: &mut F,
     out: &mut W,
 ) -> Result<Status, Failure<'a>> {
-    let code = read_file(alloc, files, request.code)?;
-    let text = read_file(alloc, files, request.commands)?;
+    let code = read_file(alloc, files, request.code, usize::MAX)?;
+    let text = read_file(alloc, files, request.commands, usize::MAX)?;
     let commands = text_of(text.as_slice(), request.commands)?;
     match debug(alloc, code.as_slice(), commands, request.start, out) {
         Ok(()) => Ok(Status::Done),

@@ -21,8 +21,8 @@ pub fn show_play<'a, F: Files, W: Write>(
     files: &mut F,
     out: &mut W,
 ) -> Result<Status, Failure<'a>> {
-    let code = read_file(alloc, files, request.code)?;
-    let text = read_file(alloc, files, request.events)?;
+    let code = read_file(alloc, files, request.code, usize::MAX)?;
+    let text = read_file(alloc, files, request.events, usize::MAX)?;
     let events = text_of(text.as_slice(), request.events)?;
     let file = create_file(files, request.out)?;
     let (ended, _file) = run_into(

@@ -14,7 +14,7 @@ pub fn show_verdict<'a, F: Files, W: Write>(
     files: &mut F,
     out: &mut W,
 ) -> Result<Status, Failure<'a>> {
-    let file = read_file(alloc, files, path)?;
+    let file = read_file(alloc, files, path, usize::MAX)?;
     match typed_code(alloc, file.as_slice()) {
         Ok(_verified) => {
             writeln!(out, "accepted")?;

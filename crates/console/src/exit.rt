@@ -1,6 +1,10 @@
 //! How a command ends.
 
+ghost use Rattle.std.specs.Prelude.{◌≡◌, ◌≢◌, [], take, codes, IfOk, IfSome};
+ghost use Rattle.std.specs.Io.KnownBytes.{Keeps};
+
 use crate::files::{FileFault, Files};
+use crate::pieces::{Pieces, read_within};
 use std::alloc::Global;
 use std::io;
 use thiserror::Error;
@@ -57,15 +61,69 @@ impl From<io::Error> for Failure<'_> {
     }
 }
 
-/// All bytes of the file of this path, or why the command ends without them.
+/// The file of this path, or standard input where the path is `-`, to be read; or why the command ends without it.
+pub fn open_input<'a, F: Files>(files: &mut F, path: &'a str) -> Result<F::In, Failure<'a>>
+    ensures input { path.now ≡ codes "-" → IfOk result (λ source.
+        Keeps (F.known_input files.old) (F.In.remaining source)) }
+    ensures file { path.now ≢ codes "-" → IfOk result (λ source.
+        Keeps (F.known files.old path.now) (F.In.remaining source)) }
+{
+    let source = if path == "-" {
+        files.input()
+    } else {
+        files.open(path)
+    };
+    source.map_err(|fault| Failure::of_file(fault, path))
+}
+
+/// The pieces of the file of this path, or of standard input where the path is `-`; or why the command ends without them.
+pub fn pieces_of<'a, F: Files>(
+    alloc: Global,
+    files: &mut F,
+    path: &'a str,
+) -> Result<Pieces<F::In>, Failure<'a>>
+    ensures input { path.now ≡ codes "-" → IfOk result (λ pieces.
+        Keeps (F.known_input files.old) pieces.left) }
+    ensures file { path.now ≢ codes "-" → IfOk result (λ pieces.
+        Keeps (F.known files.old path.now) pieces.left) }
+    ensures first { IfOk result (λ pieces. pieces.piece ≡ []) }
+{
+    let source = open_input(files, path)?;
+    Pieces::new(alloc, source).map_err(|_| Failure::Memory)
+}
+
+/// The bytes of the file of this path as far as `most` of them, or why the command ends without them.
+///
+/// Where `most` is one more than a file of its kind may have, a longer file is known to be longer, and the rest of it is
+/// not read.
 pub fn read_file<'a, F: Files>(
     alloc: Global,
     files: &mut F,
     path: &'a str,
-) -> Result<Vec<u8>, Failure<'a>> {
-    files
-        .read(alloc, path)
-        .map_err(|fault| Failure::of_file(fault, path))
+    most: usize,
+) -> Result<Vec<u8>, Failure<'a>>
+    ensures { IfOk result (λ read. IfSome (F.known files.old path.now)
+        (λ bytes. read.items ≡ take most bytes)) }
+{
+    let file = files.open(path);
+    let file = file.map_err(|fault| Failure::of_file(fault, path))?;
+    read_within(alloc, file, most).map_err(|fault| Failure::of_file(fault, path))
+}
+
+/// The same of standard input where the path is `-`, as far as `most` of the bytes that it has left.
+pub fn read_input<'a, F: Files>(
+    alloc: Global,
+    files: &mut F,
+    path: &'a str,
+    most: usize,
+) -> Result<Vec<u8>, Failure<'a>>
+    ensures input { path.now ≡ codes "-" → IfOk result (λ read.
+        IfSome (F.known_input files.old) (λ bytes. read.items ≡ take most bytes)) }
+    ensures file { path.now ≢ codes "-" → IfOk result (λ read.
+        IfSome (F.known files.old path.now) (λ bytes. read.items ≡ take most bytes)) }
+{
+    let source = open_input(files, path)?;
+    read_within(alloc, source, most).map_err(|fault| Failure::of_file(fault, path))
 }
 
 /// The file of this path, empty, to be written, or why the command ends without it.

@@ -1,6 +1,7 @@
 //! The files that the program reads and writes.
 
-use std::alloc::Global;
+ghost use Rattle.std.specs.Prelude.{◌≡◌};
+
 use std::io::{self, ErrorKind, Input, Read, Write};
 use std::rt;
 
@@ -15,16 +16,32 @@ pub enum FileFault {
 
 /// Where the program's files come from.
 pub trait Files {
+    ghost use Rattle.std.specs.Prelude.{List, Option, None, ℕ, IfOk};
+    ghost use Rattle.std.specs.Io.KnownBytes.{Keeps};
+
+    /// The bytes of the file of a path, where they are known.
+    ghost known: { Self → List ℕ → Option (List ℕ) } = { λ _ _. None };
+
+    /// The bytes of standard input, where they are known.
+    ghost known_input: { Self → Option (List ℕ) } = { λ _. None };
+
+    /// A file that is read, or standard input: what is left of its bytes.
+    type In: Read + Drop;
+
     /// A file that is written.
     type Out: Write + Drop;
 
-    /// All bytes of the file of this path.
-    fn read(&mut self, alloc: Global, path: &str) -> Result<Vec<u8>, FileFault>;
+    /// The file of this path, to be read from its first byte on; `Failed` where the system refuses it.
+    fn open(&mut self, path: &str) -> Result<Self::In, FileFault>
+        ensures bytes { IfOk result (λ file. Keeps (known self.old path.now)
+            (Self.In.remaining file)) };
 
-    /// All bytes of standard input, to its end.
-    fn input(&mut self, alloc: Global) -> Result<Vec<u8>, FileFault>;
+    /// Standard input, to be read from where it stands; `Failed` where the system refuses it.
+    fn input(&mut self) -> Result<Self::In, FileFault>
+        ensures bytes { IfOk result (λ file. Keeps (known_input self.old)
+            (Self.In.remaining file)) };
 
-    /// The file of this path, empty, to be written; what it held before is gone.
+    /// The file of this path, empty, to be written; what it held before is gone. `Failed` where the system refuses it.
     fn create(&mut self, path: &str) -> Result<Self::Out, FileFault>;
 }
 
@@ -41,22 +58,42 @@ impl<'a, R> System<'a, R> {
     }
 }
 
-impl<'a, R: rt::Files + Input + AllocGlobal> Files for System<'a, R> {
+/// A file of the system, or its standard input.
+#[derive(Drop)]
+pub enum Source<F, I> {
+    /// A file.
+    File(F),
+    /// Standard input.
+    Input(I),
+}
+
+impl<F: Read, I: Read> Read for Source<F, I> {
+    ghost use Rattle.console.specs.Reading.{left_of_source};
+
+    ghost remaining = { left_of_source F.remaining I.remaining };
+
+    fn read(&mut self, buffer: &mut [u8]) -> io::Result<usize> {
+        match self {
+            Source::File(file) => file.read(buffer),
+            Source::Input(input) => input.read(buffer),
+        }
+    }
+}
+
+impl<'a, R: rt::Files + Input> Files for System<'a, R> {
+    type In = Source<R::File, R::Reader>;
+
     type Out = R::File;
 
-    fn read(&mut self, _alloc: Global, path: &str) -> Result<Vec<u8>, FileFault> {
-        match std::fs::read(self.rt, path) {
-            Ok(bytes) => Ok(bytes),
+    fn open(&mut self, path: &str) -> Result<Self::In, FileFault> {
+        match std::fs::open(self.rt, path) {
+            Ok(file) => Ok(Source::File(file)),
             Err(error) => Err(fault_of(&error)),
         }
     }
 
-    fn input(&mut self, alloc: Global) -> Result<Vec<u8>, FileFault> {
-        let mut bytes = Vec::new(alloc);
-        match self.rt.reader().read_to_end(&mut bytes) {
-            Ok(_) => Ok(bytes),
-            Err(error) => Err(fault_of(&error)),
-        }
+    fn input(&mut self) -> Result<Self::In, FileFault> {
+        Ok(Source::Input(self.rt.reader()))
     }
 
     fn create(&mut self, path: &str) -> Result<Self::Out, FileFault> {
@@ -67,7 +104,8 @@ impl<'a, R: rt::Files + Input + AllocGlobal> Files for System<'a, R> {
     }
 }
 
-fn fault_of(error: &io::Error) -> FileFault {
+/// What an error of the system says of a file.
+pub(crate) fn fault_of(error: &io::Error) -> FileFault {
     match error.kind() {
         ErrorKind::OutOfMemory => FileFault::Memory,
         _ => FileFault::Failed,

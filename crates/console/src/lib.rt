@@ -5,4 +5,6 @@
 pub mod exit;
 pub mod files;
 pub mod hexadecimal;
+pub mod known;
 pub mod output;
+pub mod pieces;

@@ -4,7 +4,7 @@ ghost use Rattle.std.specs.Prelude.{◌≡◌};
 ghost use Rattle.listings.specs.Frame.{frame_of, page_or_fault, sent};
 
 use command_line::FrameRequest;
-use console::exit::{Failure, Status};
+use console::exit::{Failure, Status, read_input};
 use console::files::Files;
 use console::hexadecimal::digits_of_fib;
 use fib_carousel::{page, pages};
@@ -38,12 +38,7 @@ pub fn show_frame<'a, F: Files, W: Write>(
     files: &mut F,
     out: &mut W,
 ) -> Result<Status, Failure<'a>> {
-    let record = if request.config == "-" {
-        files.input(alloc)
-    } else {
-        files.read(alloc, request.config)
-    };
-    let record = record.map_err(|fault| Failure::of_file(fault, request.config))?;
+    let record = read_input(alloc, files, request.config, usize::MAX)?;
     match frame_of(
         record.as_slice(),
         request.mode,

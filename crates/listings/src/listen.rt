@@ -37,7 +37,7 @@ pub fn show_heard<'a, F: Files, W: Write>(
     files: &mut F,
     out: &mut W,
 ) -> Result<Status, Failure<'a>> {
-    let stream = read_file(alloc, files, path)?;
+    let stream = read_file(alloc, files, path, usize::MAX)?;
     match listen_to(stream.as_slice()) {
         Ok(heard) => {
             print_heard(stream.len() / 32, &heard, out)?;

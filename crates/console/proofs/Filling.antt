@@ -1,0 +1,30 @@
+-- A buffer that is filled from the front: what was read into its rest stands behind what was there.
+use Rattle.std.proofs.Common.{◌≡◌, ℕ, ◌+◌, ◌-◌, ◌≤◌, List, ◌++◌, Option, arith, length, take, slice_range, sym, ap, ◌∙◌, subst, le_refl, drop_at, length-take-le}
+use Rattle.std.proofs.lemmas.Slice.{take-put_mid_below}
+use Rattle.std.specs.Io.KnownBytes.{Consumes, Keeps}
+use Rattle.std.proofs.KnownBytes.{Consumes-trans, Consumes-kept}
+use borrow.Rule.Slice.PartMut.{put_mid, post_of}
+use lib.Seq.{take-add, take-append-le}
+
+take_split : (a b : ℕ) (old new : List ℕ) → a ≤ b → take a new ≡ take a old → take a old ++ slice_range new a b ≡ take b new
+take_split a b old new h front =
+    let same : a + (b - a) ≡ b = omega arith in
+    ap (λ l. l ++ slice_range new a b) (sym front) ∙ sym (take-add a (b - a) new) ∙ ap (λ n. take n new) same
+
+slice_range-put_mid : (a k n : ℕ) (xs ys : List ℕ) → a ≤ length xs → n ≤ length ys → slice_range (put_mid a k xs ys) a (a + n) ≡ take n ys
+slice_range-put_mid a k n xs ys within fits =
+    let same : (a + n) - a ≡ n = omega arith in
+    let after = post_of a k xs in
+    ap (take ((a + n) - a)) (drop_at (take a xs) (ys ++ after) a (length-take-le a xs within)) ∙ ap (λ m. take m (ys ++ after)) same ∙ take-append-le n ys after fits
+
+-- some bytes more
+pub filled_more : (a b c : Option (List ℕ)) (at room n : ℕ) (buffer part : List ℕ) → at ≤ length buffer → n ≤ length part → Consumes a b (take at buffer) → Consumes b c (take n part) → Consumes a c (take (at + n) (put_mid at room buffer part))
+filled_more a b c at room n buffer part within fits before read =
+    let some = slice_range-put_mid at room n buffer part within fits in
+    let joined = take_split at (at + n) buffer (put_mid at room buffer part) (omega arith) (take-put_mid_below _ _ _ _ _ (le_refl _) within) in
+    subst (Consumes a c) (ap (λ l. take at buffer ++ l) (sym some) ∙ joined) (Consumes-trans a b c _ _ before read)
+
+-- none, at an error
+pub filled_as_before : (a b c : Option (List ℕ)) (at room : ℕ) (buffer part : List ℕ) → at ≤ length buffer → Consumes a b (take at buffer) → Keeps b c → Consumes a c (take at (put_mid at room buffer part))
+filled_as_before a b c at room buffer part within before kept =
+    subst (Consumes a c) (sym (take-put_mid_below _ _ _ _ _ (le_refl _) within)) (Consumes-kept a b c _ before kept)
