@@ -90,7 +90,7 @@ impl<'a> RawEntry<'a> {
     }
 
     /// The ensemble information that an entry of FIG 0/0 says (EN 300 401 clause 6.4).
-    pub(crate) fn ensemble(&self) -> Ensemble
+    pub fn ensemble(&self) -> Ensemble
         requires { self.now.ext ≡ 0 }
         ensures { result ≡ ensemble_in self.now }
     {

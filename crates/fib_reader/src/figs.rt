@@ -154,7 +154,7 @@ impl<'a> Figs<'a> {
     }
 
     /// The same FIGs, to be gone through once more.
-    pub(crate) fn again(&self) -> Figs<'a>
+    pub fn again(&self) -> Figs<'a>
         ensures { result ≡ self.now }
     {
         Figs { rest: self.rest }

@@ -23,4 +23,5 @@ pub use entries::{Entries, RawEntry};
 pub use fault::{FibFault, ListenFault};
 pub use figs::{Fig, Figs};
 pub use listener::Listener;
+pub use owned_entry::OwnedEntry;
 pub use picture::{Picture, PictureEntries};

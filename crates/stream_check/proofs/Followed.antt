@@ -1,0 +1,310 @@
+-- What the check of a stream knows and has told, a FIB further.
+use Rattle.std.proofs.Common.{◌≡◌, ◌≢◌, ℕ, zero, suc, ◌+◌, ◌<◌, ◌≤◌, ◌&&◌, ◌||◌, nat_lt, lt-ltb, Bool, true, false, cond, not, List, [], ◌∷◌, ◌++◌, length, map, flat_map, Option, Some, None, refl, sym, ap, ◌∙◌, arith, inl, inr, ◌⊎◌, subst}
+use Rattle.std.specs.List.{AllByRecursion}
+use Rattle.std.proofs.lemmas.Bool.{false≢true, cases_lt}
+use Rattle.std.proofs.lemmas.List.{append_assoc, append-nil, length-append, length-map, map-append}
+use Rattle.std.proofs.lemmas.List.Concat.{flat_map-append}
+use Rattle.fib_codec.specs.Modes.{fib_count, count_step}
+use Rattle.fib_codec.specs.declared.modes.Mode.{Mode}
+use Rattle.fib_codec.specs.declared.modes.Mode.TheVariants.{I, II, III, IV}
+use Rattle.stream_check.specs.declared.finding.Finding.{Finding}
+use Rattle.stream_check.specs.declared.memory.Memory.{Memory}
+use Rattle.stream_check.specs.Telling.{with_more}
+use Rattle.stream_check.specs.Frames.{Fib, Reading, first_in, opening, is_there, begins_with_ensemble, holds_ensemble, IsOneFrame, AreFrames, HoldsFirst, IsFramed, damaged_in}
+use Rattle.stream_check.specs.History.{Item, Moment, Said, said, frame_items, frames_ended}
+use Rattle.stream_check.specs.Stream.{runs_full, findings_in, after_frame, findings_of, after_frames, frames_full}
+use Rattle.stream_check.specs.Memory.{Knows}
+use Rattle.stream_check.specs.Hearing.{IsFrameHeard, HearsFrame}
+use Rattle.mux_entries.specs.Entries.{EnsembleInformation}
+use Rattle.stream_check.specs.declared.checker.Summary.{Summary}
+use Rattle.stream_check.specs.Following.{Checking, Follows, EndsFull, IsSummary, has_begun, is_empty}
+use Rattle.stream_check.proofs.Chain.{more_twice, more_none}
+use Rattle.stream_check.proofs.Framing.{flat, one_more, held_of, skips_more, goes_on, still_first, now_first, after_more, full_more, findings_more, damaged_append}
+
+-- ---- how many frames there were
+
+said_frames : (is : List Item) (past : List Moment) → frames_ended (said is past) ≡ frames_ended past
+said_frames [] past = refl
+said_frames (i ∷ is) past = said_frames is (Said i ∷ past)
+
+ended_frames : (step : ℕ) (frames : List (List Fib)) (past : List Moment) → frames_ended (after_frames step past frames) ≡ frames_ended past + length frames
+ended_frames step [] past = omega arith
+ended_frames step (f ∷ fs) past =
+    let rest = ended_frames step fs (after_frame step past f) in
+    let one = said_frames (frame_items f) past in
+    omega (arith, rest, one)
+
+pub frame_count : (step period : ℕ) (frames : List (List Fib)) (m : Memory) → Knows step period (after_frames step [] frames) m → m.frames ≡ length frames
+frame_count step period frames m k = let all = ended_frames step frames [] in omega (arith, all, k.frames)
+
+no_frames : (frames : List (List Fib)) → 0 ≡ length frames → frames ≡ []
+no_frames [] e = refl
+no_frames (f ∷ fs) e = absurd (omega (arith, e))
+
+-- ---- a FIB that is skipped
+
+pub follows_skip : (r : Reading) (mode : Mode) (period : ℕ) (stream : List Fib) (start told : Option (List Finding)) (c : Checking) (fib : List ℕ) → c.memory.frames ≡ 0 → c.held ≡ [] → holds_ensemble (r.read fib) ≡ false
+    → Follows r mode period stream start told c → Follows r mode period (stream ++ r.read fib ∷ []) start told (record c { skipped = c.skipped + 1 })
+follows_skip r mode period stream start told c fib none empty silent f =
+    let count = frame_count (count_step mode) period f.frames c.memory f.knows in
+    let nothing : f.frames ≡ [] = no_frames f.frames (sym none ∙ count) in
+    let held : map r.read c.held ≡ [] = ap (map r.read) empty in
+    let longer = length-append f.skipped (r.read fib ∷ []) in
+    let one : length (r.read fib ∷ []) ≡ 1 = refl in
+    let before : IsFramed (fib_count mode) stream f.skipped [] [] =
+    subst (λ (h : List Fib). IsFramed (fib_count mode) stream f.skipped [] h) held (subst (λ (fs : List (List Fib)). IsFramed (fib_count mode) stream f.skipped fs (map r.read c.held)) nothing f.framed) in
+    record {
+      skipped = f.skipped ++ r.read fib ∷ [];
+      frames = f.frames;
+      framed = subst (λ (fs : List (List Fib)). IsFramed (fib_count mode) (stream ++ r.read fib ∷ []) (f.skipped ++ r.read fib ∷ []) fs (map r.read c.held)) (sym nothing)
+          (subst (λ (h : List Fib). IsFramed (fib_count mode) (stream ++ r.read fib ∷ []) (f.skipped ++ r.read fib ∷ []) [] h) (sym held) (skips_more (fib_count mode) stream f.skipped (r.read fib) silent before));
+      size = f.size;
+      skips = omega (arith, f.skips, longer, one);
+      damages = f.damages;
+      room = f.room;
+      knows = f.knows;
+      findings = f.findings;
+    }
+
+-- ---- a FIB of a frame
+
+-- the first FIB of all frames holds a FIG 0/0
+first_holds : (size : ℕ) (frames : List (List Fib)) (held : List Fib) (fib : Fib) → AreFrames size frames held → HoldsFirst (flat frames ++ held) → (frames ≡ [] → held ≡ [] → holds_ensemble fib ≡ true) → HoldsFirst ((flat frames ++ held) ++ fib ∷ [])
+first_holds size [] [] fib all first new = new refl refl
+first_holds size [] (x ∷ xs) fib all first new = first
+first_holds size ([] ∷ fs) held fib all first new = absurd all.0
+first_holds size ((g ∷ gs) ∷ fs) held fib all first new = first
+
+map_one : (r : Reading) (held : List (List ℕ)) (fib : List ℕ) → map r.read (held ++ fib ∷ []) ≡ map r.read held ++ r.read fib ∷ []
+map_one r held fib = map-append r.read held (fib ∷ [])
+
+some_held : (r : Reading) (held : List (List ℕ)) → held ≢ [] → map r.read held ≢ []
+some_held r [] some e = some refl
+some_held r (x ∷ xs) some e = absurd cc
+
+held_some : (r : Reading) (held : List (List ℕ)) → map r.read held ≢ [] → held ≢ []
+held_some r [] some e = some refl
+held_some r (x ∷ xs) some e = absurd cc
+
+-- what a FIB has to be that is held: the first of all holds a FIG 0/0, and none but the first of a frame begins with one
+pub record IsNext (r : Reading) (c : Checking) (fib : List ℕ) : Type 0 where
+  pub holds : c.memory.frames ≡ 0 → c.held ≡ [] → holds_ensemble (r.read fib) ≡ true
+
+holds_next : (r : Reading) (mode : Mode) (period : ℕ) (c : Checking) (fib : List ℕ) (frames : List (List Fib)) → Knows (count_step mode) period (after_frames (count_step mode) [] frames) c.memory → IsNext r c fib
+    → frames ≡ [] → map r.read c.held ≡ [] → holds_ensemble (r.read fib) ≡ true
+holds_next r mode period c fib frames k next none empty =
+    let count = frame_count (count_step mode) period frames c.memory k in
+    let zero_frames : length frames ≡ 0 = ap length none in
+    next.holds (omega (arith, count, zero_frames)) (empties c.held empty)
+  where
+    empties : (held : List (List ℕ)) → map r.read held ≡ [] → held ≡ []
+    empties [] e = refl
+    empties (x ∷ xs) e = absurd cc
+
+one_frame : (size : ℕ) (xs : List Fib) → IsOneFrame xs → length xs < size → AreFrames size [] xs
+one_frame size [] one lt = absurd one
+one_frame size (x ∷ xs) one lt = (one, lt)
+
+pub follows_hold : (r : Reading) (mode : Mode) (period : ℕ) (stream : List Fib) (start told : Option (List Finding)) (c : Checking) (fib : List ℕ) → IsNext r c fib → (c.held ≢ [] → begins_with_ensemble (r.read fib) ≡ false)
+    → length c.held + 1 < c.size → Follows r mode period stream start told c → Follows r mode period (stream ++ r.read fib ∷ []) start told (record c { held = c.held ++ fib ∷ [] })
+follows_hold r mode period stream start told c fib next later short f =
+    let held = map r.read c.held in
+    let whole = one_more (map r.read c.held) (r.read fib) (λ some. later (held_some r c.held some)) (held_of (fib_count mode) f.frames (map r.read c.held) f.framed.cut) in
+    let long = length-append (map r.read c.held) (r.read fib ∷ []) in
+    let one : length (r.read fib ∷ []) ≡ 1 = refl in
+    let same = length-map c.held r.read in
+    let few : length (map r.read c.held ++ r.read fib ∷ []) < fib_count mode = omega (arith, long, one, same, short, f.size) in
+    record {
+      skipped = f.skipped;
+      frames = f.frames;
+      framed = subst (λ (h : List Fib). IsFramed (fib_count mode) (stream ++ r.read fib ∷ []) f.skipped f.frames h) (sym (map_one r c.held fib))
+          (subst (λ (fs : List (List Fib)). IsFramed (fib_count mode) (stream ++ r.read fib ∷ []) f.skipped fs (map r.read c.held ++ r.read fib ∷ [])) (append-nil f.frames)
+          (goes_on (fib_count mode) stream f.skipped f.frames [] (map r.read c.held) (map r.read c.held ++ r.read fib ∷ []) (r.read fib) refl (one_frame (fib_count mode) (map r.read c.held ++ r.read fib ∷ []) whole few)
+          (first_holds (fib_count mode) f.frames (map r.read c.held) (r.read fib) f.framed.cut f.framed.begun (holds_next r mode period c fib f.frames f.knows next)) f.framed));
+      size = f.size;
+      skips = f.skips;
+      damages = f.damages;
+      room = f.room;
+      knows = f.knows;
+      findings = f.findings;
+    }
+
+-- ---- a frame that ends
+
+-- the frames with this one, and what follows it, as they are cut
+record Ends (r : Reading) (mode : Mode) (stream : List Fib) (c : Checking) (fib : List ℕ) (skipped : List Fib) (frames : List (List Fib)) (frame rest : List Fib) : Type 0 where
+  framed : IsFramed (fib_count mode) (stream ++ r.read fib ∷ []) skipped (frames ++ frame ∷ []) rest
+
+flat_one : (frames : List (List Fib)) (frame : List Fib) → flat (frames ++ frame ∷ []) ≡ flat frames ++ frame
+flat_one frames frame = flat_map-append (λ g. g) frames (frame ∷ []) ∙ ap (λ l. flat frames ++ l) (append-nil frame)
+
+heard_same : (mode : Mode) (c : Checking) (frame : List Fib) (told after : Option (List Finding)) (new : Memory) (full : Bool) (period : ℕ) (past : List Moment) → c.size ≡ fib_count mode → Knows (count_step mode) period past c.memory
+    → HearsFrame c.size frame c.memory told new after full → IsFrameHeard (fib_count mode) (count_step mode) period past frame told after new full
+heard_same mode c frame told after new full period past size k h =
+    subst (λ (n : ℕ). IsFrameHeard n (count_step mode) period past frame told after new full) size
+    (subst (λ (s : ℕ). IsFrameHeard c.size s period past frame told after new full) k.mode
+    (subst (λ (p : ℕ). IsFrameHeard c.size c.memory.step p past frame told after new full) k.turn
+    (h past (subst (λ (s : ℕ). Knows s c.memory.period past c.memory) (sym k.mode) (subst (λ (p : ℕ). Knows (count_step mode) p past c.memory) (sym k.turn) k)))))
+
+pub follows_frame : (r : Reading) (mode : Mode) (period : ℕ) (stream : List Fib) (start told after : Option (List Finding)) (c new : Checking) (frame : List Fib) (fib : List ℕ) → (f : Follows r mode period stream start told c)
+    → IsFramed (fib_count mode) (stream ++ r.read fib ∷ []) f.skipped (f.frames ++ frame ∷ []) (map r.read new.held) → HearsFrame c.size frame c.memory told new.memory after false
+    → new.size ≡ c.size → new.skipped ≡ c.skipped → new.damaged ≡ c.damaged + damaged_in frame → Follows r mode period (stream ++ r.read fib ∷ []) start after new
+follows_frame r mode period stream start told after c new frame fib f framed h size skips damages =
+    let past = after_frames (count_step mode) [] f.frames in
+    let all = heard_same mode c frame told after new.memory false period past f.size f.knows h in
+    let more = damaged_append (flat f.frames) frame in
+    record {
+      skipped = f.skipped;
+      frames = f.frames ++ frame ∷ [];
+      framed = framed;
+      size = size ∙ f.size;
+      skips = skips ∙ f.skips;
+      damages = damages ∙ ap (λ n. n + damaged_in frame) f.damages ∙ sym more ∙ ap damaged_in (sym (flat_one f.frames frame));
+      room = full_more (count_step mode) period [] f.frames frame f.room ∙ all.room;
+      knows = subst (λ (p : List Moment). Knows (count_step mode) period p new.memory) (sym (after_more (count_step mode) [] f.frames frame)) (all.knows refl);
+      findings = all.findings ∙ ap (λ t. with_more t (findings_in (fib_count mode) (count_step mode) period past frame)) f.findings
+          ∙ more_twice start (findings_of (fib_count mode) (count_step mode) period [] f.frames) (findings_in (fib_count mode) (count_step mode) period past frame)
+          ∙ ap (with_more start) (sym (findings_more (fib_count mode) (count_step mode) period [] f.frames frame f.room));
+    }
+
+pub ends_frame : (r : Reading) (mode : Mode) (period : ℕ) (stream : List Fib) (start told after : Option (List Finding)) (c : Checking) (new : Memory) (frame rest : List Fib) (fib : List ℕ) → (f : Follows r mode period stream start told c)
+    → IsFramed (fib_count mode) (stream ++ r.read fib ∷ []) f.skipped (f.frames ++ frame ∷ []) rest → HearsFrame c.size frame c.memory told new after true → EndsFull r mode period (stream ++ r.read fib ∷ []) start after
+ends_frame r mode period stream start told after c new frame rest fib f framed h =
+    let past = after_frames (count_step mode) [] f.frames in
+    let all = heard_same mode c frame told after new true period past f.size f.knows h in
+    record {
+      skipped = f.skipped;
+      frames = f.frames ++ frame ∷ [];
+      rest = rest;
+      framed = framed;
+      full = full_more (count_step mode) period [] f.frames frame f.room ∙ all.room;
+      findings = all.findings ∙ ap (λ t. with_more t (findings_in (fib_count mode) (count_step mode) period past frame)) f.findings
+          ∙ more_twice start (findings_of (fib_count mode) (count_step mode) period [] f.frames) (findings_in (fib_count mode) (count_step mode) period past frame)
+          ∙ ap (with_more start) (sym (findings_more (fib_count mode) (count_step mode) period [] f.frames frame f.room));
+    }
+
+-- what is held is a frame, as the next FIB begins with a FIG 0/0
+pub cut_before : (r : Reading) (mode : Mode) (period : ℕ) (stream : List Fib) (start told : Option (List Finding)) (c : Checking) (fib : List ℕ) → c.held ≢ [] → begins_with_ensemble (r.read fib) ≡ true → 1 < fib_count mode
+    → length c.held < c.size → (f : Follows r mode period stream start told c) → IsFramed (fib_count mode) (stream ++ r.read fib ∷ []) f.skipped (f.frames ++ map r.read c.held ∷ []) (r.read fib ∷ [])
+cut_before r mode period stream start told c fib some begins two short f =
+    let same = length-map c.held r.read in
+    let le : length (map r.read c.held) ≤ fib_count mode = omega (arith, same, short, f.size) in
+    goes_on (fib_count mode) stream f.skipped f.frames (map r.read c.held ∷ []) (map r.read c.held) (r.read fib ∷ []) (r.read fib)
+    (ap (λ l. l ++ r.read fib ∷ []) (append-nil (map r.read c.held)))
+    (is_one (held_of (fib_count mode) f.frames (map r.read c.held) f.framed.cut), le, (λ lt. begins), (tt, two))
+    (first_holds (fib_count mode) f.frames (map r.read c.held) (r.read fib) f.framed.cut f.framed.begun (λ none empty. absurd (some_held r c.held some empty))) f.framed
+  where
+    is_one : IsOneFrame (map r.read c.held) ⊎ (map r.read c.held ≡ []) → IsOneFrame (map r.read c.held)
+    is_one (inl one) = one
+    is_one (inr none) = absurd (some_held r c.held some none)
+
+-- what is held and this FIB are one
+pub cut_after : (r : Reading) (mode : Mode) (period : ℕ) (stream : List Fib) (start told : Option (List Finding)) (c : Checking) (fib : List ℕ) → IsNext r c fib → (c.held ≢ [] → begins_with_ensemble (r.read fib) ≡ false)
+    → length c.held + 1 ≡ c.size → (f : Follows r mode period stream start told c) → IsFramed (fib_count mode) (stream ++ r.read fib ∷ []) f.skipped (f.frames ++ map r.read (c.held ++ fib ∷ []) ∷ []) []
+cut_after r mode period stream start told c fib next later whole f =
+    let one_is = one_more (map r.read c.held) (r.read fib) (λ some. later (held_some r c.held some)) (held_of (fib_count mode) f.frames (map r.read c.held) f.framed.cut) in
+    let long = length-append (map r.read c.held) (r.read fib ∷ []) in
+    let one : length (r.read fib ∷ []) ≡ 1 = refl in
+    let same = length-map c.held r.read in
+    let all : length (map r.read c.held ++ r.read fib ∷ []) ≡ fib_count mode = omega (arith, long, one, same, whole, f.size) in
+    let le : length (map r.read c.held ++ r.read fib ∷ []) ≤ fib_count mode = omega (arith, all) in
+    subst (λ (h : List Fib). IsFramed (fib_count mode) (stream ++ r.read fib ∷ []) f.skipped (f.frames ++ h ∷ []) []) (sym (map_one r c.held fib))
+    (goes_on (fib_count mode) stream f.skipped f.frames ((map r.read c.held ++ r.read fib ∷ []) ∷ []) (map r.read c.held) [] (r.read fib)
+    (append-nil ((map r.read c.held ++ r.read fib ∷ []) ++ []) ∙ append-nil (map r.read c.held ++ r.read fib ∷ []))
+    (one_is, le, (λ lt. absurd (omega (arith, lt, all))), tt)
+    (first_holds (fib_count mode) f.frames (map r.read c.held) (r.read fib) f.framed.cut f.framed.begun (holds_next r mode period c fib f.frames f.knows next)) f.framed)
+
+-- ---- what the tests of a FIB say
+
+not_true : (b : Bool) → not b ≡ true → b ≡ false
+not_true true e = absurd (false≢true e)
+not_true false e = refl
+
+both : (a b : Bool) → (a && b) ≡ true → (a ≡ true) × (b ≡ true)
+both true b e = (refl, e)
+both false b e = absurd (false≢true e)
+
+neither : (a b : Bool) → (a || b) ≡ false → (a ≡ false) × (b ≡ false)
+neither true b e = absurd (false≢true (sym e))
+neither false b e = (refl, e)
+
+no_count : (n : ℕ) → nat_lt 0 n ≡ false → n ≡ 0
+no_count n e = elim (cases_lt 0 n) [ inl lt ↦ absurd (false≢true (sym e ∙ lt-ltb 0 n lt)) | inr le ↦ omega (arith, le) ]
+
+empty_is : (held : List (List ℕ)) → not (is_empty held) ≡ false → held ≡ []
+empty_is [] e = refl
+empty_is (x ∷ xs) e = absurd (false≢true (sym e))
+
+pub record Unbegun (c : Checking) : Type 0 where
+  pub none : c.memory.frames ≡ 0
+  pub empty : c.held ≡ []
+
+pub unbegun : (c : Checking) → has_begun c ≡ false → Unbegun c
+unbegun c e = let parts = neither (nat_lt 0 c.memory.frames) (not (is_empty c.held)) e in record { none = no_count c.memory.frames parts.0; empty = empty_is c.held parts.1 }
+
+pub skipped_where : (r : Reading) (c : Checking) (fib : List ℕ) (first : Option EnsembleInformation) → first ≡ first_in (r.read fib) → (not (has_begun c) && not (is_there first)) ≡ true → Unbegun c × (holds_ensemble (r.read fib) ≡ false)
+skipped_where r c fib first is e =
+    let parts = both (not (has_begun c)) (not (is_there first)) e in
+    (unbegun c (not_true (has_begun c) parts.0), ap is_there (sym is) ∙ not_true (is_there first) parts.1)
+
+begun_not : (c : Checking) → c.memory.frames ≡ 0 → c.held ≡ [] → has_begun c ≡ false
+begun_not c none empty = ap (λ n. nat_lt 0 n || not (is_empty c.held)) none ∙ ap (λ h. nat_lt 0 0 || not (is_empty h)) empty
+
+pub next_where : (r : Reading) (c : Checking) (fib : List ℕ) (first : Option EnsembleInformation) → first ≡ first_in (r.read fib) → (not (has_begun c) && not (is_there first)) ≡ false → IsNext r c fib
+next_where r c fib first is e = record { holds = λ none empty. ap is_there (sym is) ∙ chosen (is_there first) (sym (ap (λ t. not t && not (is_there first)) (begun_not c none empty)) ∙ e) }
+  where
+    chosen : (b : Bool) → not b ≡ false → b ≡ true
+    chosen true h = refl
+    chosen false h = absurd (false≢true (sym h))
+
+pub cut_where : (r : Reading) (c : Checking) (fib : List ℕ) (o : Option EnsembleInformation) → o ≡ opening (r.read fib) → (is_there o && not (is_empty c.held)) ≡ true → (begins_with_ensemble (r.read fib) ≡ true) × (c.held ≢ [])
+cut_where r c fib o is e =
+    let parts = both (is_there o) (not (is_empty c.held)) e in
+    (ap is_there (sym is) ∙ parts.0, λ none. false≢true (sym (ap (λ h. not (is_empty h)) none) ∙ parts.1))
+
+pub later_where : (r : Reading) (c : Checking) (fib : List ℕ) (o : Option EnsembleInformation) → o ≡ opening (r.read fib) → (is_there o && not (is_empty c.held)) ≡ false → c.held ≢ [] → begins_with_ensemble (r.read fib) ≡ false
+later_where r c fib o is e some = ap is_there (sym is) ∙ chosen (is_there o) c.held some e
+  where
+    chosen : (b : Bool) (held : List (List ℕ)) → held ≢ [] → (b && not (is_empty held)) ≡ false → b ≡ false
+    chosen false held some h = refl
+    chosen true [] some h = absurd (some refl)
+    chosen true (x ∷ xs) some h = absurd (false≢true (sym h))
+
+-- ---- before the first FIB, and behind the last
+
+pub follows_nothing : (r : Reading) (mode : Mode) (period : ℕ) (start : Option (List Finding)) (c : Checking) → c.size ≡ fib_count mode → c.held ≡ [] → c.skipped ≡ 0 → c.damaged ≡ 0 → Knows (count_step mode) period [] c.memory
+    → 0 < fib_count mode → Follows r mode period [] start start c
+follows_nothing r mode period start c size held skips damages k some = record {
+  skipped = [];
+  frames = [];
+  framed = subst (λ (h : List Fib). IsFramed (fib_count mode) [] [] [] h) (sym (ap (map r.read) held)) (record { whole = refl; before = tt; begun = tt; cut = tt });
+  size = size;
+  skips = skips;
+  damages = damages;
+  room = refl;
+  knows = k;
+  findings = more_none start;
+}
+
+pub summed : (r : Reading) (mode : Mode) (period : ℕ) (stream : List Fib) (start told : Option (List Finding)) (c : Checking) (s : Summary) → (f : Follows r mode period stream start told c)
+    → s.frames ≡ c.memory.frames → s.skipped ≡ c.skipped → s.left_over ≡ length c.held → s.damaged ≡ c.damaged → IsSummary f.skipped f.frames (map r.read c.held) s
+summed r mode period stream start told c s f frames skips left damages = record {
+  frame_count = frames ∙ frame_count (count_step mode) period f.frames c.memory f.knows;
+  skips = skips ∙ f.skips;
+  left = left ∙ sym (length-map c.held r.read);
+  damages = damages ∙ f.damages;
+}
+
+-- ---- modes
+
+pub some_fibs : (mode : Mode) → 0 < fib_count mode
+some_fibs I = omega arith
+some_fibs II = omega arith
+some_fibs III = omega arith
+some_fibs IV = omega arith
+
+pub two_fibs : (mode : Mode) → 1 < fib_count mode
+two_fibs I = omega arith
+two_fibs II = omega arith
+two_fibs III = omega arith
+two_fibs IV = omega arith

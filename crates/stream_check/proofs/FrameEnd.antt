@@ -1,0 +1,261 @@
+-- What is kept stays what was said before, to the end of a frame.
+use Rattle.std.proofs.Common.{◌≡◌, ◌≢◌, ℕ, ◌+◌, ◌-◌, ◌*◌, ◌%◌, ◌<◌, ◌≤◌, ◌==◌, ◌&&◌, ◌||◌, Bool, true, false, cond, not, nat_lt, List, [], ◌∷◌, ◌++◌, length, map, Option, Some, None, refl, sym, ap, ◌∙◌, arith, inl, inr, subst}
+use Rattle.std.specs.List.{AllByRecursion, filter}
+use Rattle.std.proofs.lemmas.Bool.{cases_lt, false≢true, eq-eqb, ne_eqb, eqb-true}
+use Rattle.std.proofs.lemmas.List.{append_assoc, append-nil, length-append, length-map, map-append}
+use Rattle.fib_reader.specs.Raw.{Raw}
+use Rattle.fib_reader.specs.Listening.{Listening, Pictured, all_entries}
+use Rattle.stream_check.specs.declared.finding.Finding.{Finding}
+use Rattle.stream_check.specs.declared.finding.What.{What}
+use Rattle.stream_check.specs.declared.finding.What.TheVariants as whats
+use Rattle.stream_check.specs.declared.finding.Fault.TheVariants as faults
+use Rattle.stream_check.specs.declared.telling.FrameAt.{FrameAt}
+use Rattle.stream_check.specs.declared.memory.Memory.{Memory}
+use Rattle.stream_check.specs.Telling.{with_more, in_frame, when}
+use Rattle.stream_check.specs.Pictures.{Heard, HeardPicture, heard_since, Each, raws, shown, key_of}
+use Rattle.stream_check.specs.Frames.{Fib, Reading}
+use Rattle.stream_check.specs.History.{Item, Moment, Said, Ended, said, frame_items, frames_ended, listener_after, due, has_begun, row_at_hand, rows, last_heard}
+use Rattle.stream_check.specs.Rules.{name_of, is_silent, silence, silent_findings}
+use Rattle.stream_check.specs.Stream.{frame_findings, findings_at_items, runs_full, frame_at, last_findings, findings_in, after_frame, count_of_frame}
+use Rattle.stream_check.specs.Memory.{listener_in, with_row, with_frame, later, IsLastHeard, HasNotice, Knows, IsSane, is_quiet, quiet_findings, silent_in, most}
+use Rattle.stream_check.specs.Hearing.{IsLater, IsHeard, Hears, IsFrameHeard, HearsFrame}
+use Rattle.stream_check.proofs.Notice.{notice_closed, notice_open}
+use Rattle.stream_check.proofs.Members.{after_is}
+use Rattle.stream_check.proofs.Chain.{more_twice, more_none}
+
+-- ---- the frames of the notice
+
+rows_are : (past : List Moment) (count : ℕ) (b : Bool) → has_begun past ≡ b → rows (Ended count ∷ past) ≡ cond b (rows past ++ row_at_hand past ∷ []) []
+rows_are past count b e = ap (λ t. cond t (rows past ++ row_at_hand past ∷ []) []) e
+
+few_more : (past : List Moment) (count : ℕ) (b : Bool) → has_begun past ≡ b → length (rows past) ≤ frames_ended past → length (rows (Ended count ∷ past)) ≤ frames_ended past + 1
+few_more past count true e few =
+    let longer = length-append (rows past) (row_at_hand past ∷ []) in
+    let one : length (row_at_hand past ∷ []) ≡ 1 = refl in
+    subst (λ (rs : List (List ℕ)). length rs ≤ frames_ended past + 1) (sym (rows_are past count true e)) (omega (arith, longer, one, few))
+few_more past count false e few = subst (λ (rs : List (List ℕ)). length rs ≤ frames_ended past + 1) (sym (rows_are past count false e)) (omega arith)
+
+-- the parts after a frame
+abbrev row_memory : Bool → Bool → Memory → Memory
+row_memory begun whole m = cond begun (cond whole (record m { rows = m.rows + 1; parts = m.parts + 1; since = m.rows + 1 }) (record m { rows = m.rows + 1 })) m
+
+abbrev framed : ℕ → Memory → Memory → Memory
+framed count m n = record n { has_ensemble = false; frames = m.frames + 1; due = Some ((count + 1) % 5000) }
+
+noticed : (step period : ℕ) (past : List Moment) (m : Memory) (count : ℕ) (begun whole : Bool) → m.has_begun ≡ begun → heard_since m.since m.next ≡ whole → Knows step period past m
+    → HasNotice (rows (Ended count ∷ past)) [] (row_memory begun whole m).rows (row_memory begun whole m).since (row_memory begun whole m).parts m.next m.has_begun
+noticed step period past m count true true b w k =
+    subst (λ (t : Bool). HasNotice (rows (Ended count ∷ past)) [] (m.rows + 1) (m.rows + 1) (m.parts + 1) m.next t) (sym b)
+    (subst (λ (rs : List (List ℕ)). HasNotice rs [] (m.rows + 1) (m.rows + 1) (m.parts + 1) m.next true) (sym (rows_are past count true (sym k.has_begun ∙ b)))
+    (notice_closed (rows past) (row_at_hand past) m.rows m.since m.parts m.next w (subst (λ (t : Bool). HasNotice (rows past) (row_at_hand past) m.rows m.since m.parts m.next t) b k.notice)))
+noticed step period past m count true false b w k =
+    subst (λ (t : Bool). HasNotice (rows (Ended count ∷ past)) [] (m.rows + 1) m.since m.parts m.next t) (sym b)
+    (subst (λ (rs : List (List ℕ)). HasNotice rs [] (m.rows + 1) m.since m.parts m.next true) (sym (rows_are past count true (sym k.has_begun ∙ b)))
+    (notice_open (rows past) (row_at_hand past) m.rows m.since m.parts m.next w (subst (λ (t : Bool). HasNotice (rows past) (row_at_hand past) m.rows m.since m.parts m.next t) b k.notice)))
+noticed step period past m count false whole b w k =
+    let idle = k.notice.idle b in
+    subst (λ (rs : List (List ℕ)). HasNotice rs [] m.rows m.since m.parts m.next m.has_begun) (idle.0 ∙ sym (rows_are past count false (sym k.has_begun ∙ b)))
+    (subst (λ (r : List ℕ). HasNotice (rows past) r m.rows m.since m.parts m.next m.has_begun) idle.1 k.notice)
+
+case_frame : (begun whole : Bool) (step period : ℕ) (past : List Moment) (m : Memory) (count : ℕ) → m.has_begun ≡ begun → heard_since m.since m.next ≡ whole → Knows step period past m
+    → Knows step period (Ended count ∷ past) (framed count m (row_memory begun whole m))
+case_frame true true step period past m count b w k = record {
+  mode = k.mode;
+  turn = k.turn;
+  heard = k.heard;
+  frames = ap (λ n. n + 1) k.frames;
+  due = refl;
+  eid = k.eid;
+  has_ensemble = refl;
+  has_begun = k.has_begun;
+  began_early = k.began_early;
+  is_cut_off = k.is_cut_off;
+  flags = k.flags;
+  times = k.times;
+  settles_at = k.settles_at;
+  untuned = k.untuned;
+  few = few_more past count true (sym k.has_begun ∙ b) k.few;
+  swapped = omega (arith, k.swapped);
+  kinds = k.kinds;
+  last = k.last;
+  notice = noticed step period past m count true true b w k;
+}
+case_frame true false step period past m count b w k = record {
+  mode = k.mode;
+  turn = k.turn;
+  heard = k.heard;
+  frames = ap (λ n. n + 1) k.frames;
+  due = refl;
+  eid = k.eid;
+  has_ensemble = refl;
+  has_begun = k.has_begun;
+  began_early = k.began_early;
+  is_cut_off = k.is_cut_off;
+  flags = k.flags;
+  times = k.times;
+  settles_at = k.settles_at;
+  untuned = k.untuned;
+  few = few_more past count true (sym k.has_begun ∙ b) k.few;
+  swapped = omega (arith, k.swapped);
+  kinds = k.kinds;
+  last = k.last;
+  notice = noticed step period past m count true false b w k;
+}
+case_frame false whole step period past m count b w k = record {
+  mode = k.mode;
+  turn = k.turn;
+  heard = k.heard;
+  frames = ap (λ n. n + 1) k.frames;
+  due = refl;
+  eid = k.eid;
+  has_ensemble = refl;
+  has_begun = k.has_begun;
+  began_early = k.began_early;
+  is_cut_off = k.is_cut_off;
+  flags = k.flags;
+  times = k.times;
+  settles_at = k.settles_at;
+  untuned = k.untuned;
+  few = few_more past count false (sym k.has_begun ∙ b) k.few;
+  swapped = omega (arith, k.swapped);
+  kinds = k.kinds;
+  last = k.last;
+  notice = noticed step period past m count false whole b w k;
+}
+
+pub knows_frame : (step period : ℕ) (past : List Moment) (m : Memory) (count : ℕ) → Knows step period past m → Knows step period (Ended count ∷ past) (with_frame count m)
+knows_frame step period past m count k = cases m.has_begun (heard_since m.since m.next) refl refl
+  where
+    cases : (b w : Bool) → m.has_begun ≡ b → heard_since m.since m.next ≡ w → Knows step period (Ended count ∷ past) (with_frame count m)
+    cases b w e f =
+        subst (λ (t : Bool). Knows step period (Ended count ∷ past) (framed count m (cond t (with_row m) m))) (sym e)
+        (subst (λ (t : Bool). Knows step period (Ended count ∷ past) (framed count m (cond b (cond t (record m { rows = m.rows + 1; parts = m.parts + 1; since = m.rows + 1 }) (record m { rows = m.rows + 1 })) m))) (sym f)
+        (case_frame b w step period past m count e f k))
+
+-- and its numbers stay far from their limits
+case_sane : (begun whole : Bool) (m : Memory) (count : ℕ) → IsSane m → IsSane (framed count m (row_memory begun whole m))
+case_sane true true m count s = record { mode = s.mode; turn = s.turn; due = below count; times = s.times; rows = omega (arith, s.rows); parts = omega (arith, s.parts) }
+  where
+    below : (n : ℕ) → (n + 1) % 5000 < 5000
+    below n = omega arith
+case_sane true false m count s = record { mode = s.mode; turn = s.turn; due = below count; times = s.times; rows = omega (arith, s.rows); parts = omega (arith, s.parts) }
+  where
+    below : (n : ℕ) → (n + 1) % 5000 < 5000
+    below n = omega arith
+case_sane false whole m count s = record { mode = s.mode; turn = s.turn; due = below count; times = s.times; rows = omega (arith, s.rows); parts = s.parts }
+  where
+    below : (n : ℕ) → (n + 1) % 5000 < 5000
+    below n = omega arith
+
+pub sane_frame : (m : Memory) (count : ℕ) → IsSane m → IsSane (with_frame count m)
+sane_frame m count s = case_sane m.has_begun (heard_since m.since m.next) m count s
+
+-- ---- silent entries
+
+pub quiet_is : (last period now : ℕ) → last ≤ now → (now - last == period) ≡ (last + period == now)
+quiet_is last period now le = elim (now - last == period) as (λ t. (now - last == period) ≡ t → t ≡ (last + period == now)) [
+  | true ↦ λ e. let is : now - last ≡ period = eqb-true (now - last) period e in sym (eq-eqb (last + period) now (omega (arith, is, le)))
+  | false ↦ λ e. sym (ne_eqb (last + period) now (λ is. false≢true (sym e ∙ eq-eqb (now - last) period (omega (arith, is, le)))))
+] refl
+
+pub loud_is : (last period now : ℕ) → now < last → false ≡ (last + period == now)
+loud_is last period now lt = sym (ne_eqb (last + period) now (λ is. omega (arith, is, lt)))
+
+quiet_raws : (period : ℕ) (past : List Moment) (swapped frames : ℕ) (hs : List Heard) → frames ≡ frames_ended past → AllByRecursion (IsLastHeard past swapped) hs
+    → quiet_findings swapped period frames hs ≡ map silence (filter (is_silent period past) (raws hs))
+quiet_raws period past swapped frames [] e all = refl
+quiet_raws period past swapped frames (h ∷ hs) e all =
+    let same : is_quiet swapped period frames h ≡ is_silent period past h.raw =
+    ap (λ n. n + period == frames + 1) all.0 ∙ ap (λ n. last_heard (key_of h.raw) past + period == n + 1) e in
+    ap (λ t. when t (faults.Silent (name_of h.raw)) ++ quiet_findings swapped period frames hs) same
+    ∙ ap (λ fs. when (is_silent period past h.raw) (faults.Silent (name_of h.raw)) ++ fs) (quiet_raws period past swapped frames hs e all.1)
+    ∙ chosen (is_silent period past h.raw) h.raw (filter (is_silent period past) (raws hs))
+  where
+    chosen : (t : Bool) (raw : Raw) (rest : List Raw) → when t (faults.Silent (name_of raw)) ++ map silence rest ≡ map silence (cond t (raw ∷ rest) rest)
+    chosen true raw rest = refl
+    chosen false raw rest = refl
+
+filter_append : {X : Type 0} (p : X → Bool) (xs ys : List X) → filter p (xs ++ ys) ≡ filter p xs ++ filter p ys
+filter_append p [] ys = refl
+filter_append p (x ∷ xs) ys = elim (p x) as (λ t. cond t (x ∷ filter p (xs ++ ys)) (filter p (xs ++ ys)) ≡ cond t (x ∷ filter p xs) (filter p xs) ++ filter p ys) [
+  | true ↦ ap (λ l. x ∷ l) (filter_append p xs ys)
+  | false ↦ filter_append p xs ys
+]
+
+spread : (period : ℕ) (past : List Moment) (xs ys : List Raw) → map silence (filter (is_silent period past) (xs ++ ys)) ≡ map silence (filter (is_silent period past) xs) ++ map silence (filter (is_silent period past) ys)
+spread period past xs ys = ap (map silence) (filter_append (is_silent period past) xs ys) ∙ map-append silence (filter (is_silent period past) xs) (filter (is_silent period past) ys)
+
+pub silent_is : (step period : ℕ) (past : List Moment) (m : Memory) → Knows step period past m → silent_in m ≡ silent_findings period past
+silent_is step period past m k =
+    ap (λ p. quiet_findings m.swapped p m.frames m.current.subs ++ (quiet_findings m.swapped p m.frames m.current.services ++ quiet_findings m.swapped p m.frames m.current.packets)) k.turn
+    ∙ ap (λ fs. fs ++ (quiet_findings m.swapped period m.frames m.current.services ++ quiet_findings m.swapped period m.frames m.current.packets)) (quiet_raws period past m.swapped m.frames m.current.subs k.frames k.last.0)
+    ∙ ap (λ fs. map silence (filter (is_silent period past) (raws m.current.subs)) ++ (fs ++ quiet_findings m.swapped period m.frames m.current.packets)) (quiet_raws period past m.swapped m.frames m.current.services k.frames k.last.1.0)
+    ∙ ap (λ fs. map silence (filter (is_silent period past) (raws m.current.subs)) ++ (map silence (filter (is_silent period past) (raws m.current.services)) ++ fs)) (quiet_raws period past m.swapped m.frames m.current.packets k.frames k.last.1.1)
+    ∙ sym (spread period past (raws m.current.subs ++ raws m.current.services) (raws m.current.packets)
+    ∙ ap (λ fs. fs ++ map silence (filter (is_silent period past) (raws m.current.packets))) (spread period past (raws m.current.subs) (raws m.current.services))
+    ∙ append_assoc (map silence (filter (is_silent period past) (raws m.current.subs))) (map silence (filter (is_silent period past) (raws m.current.services))) (map silence (filter (is_silent period past) (raws m.current.packets))))
+    ∙ ap (λ (l : Listening). map silence (filter (is_silent period past) (all_entries l.current))) (sym (after_is past (listener_in m) k.heard))
+
+-- ---- a whole frame
+
+pub frame_len : (r : Reading) (fibs : List (List ℕ)) → length (map r.read fibs) ≡ length fibs
+frame_len r fibs = length-map fibs r.read
+
+-- where all its entries were heard, and what is silent was told
+pub frame_done : (size : ℕ) (frame : List Fib) (at : FrameAt) (old mid : Memory) (before told one two : Option (List Finding))
+    → at ≡ record { frame = old.frames; count = count_of_frame old.step old.due frame }
+    → one ≡ with_more before (map (in_frame at) (frame_findings size old.step old.due frame)) → Hears at (frame_items frame) old one mid two false → IsLater old mid
+    → told ≡ with_more two (map (in_frame at) (silent_in mid)) → HearsFrame size frame old before (with_frame (count_of_frame old.step old.due frame) mid) told false
+frame_done size frame at old mid before told one two place first h l last past k =
+    let all = h past k in
+    let known = all.knows refl in
+    let same : at ≡ frame_at old.step past frame = place ∙ ap (λ n. at_of n (count_of_frame old.step old.due frame)) k.frames ∙ ap (λ d. at_of (frames_ended past) (count_of_frame old.step d frame)) k.due in
+    let silent = silent_is old.step old.period (said (frame_items frame) past) mid known in
+    let items = findings_at_items old.step old.period past (frame_items frame) in
+    let rest = silent_findings old.period (said (frame_items frame) past) in
+    record {
+      findings = last ∙ ap (λ t. with_more t (map (in_frame at) (silent_in mid))) (all.findings ∙ ap (λ t. with_more t (map (in_frame at) items)) first)
+          ∙ ap (λ fs. with_more (with_more (with_more before (map (in_frame at) (frame_findings size old.step old.due frame))) (map (in_frame at) items)) (map (in_frame at) fs)) silent
+          ∙ three at before (frame_findings size old.step old.due frame) items rest
+          ∙ ap (λ a. with_more before (map (in_frame a) (frame_findings size old.step old.due frame ++ (items ++ rest)))) same
+          ∙ ap (λ d. with_more before (map (in_frame (frame_at old.step past frame)) (frame_findings size old.step d frame ++ (items ++ rest)))) k.due
+          ∙ ap (λ b. with_more before (map (in_frame (frame_at old.step past frame)) (frame_findings size old.step (due past) frame ++ (items ++ last_findings b old.period (said (frame_items frame) past))))) (sym all.room);
+      room = all.room;
+      knows = λ e. subst (λ (d : Option ℕ). Knows old.step old.period (Ended (count_of_frame old.step d frame) ∷ said (frame_items frame) past) (with_frame (count_of_frame old.step old.due frame) mid)) k.due
+          (knows_frame old.step old.period (said (frame_items frame) past) mid (count_of_frame old.step old.due frame) known);
+    }
+  where
+    at_of : ℕ → ℕ → FrameAt
+    at_of n c = record { frame = n; count = c }
+
+    three : (at : FrameAt) (told : Option (List Finding)) (xs ys zs : List What) → with_more (with_more (with_more told (map (in_frame at) xs)) (map (in_frame at) ys)) (map (in_frame at) zs) ≡ with_more told (map (in_frame at) (xs ++ (ys ++ zs)))
+    three at told xs ys zs =
+        more_twice (with_more told (map (in_frame at) xs)) (map (in_frame at) ys) (map (in_frame at) zs)
+        ∙ more_twice told (map (in_frame at) xs) (map (in_frame at) ys ++ map (in_frame at) zs)
+        ∙ ap (with_more told) (sym (map-append (in_frame at) xs (ys ++ zs) ∙ ap (λ fs. map (in_frame at) xs ++ fs) (map-append (in_frame at) ys zs)))
+
+-- where there was no room for one of them
+pub frame_full : (size : ℕ) (frame : List Fib) (at : FrameAt) (old mid : Memory) (before told one : Option (List Finding))
+    → at ≡ record { frame = old.frames; count = count_of_frame old.step old.due frame }
+    → one ≡ with_more before (map (in_frame at) (frame_findings size old.step old.due frame)) → Hears at (frame_items frame) old one mid told true → HearsFrame size frame old before mid told true
+frame_full size frame at old mid before told one place first h past k =
+    let all = h past k in
+    let same : at ≡ frame_at old.step past frame = place ∙ ap (λ n. at_of n (count_of_frame old.step old.due frame)) k.frames ∙ ap (λ d. at_of (frames_ended past) (count_of_frame old.step d frame)) k.due in
+    let items = findings_at_items old.step old.period past (frame_items frame) in
+    record {
+      findings = all.findings ∙ ap (λ t. with_more t (map (in_frame at) items)) first
+          ∙ two at before (frame_findings size old.step old.due frame) items
+          ∙ ap (λ a. with_more before (map (in_frame a) (frame_findings size old.step old.due frame ++ (items ++ [])))) same
+          ∙ ap (λ d. with_more before (map (in_frame (frame_at old.step past frame)) (frame_findings size old.step d frame ++ (items ++ [])))) k.due
+          ∙ ap (λ b. with_more before (map (in_frame (frame_at old.step past frame)) (frame_findings size old.step (due past) frame ++ (items ++ last_findings b old.period (said (frame_items frame) past))))) (sym all.room);
+      room = all.room;
+      knows = λ e. absurd (false≢true (sym e));
+    }
+  where
+    at_of : ℕ → ℕ → FrameAt
+    at_of n c = record { frame = n; count = c }
+
+    two : (at : FrameAt) (told : Option (List Finding)) (xs ys : List What) → with_more (with_more told (map (in_frame at) xs)) (map (in_frame at) ys) ≡ with_more told (map (in_frame at) (xs ++ (ys ++ [])))
+    two at told xs ys =
+        more_twice told (map (in_frame at) xs) (map (in_frame at) ys)
+        ∙ ap (with_more told) (sym (map-append (in_frame at) xs (ys ++ []) ∙ ap (λ fs. map (in_frame at) xs ++ map (in_frame at) fs) (append-nil ys)))

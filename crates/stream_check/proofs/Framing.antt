@@ -1,0 +1,118 @@
+-- A stream that is cut into frames, a FIB further.
+use Rattle.std.proofs.Common.{◌≡◌, ◌≢◌, ℕ, zero, suc, ◌+◌, ◌<◌, ◌≤◌, ◌==◌, ◌&&◌, Bool, true, false, cond, not, List, [], ◌∷◌, ◌++◌, length, map, flat_map, Option, Some, None, refl, sym, ap, ◌∙◌, arith, inl, inr, ◌⊎◌, subst}
+use Rattle.std.specs.List.{AllByRecursion}
+use Rattle.std.proofs.lemmas.Bool.{false≢true}
+use Rattle.std.proofs.lemmas.List.{append_assoc, append-nil, length-append}
+use Rattle.std.proofs.lemmas.List.Concat.{flat_map-append}
+use Rattle.stream_check.specs.declared.finding.Finding.{Finding}
+use Rattle.stream_check.specs.Telling.{with_more}
+use Rattle.stream_check.specs.Frames.{Fib, is_damaged, begins_with_ensemble, holds_ensemble, IsOneFrame, BeginsAnew, AreFrames, HoldsFirst, IsFramed, damaged_in}
+use Rattle.stream_check.specs.History.{Moment, frame_items}
+use Rattle.stream_check.specs.Stream.{runs_full, findings_in, after_frame, findings_of, after_frames, frames_full}
+
+abbrev pub flat : List (List Fib) → List Fib
+flat frames = flat_map (λ f. f) frames
+
+-- ---- frames, and then others
+
+begins_more : (xs ys : List Fib) → BeginsAnew xs → BeginsAnew (xs ++ ys)
+begins_more [] ys b = absurd b
+begins_more (x ∷ xs) ys b = b
+
+pub frames_then : (size : ℕ) (frames tail : List (List Fib)) (held rest more : List Fib) → flat tail ++ rest ≡ held ++ more → AreFrames size tail rest → AreFrames size frames held → AreFrames size (frames ++ tail) rest
+frames_then size [] tail held rest more e t all = t
+frames_then size (f ∷ fs) tail held rest more e t all =
+    let same : flat (fs ++ tail) ++ rest ≡ (flat fs ++ held) ++ more =
+    ap (λ l. l ++ rest) (flat_map-append (λ g. g) fs tail) ∙ append_assoc (flat fs) (flat tail) rest ∙ ap (λ l. flat fs ++ l) e ∙ sym (append_assoc (flat fs) held more) in
+    (all.0, all.1, (λ short. subst BeginsAnew (sym same) (begins_more (flat fs ++ held) more (all.2 short))), frames_then size fs tail held rest more e t all.3)
+
+holds_more : (xs ys : List Fib) → HoldsFirst ys → HoldsFirst xs → HoldsFirst (xs ++ ys)
+holds_more [] ys h g = h
+holds_more (x ∷ xs) ys h g = g
+
+holds_some : (xs ys : List Fib) → xs ≢ [] → HoldsFirst xs → HoldsFirst (xs ++ ys)
+holds_some [] ys some g = absurd (some refl)
+holds_some (x ∷ xs) ys some g = g
+
+pub all_append : {X : Type 0} (P : X → Type 0) (xs ys : List X) → AllByRecursion P xs → AllByRecursion P ys → AllByRecursion P (xs ++ ys)
+all_append P [] ys a b = b
+all_append P (x ∷ xs) ys a b = (a.0, all_append P xs ys a.1 b)
+
+-- a FIB more of the frame at hand
+pub one_more : (held : List Fib) (fib : Fib) → (held ≢ [] → begins_with_ensemble fib ≡ false) → IsOneFrame held ⊎ (held ≡ []) → IsOneFrame (held ++ fib ∷ [])
+one_more [] fib free one = tt
+one_more (x ∷ xs) fib free (inl one) = all_append (λ later. begins_with_ensemble later ≡ false) xs (fib ∷ []) one (free (λ e. absurd cc), tt)
+one_more (x ∷ xs) fib free (inr none) = absurd cc
+
+-- the frame at hand, by all frames
+pub held_of : (size : ℕ) (frames : List (List Fib)) (held : List Fib) → AreFrames size frames held → IsOneFrame held ⊎ (held ≡ [])
+held_of size [] [] all = inr refl
+held_of size [] (x ∷ xs) all = inl all.0
+held_of size (f ∷ fs) held all = held_of size fs held all.3
+
+-- ---- each way that a stream goes on
+
+pub skips_more : (size : ℕ) (stream skipped : List Fib) (fib : Fib) → holds_ensemble fib ≡ false → IsFramed size stream skipped [] [] → IsFramed size (stream ++ fib ∷ []) (skipped ++ fib ∷ []) [] []
+skips_more size stream skipped fib no_ensemble f = record {
+  whole = ap (λ l. l ++ fib ∷ []) (f.whole ∙ append-nil skipped) ∙ sym (append-nil (skipped ++ fib ∷ []));
+  before = all_append (λ g. holds_ensemble g ≡ false) skipped (fib ∷ []) f.before (no_ensemble, tt);
+  begun = tt;
+  cut = tt;
+}
+
+-- what is held and one more become other frames and another rest
+pub goes_on : (size : ℕ) (stream skipped : List Fib) (frames tail : List (List Fib)) (held rest : List Fib) (fib : Fib) → flat tail ++ rest ≡ held ++ fib ∷ [] → AreFrames size tail rest
+    → HoldsFirst ((flat frames ++ held) ++ fib ∷ []) → IsFramed size stream skipped frames held → IsFramed size (stream ++ fib ∷ []) skipped (frames ++ tail) rest
+goes_on size stream skipped frames tail held rest fib e t first f =
+    let same : flat (frames ++ tail) ++ rest ≡ (flat frames ++ held) ++ fib ∷ [] =
+    ap (λ l. l ++ rest) (flat_map-append (λ g. g) frames tail) ∙ append_assoc (flat frames) (flat tail) rest ∙ ap (λ l. flat frames ++ l) e ∙ sym (append_assoc (flat frames) held (fib ∷ [])) in
+    record {
+      whole = ap (λ l. l ++ fib ∷ []) f.whole ∙ append_assoc skipped (flat frames ++ held) (fib ∷ []) ∙ ap (λ l. skipped ++ l) (sym same);
+      before = f.before;
+      begun = subst HoldsFirst (sym same) first;
+      cut = frames_then size frames tail held rest (fib ∷ []) e t f.cut;
+    }
+
+pub still_first : (xs : List Fib) (fib : Fib) → xs ≢ [] → HoldsFirst xs → HoldsFirst (xs ++ fib ∷ [])
+still_first xs fib some h = holds_some xs (fib ∷ []) some h
+
+pub now_first : (xs : List Fib) (fib : Fib) → xs ≡ [] → holds_ensemble fib ≡ true → HoldsFirst (xs ++ fib ∷ [])
+now_first xs fib none h = subst (λ (l : List Fib). HoldsFirst (l ++ fib ∷ [])) (sym none) h
+
+-- ---- what is found in one frame more
+
+pub after_more : (step : ℕ) (past : List Moment) (frames : List (List Fib)) (f : List Fib) → after_frames step past (frames ++ f ∷ []) ≡ after_frame step (after_frames step past frames) f
+after_more step past [] f = refl
+after_more step past (g ∷ gs) f = after_more step (after_frame step past g) gs f
+
+pub full_more : (step period : ℕ) (past : List Moment) (frames : List (List Fib)) (f : List Fib) → frames_full step period past frames ≡ false
+    → frames_full step period past (frames ++ f ∷ []) ≡ runs_full step period (after_frames step past frames) (frame_items f)
+full_more step period past [] f e = chosen (runs_full step period past (frame_items f))
+  where
+    chosen : (t : Bool) → cond t true false ≡ t
+    chosen true = refl
+    chosen false = refl
+full_more step period past (g ∷ gs) f e = elim (runs_full step period past (frame_items g)) as (λ t. cond t true (frames_full step period (after_frame step past g) gs) ≡ false
+    → cond t true (frames_full step period (after_frame step past g) (gs ++ f ∷ [])) ≡ runs_full step period (after_frames step (after_frame step past g) gs) (frame_items f)) [
+      | true ↦ λ h. absurd (false≢true (sym h))
+      | false ↦ λ h. full_more step period (after_frame step past g) gs f h
+    ] e
+
+pub findings_more : (size step period : ℕ) (past : List Moment) (frames : List (List Fib)) (f : List Fib) → frames_full step period past frames ≡ false
+    → findings_of size step period past (frames ++ f ∷ []) ≡ findings_of size step period past frames ++ findings_in size step period (after_frames step past frames) f
+findings_more size step period past [] f e = chosen (runs_full step period past (frame_items f)) ∙ append-nil (findings_in size step period past f)
+  where
+    chosen : (t : Bool) → findings_in size step period past f ++ cond t [] [] ≡ findings_in size step period past f ++ []
+    chosen true = refl
+    chosen false = refl
+findings_more size step period past (g ∷ gs) f e = elim (runs_full step period past (frame_items g)) as (λ t. cond t true (frames_full step period (after_frame step past g) gs) ≡ false
+    → findings_in size step period past g ++ cond t [] (findings_of size step period (after_frame step past g) (gs ++ f ∷ []))
+    ≡ (findings_in size step period past g ++ cond t [] (findings_of size step period (after_frame step past g) gs)) ++ findings_in size step period (after_frames step (after_frame step past g) gs) f) [
+      | true ↦ λ h. absurd (false≢true (sym h))
+      | false ↦ λ h. ap (λ l. findings_in size step period past g ++ l) (findings_more size step period (after_frame step past g) gs f h)
+          ∙ sym (append_assoc (findings_in size step period past g) (findings_of size step period (after_frame step past g) gs) (findings_in size step period (after_frames step (after_frame step past g) gs) f))
+    ] e
+
+pub damaged_append : (xs ys : List Fib) → damaged_in (xs ++ ys) ≡ damaged_in xs + damaged_in ys
+damaged_append [] ys = omega arith
+damaged_append (x ∷ xs) ys = let rest = damaged_append xs ys in omega (arith, rest)

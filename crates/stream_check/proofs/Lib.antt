@@ -1,0 +1,20 @@
+pub mod Agreeing
+pub mod Rows
+pub mod Cuts
+pub mod Greedily
+pub mod PartCount
+pub mod Tables
+pub mod Seeing
+pub mod Keys
+pub mod Members
+pub mod Notice
+pub mod Knowing
+pub mod Ensembles
+pub mod Beginning
+pub mod Chain
+pub mod Steps
+pub mod Loops
+pub mod FrameEnd
+pub mod Framing
+pub mod Followed
+mod Vectors

@@ -1,0 +1,174 @@
+-- Entries with when they were heard, and the entries alone.
+use Rattle.std.proofs.Common.{Bor, ◌≡◌, ◌≢◌, ℕ, zero, suc, ◌+◌, ◌*◌, ◌<◌, ◌≤◌, ◌==◌, Bool, true, false, cond, not, nat_lt, List, [], ◌∷◌, ◌++◌, length, map, Option, Some, None, is_some, refl, sym, ap, ◌∙◌, arith, inl, inr, subst, lt-ltb, le-ltb}
+use Rattle.std.specs.Prelude.{◌||◌}
+use Rattle.std.specs.Option.{option_copied}
+use Rattle.std.specs.List.{AllByRecursion, find, list_any}
+use Rattle.std.proofs.lemmas.Bool.{cases_lt, false≢true, eq-eqb, eqb-true}
+use Rattle.std.proofs.lemmas.List.{length-map}
+use Rattle.mux_config.specs.Tables.{entry_at, with_entry, with_entry_changed, has_entry}
+use Rattle.fib_reader.specs.Raw.{Raw}
+use Rattle.fib_reader.specs.Listening.{Pictured, identifier_of, is_known, kept, has_room, pictured}
+use Rattle.stream_check.specs.declared.heard_table.Standing.{Standing}
+use Rattle.stream_check.specs.declared.heard_table.Standing.TheVariants as standings
+use Rattle.stream_check.specs.Pictures.{Heard, HeardPicture, heard_key, raws, heard_kept, shown, all_heard, picture_kept}
+use Rattle.stream_check.specs.Standing.{agree, standing_to, standing, list_for, standing_in}
+use Rattle.stream_check.specs.Rules.{finds_no_room, is_absent}
+
+abbrev pub raw_in : Option Heard → Option Raw
+raw_in None = None
+raw_in (Some h) = Some h.raw
+
+pub found_raw : (k : ℕ) (hs : List Heard) → entry_at identifier_of k (raws hs) ≡ raw_in (entry_at heard_key k hs)
+found_raw k [] = refl
+found_raw k (h ∷ hs) = elim (heard_key h == k) as (λ t. cond t (Some h.raw) (entry_at identifier_of k (raws hs)) ≡ raw_in (cond t (Some h) (entry_at heard_key k hs))) [
+  | true ↦ refl
+  | false ↦ found_raw k hs
+]
+
+-- how an entry stands to those of a table, by what is found there
+pub standing_found : (raw : Raw) (hs : List Heard) (found : Option Heard) → found ≡ entry_at heard_key (identifier_of raw) hs → standing raw (raws hs) ≡ standing_to raw (length hs) (raw_in found)
+standing_found raw hs found e =
+    ap (λ n. standing_to raw n (entry_at identifier_of (identifier_of raw) (raws hs))) (length-map hs (λ h. h.raw))
+    ∙ ap (standing_to raw (length hs)) (found_raw (identifier_of raw) hs ∙ ap raw_in (sym e))
+
+pub standing_known : (raw : Raw) (hs : List Heard) (h : Heard) (b : Bool) → Some h ≡ entry_at heard_key (identifier_of raw) hs → b ≡ agree h.raw raw → standing raw (raws hs) ≡ cond b standings.Same standings.Other
+standing_known raw hs h b e is = standing_found raw hs (Some h) e ∙ ap (λ t. cond t standings.Same standings.Other) (sym is)
+
+pub standing_new : (raw : Raw) (hs : List Heard) → None ≡ entry_at heard_key (identifier_of raw) hs → length hs < 64 → standings.Absent ≡ standing raw (raws hs)
+standing_new raw hs e lt = sym (standing_found raw hs None e ∙ ap (λ t. cond t standings.Absent standings.Full) (lt-ltb (length hs) 64 lt))
+
+pub standing_full : (raw : Raw) (hs : List Heard) → None ≡ entry_at heard_key (identifier_of raw) hs → 64 ≤ length hs → standings.Full ≡ standing raw (raws hs)
+standing_full raw hs e le = sym (standing_found raw hs None e ∙ ap (λ t. cond t standings.Absent standings.Full) (le-ltb (length hs) 64 le))
+
+-- whether a look-up finds one
+pub has_found : (k : ℕ) (hs : List Heard) → has_entry heard_key k hs ≡ is_some (entry_at heard_key k hs)
+has_found k [] = refl
+has_found k (h ∷ hs) = elim (heard_key h == k) as (λ t. (t || has_entry heard_key k hs) ≡ is_some (cond t (Some h) (entry_at heard_key k hs))) [
+  | true ↦ refl
+  | false ↦ has_found k hs
+]
+
+pub kept_known : (h : Heard) (hs : List Heard) → is_some (entry_at heard_key (heard_key h) hs) ≡ true → with_entry_changed heard_key h hs ≡ heard_kept h hs
+kept_known h hs e = sym (ap (λ t. cond t (with_entry_changed heard_key h hs) (with_entry heard_key h hs)) (has_found (heard_key h) hs ∙ e))
+
+pub kept_new : (h : Heard) (hs : List Heard) → is_some (entry_at heard_key (heard_key h) hs) ≡ false → with_entry heard_key h hs ≡ heard_kept h hs
+kept_new h hs e = sym (ap (λ t. cond t (with_entry_changed heard_key h hs) (with_entry heard_key h hs)) (has_found (heard_key h) hs ∙ e))
+
+-- ---- the entries alone
+
+has_raw : (k : ℕ) (hs : List Heard) → has_entry identifier_of k (raws hs) ≡ has_entry heard_key k hs
+has_raw k [] = refl
+has_raw k (h ∷ hs) = ap (λ t. (heard_key h == k) || t) (has_raw k hs)
+
+changed_raw : (h : Heard) (hs : List Heard) → raws (with_entry_changed heard_key h hs) ≡ with_entry_changed identifier_of h.raw (raws hs)
+changed_raw h [] = refl
+changed_raw h (x ∷ xs) = elim (heard_key x == heard_key h) as (λ t. (cond t h x).raw ∷ raws (with_entry_changed heard_key h xs) ≡ cond t h.raw x.raw ∷ with_entry_changed identifier_of h.raw (raws xs)) [
+  | true ↦ ap (λ ys. h.raw ∷ ys) (changed_raw h xs)
+  | false ↦ ap (λ ys. x.raw ∷ ys) (changed_raw h xs)
+]
+
+added_raw : (h : Heard) (hs : List Heard) → raws (with_entry heard_key h hs) ≡ with_entry identifier_of h.raw (raws hs)
+added_raw h [] = refl
+added_raw h (x ∷ xs) = elim (nat_lt (heard_key h) (heard_key x)) as (λ t. raws (cond t (h ∷ x ∷ xs) (x ∷ with_entry heard_key h xs)) ≡ cond t (h.raw ∷ x.raw ∷ raws xs) (x.raw ∷ with_entry identifier_of h.raw (raws xs))) [
+  | true ↦ refl
+  | false ↦ ap (λ ys. x.raw ∷ ys) (added_raw h xs)
+]
+
+pub kept_raw : (h : Heard) (hs : List Heard) → raws (heard_kept h hs) ≡ kept h.raw (raws hs)
+kept_raw h hs =
+    chosen (has_entry heard_key (heard_key h) hs)
+    ∙ ap (λ t. cond t (with_entry_changed identifier_of h.raw (raws hs)) (with_entry identifier_of h.raw (raws hs))) (sym (has_raw (heard_key h) hs))
+  where
+    chosen : (t : Bool) → raws (cond t (with_entry_changed heard_key h hs) (with_entry heard_key h hs)) ≡ cond t (with_entry_changed identifier_of h.raw (raws hs)) (with_entry identifier_of h.raw (raws hs))
+    chosen true = changed_raw h hs
+    chosen false = added_raw h hs
+
+-- ---- room
+
+or_right : (a b : Bool) → b ≡ true → (a || b) ≡ true
+or_right true b h = refl
+or_right false b h = h
+
+found_known : (k : ℕ) (rs : List Raw) (r : Raw) → entry_at identifier_of k rs ≡ Some r → has_entry identifier_of k rs ≡ true
+found_known k [] r e = absurd cc
+found_known k (x ∷ xs) r e = elim (identifier_of x == k) as (λ t. cond t (Some x) (entry_at identifier_of k xs) ≡ Some r → (t || has_entry identifier_of k xs) ≡ true) [
+  | true ↦ λ e. refl
+  | false ↦ λ e. found_known k xs r e
+] e
+
+room_where : (raw : Raw) (rs : List Raw) (found : Option Raw) → entry_at identifier_of (identifier_of raw) rs ≡ found → finds_no_room (standing_to raw (length rs) found) ≡ false → has_room raw rs ≡ true
+room_where raw rs None e free = elim (nat_lt (length rs) 64) as (λ t. nat_lt (length rs) 64 ≡ t → finds_no_room (cond t standings.Absent standings.Full) ≡ false → has_room raw rs ≡ true) [
+  | true ↦ λ few n. or_right (is_known raw rs) (nat_lt (length rs) 64) few
+  | false ↦ λ many n. absurd (false≢true (sym n))
+] refl free
+room_where raw rs (Some r) e free = ap (λ t. t || nat_lt (length rs) 64) (found_known (identifier_of raw) rs r e)
+
+has_room_where : (raw : Raw) (rs : List Raw) → finds_no_room (standing raw rs) ≡ false → has_room raw rs ≡ true
+has_room_where raw rs free = room_where raw rs (entry_at identifier_of (identifier_of raw) rs) refl free
+
+-- an entry for which there is room is taken into a picture
+pub pictured_kept : (h : Heard) (p : HeardPicture) → finds_no_room (standing_in h.raw (shown p)) ≡ false → pictured h.raw (shown p) ≡ Some (shown (picture_kept h p))
+pictured_kept h p room = elim (h.raw.ext == 1) as (λ t. finds_no_room (standing h.raw (cond t (raws p.subs) (cond (h.raw.ext == 2) (raws p.services) (raws p.packets)))) ≡ false
+    → cond t (Some (record (shown p) { subs = kept h.raw (raws p.subs) })) (cond (h.raw.ext == 2) (cond (has_room h.raw (raws p.services)) (Some (record (shown p) { services = kept h.raw (raws p.services) })) None) (cond (has_room h.raw (raws p.packets)) (Some (record (shown p) { packets = kept h.raw (raws p.packets) })) None))
+    ≡ Some (shown (cond t (record p { subs = heard_kept h p.subs }) (cond (h.raw.ext == 2) (record p { services = heard_kept h p.services }) (record p { packets = heard_kept h p.packets }))))) [
+      | true ↦ λ room. rw (kept_raw h p.subs) refl
+      | false ↦ elim (h.raw.ext == 2) as (λ t. finds_no_room (standing h.raw (cond t (raws p.services) (raws p.packets))) ≡ false
+          → cond t (cond (has_room h.raw (raws p.services)) (Some (record (shown p) { services = kept h.raw (raws p.services) })) None) (cond (has_room h.raw (raws p.packets)) (Some (record (shown p) { packets = kept h.raw (raws p.packets) })) None)
+          ≡ Some (shown (cond t (record p { services = heard_kept h p.services }) (record p { packets = heard_kept h p.packets })))) [
+            | true ↦ λ room. rw (has_room_where h.raw (raws p.services) room, kept_raw h p.services) refl
+            | false ↦ λ room. rw (has_room_where h.raw (raws p.packets) room, kept_raw h p.packets) refl
+          ]
+    ] room
+
+-- ---- what holds of each entry
+
+pub each_weaker : {X : Type 0} (P Q : X → Type 0) (xs : List X) → ((x : X) → P x → Q x) → AllByRecursion P xs → AllByRecursion Q xs
+each_weaker P Q [] f all = tt
+each_weaker P Q (x ∷ xs) f all = (f x all.0, each_weaker P Q xs f all.1)
+
+each_changed : (P Q : Heard → Type 0) (h : Heard) (hs : List Heard) → Q h → ((x : Heard) → (heard_key x == heard_key h) ≡ false → P x → Q x) → AllByRecursion P hs → AllByRecursion Q (with_entry_changed heard_key h hs)
+each_changed P Q h [] one other all = tt
+each_changed P Q h (x ∷ xs) one other all = (
+  elim (heard_key x == heard_key h) as (λ t. (heard_key x == heard_key h) ≡ t → Q (cond t h x)) [ true ↦ λ e. one | false ↦ λ e. other x e all.0 ] refl,
+  each_changed P Q h xs one other all.1,
+)
+
+or_first : (a b : Bool) → (a || b) ≡ false → a ≡ false
+or_first true b h = absurd (false≢true (sym h))
+or_first false b h = refl
+
+or_second : (a b : Bool) → (a || b) ≡ false → b ≡ false
+or_second true b h = absurd (false≢true (sym h))
+or_second false b h = h
+
+each_added : (P Q : Heard → Type 0) (h : Heard) (hs : List Heard) → Q h → has_entry heard_key (heard_key h) hs ≡ false → ((x : Heard) → (heard_key x == heard_key h) ≡ false → P x → Q x) → AllByRecursion P hs → AllByRecursion Q (with_entry heard_key h hs)
+each_added P Q h [] one none other all = (one, tt)
+each_added P Q h (x ∷ xs) one none other all =
+    let first : Q x = other x (or_first (heard_key x == heard_key h) (has_entry heard_key (heard_key h) xs) none) all.0 in
+    let left = or_second (heard_key x == heard_key h) (has_entry heard_key (heard_key h) xs) none in
+    let rest = each_added P Q h xs one left other all.1 in
+    elim (nat_lt (heard_key h) (heard_key x)) as (λ b. AllByRecursion Q (cond b (h ∷ x ∷ xs) (x ∷ with_entry heard_key h xs))) [
+      | true ↦ (one, (first, others xs left all.1))
+      | false ↦ (first, rest)
+    ]
+  where
+    others : (ys : List Heard) → has_entry heard_key (heard_key h) ys ≡ false → AllByRecursion P ys → AllByRecursion Q ys
+    others [] none all = tt
+    others (y ∷ ys) none all = (other y (or_first (heard_key y == heard_key h) (has_entry heard_key (heard_key h) ys) none) all.0, others ys (or_second (heard_key y == heard_key h) (has_entry heard_key (heard_key h) ys) none) all.1)
+
+-- the entry that is kept, and each other one
+pub each_kept : (P Q : Heard → Type 0) (h : Heard) (hs : List Heard) → Q h → ((x : Heard) → (heard_key x == heard_key h) ≡ false → P x → Q x) → AllByRecursion P hs → AllByRecursion Q (heard_kept h hs)
+each_kept P Q h hs one other all = elim (has_entry heard_key (heard_key h) hs) as (λ t. has_entry heard_key (heard_key h) hs ≡ t → AllByRecursion Q (cond t (with_entry_changed heard_key h hs) (with_entry heard_key h hs))) [
+  | true ↦ λ e. each_changed P Q h hs one other all
+  | false ↦ λ e. each_added P Q h hs one e other all
+] refl
+
+-- ---- look-ups
+
+pub copied_is_some : {X : Type 0} (o : Option (Bor X)) → is_some (option_copied o) ≡ is_some o
+copied_is_some None = refl
+copied_is_some (Some x) = refl
+
+pub none_where : {X : Type 0} (o : Option X) → is_some o ≡ false → o ≡ None
+none_where None e = refl
+none_where (Some x) e = absurd (false≢true (sym e))

@@ -1,0 +1,9 @@
+use Rattle.std.proofs.Common.{◌≡◌, length, map}
+use Rattle.stream_check.specs.Frames.{Reading, first_of_frame}
+use Rattle.stream_check.proofs.frame.first_of_fibs.Given as goal
+
+abbrev pub invariant-loop-fib : goal.invariant-loop-fib
+invariant-loop-fib l = (r : Reading) → first_of_frame (map r.read l.rest) ≡ first_of_frame (map r.read l.fibs)
+
+abbrev pub decreases-loop-fib : goal.decreases-loop-fib
+decreases-loop-fib l = length l.rest

@@ -1,0 +1,14 @@
+pub mod Telling
+pub mod Pictures
+pub mod Standing
+pub mod Cutting
+pub mod Parts
+pub mod Frames
+pub mod History
+pub mod Rules
+pub mod Stream
+pub mod Memory
+pub mod Hearing
+pub mod Following
+pub use Rattle.fib_reader.specs.Listening
+pub use Rattle.fib_reader.specs.Raw

@@ -1,0 +1,101 @@
+-- What is found in a frame, and in frames one after the other.
+use Rattle.std.specs.Prelude.{◌≡◌, ℕ, ◌+◌, ◌%◌, ◌==◌, ◌&&◌, Bool, true, false, if◌then◌else◌, nat_lt, List, [], ◌∷◌, ◌++◌, length, map, Option, Some, None}
+use Rattle.mux_entries.specs.Entries.{EnsembleInformation}
+use Rattle.stream_check.specs.declared.finding.Finding.{Finding}
+use Rattle.stream_check.specs.declared.finding.Fault.TheVariants as faults
+use Rattle.stream_check.specs.declared.finding.Event.TheVariants as events
+use Rattle.stream_check.specs.declared.finding.What.{What}
+use Rattle.stream_check.specs.declared.finding.What.TheVariants as whats
+use Rattle.stream_check.specs.declared.telling.FrameAt.{FrameAt}
+use Rattle.stream_check.specs.Telling.{when, in_frame}
+use Rattle.stream_check.specs.Frames.{Fib, damaged_in, first_of_frame, first_opening, lacks_opening}
+use Rattle.stream_check.specs.History.{Item, Moment, Said, Ended, said, frame_items, frames_ended, due}
+use Rattle.stream_check.specs.Rules.{known_of, findings_at, has_no_room, silent_findings}
+
+-- ---- counts
+
+abbrev pub count_in : Option EnsembleInformation → ℕ
+count_in None = 0
+count_in (Some e) = e.count
+
+abbrev pub eid_in : Option EnsembleInformation → ℕ
+eid_in None = 0
+eid_in (Some e) = e.eid
+
+-- the count that is due in a frame: at first that of its first FIG 0/0
+abbrev pub count_due : Option ℕ → List Fib → ℕ
+count_due None frame = count_in (first_of_frame frame)
+count_due (Some count) frame = count
+
+abbrev pub placed_count : ℕ → ℕ → Option EnsembleInformation → ℕ
+placed_count step due None = due
+placed_count step due (Some e) = if e.count % step == 0 then e.count else due
+
+-- that of its FIG 0/0 in place, else the one due
+abbrev pub count_of_frame : ℕ → Option ℕ → List Fib → ℕ
+count_of_frame step last frame = placed_count step (count_due last frame) (first_opening frame)
+
+-- ---- of a frame as a whole
+
+abbrev pub first_line : Option ℕ → List Fib → List What
+first_line None frame = whats.Event (events.Ensemble (eid_in (first_of_frame frame))) ∷ []
+first_line (Some count) frame = []
+
+abbrev pub frame_findings : (size step : ℕ) → Option ℕ → List Fib → List What
+frame_findings size step last frame =
+    first_line last frame
+    ++ (when (nat_lt (length frame) size) (faults.ShortFrame (length frame))
+    ++ (when (nat_lt 0 (damaged_in frame)) (faults.Damaged (damaged_in frame))
+    ++ when (count_due last frame % step == 0 && lacks_opening frame) faults.NoEnsemble))
+
+-- ---- at its entries, one after the other, as long as there is room
+
+abbrev pub findings_at_items : (step period : ℕ) → List Moment → List Item → List What
+findings_at_items step period past [] = []
+findings_at_items step period past (i ∷ is) =
+    if has_no_room (known_of step period past) i then []
+    else findings_at (known_of step period past) i ++ findings_at_items step period (Said i ∷ past) is
+
+-- whether there is no room for one of them
+abbrev pub runs_full : (step period : ℕ) → List Moment → List Item → Bool
+runs_full step period past [] = false
+runs_full step period past (i ∷ is) =
+    if has_no_room (known_of step period past) i then true else runs_full step period (Said i ∷ past) is
+
+-- ---- all that is found
+
+abbrev pub frame_at : ℕ → List Moment → List Fib → FrameAt
+frame_at step past frame = record { frame = frames_ended past; count = count_of_frame step (due past) frame }
+
+abbrev pub last_findings : Bool → ℕ → List Moment → List What
+last_findings full period past = if full then [] else silent_findings period past
+
+-- in a frame
+abbrev pub findings_in : (size step period : ℕ) → List Moment → List Fib → List Finding
+findings_in size step period past frame =
+    map (in_frame (frame_at step past frame))
+    (frame_findings size step (due past) frame
+    ++ (findings_at_items step period past (frame_items frame)
+    ++ last_findings (runs_full step period past (frame_items frame)) period (said (frame_items frame) past)))
+
+-- the past, a frame later
+abbrev pub after_frame : ℕ → List Moment → List Fib → List Moment
+after_frame step past frame = Ended (count_of_frame step (due past) frame) ∷ said (frame_items frame) past
+
+-- in frames, one after the other; all ends where there is no room for an entry
+abbrev pub findings_of : (size step period : ℕ) → List Moment → List (List Fib) → List Finding
+findings_of size step period past [] = []
+findings_of size step period past (frame ∷ frames) =
+    findings_in size step period past frame
+    ++ (if runs_full step period past (frame_items frame) then []
+    else findings_of size step period (after_frame step past frame) frames)
+
+-- the past after frames
+abbrev pub after_frames : ℕ → List Moment → List (List Fib) → List Moment
+after_frames step past [] = past
+after_frames step past (frame ∷ frames) = after_frames step (after_frame step past frame) frames
+
+abbrev pub frames_full : (step period : ℕ) → List Moment → List (List Fib) → Bool
+frames_full step period past [] = false
+frames_full step period past (frame ∷ frames) =
+    if runs_full step period past (frame_items frame) then true else frames_full step period (after_frame step past frame) frames

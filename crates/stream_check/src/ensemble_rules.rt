@@ -1,0 +1,211 @@
+//! What is found at a FIG 0/0 (EN 300 401 clauses 6.4 and 6.5).
+
+ghost use Rattle.std.specs.Prelude.{◌≡◌};
+ghost use Rattle.stream_check.specs.Rules.{can_fall_at};
+
+use crate::finding::{Event, Fault, What};
+use crate::memory::Memory;
+use crate::telling::{FrameAt, Report, tell, tell_if};
+use mux_config::Ensemble;
+
+/// Whether a swap can fall on a count of this low part.
+fn can_fall_at(step: u16, low: u8) -> bool
+    ensures { result ≡ can_fall_at step low }
+{
+    low < 250 && (low % 2 == 0 || step % 2 != 0)
+}
+
+impl Memory {
+    ghost use Rattle.std.specs.Prelude.{◌≡◌, ◌<◌, ◌≤◌, map, if◌then◌else◌};
+    ghost use Rattle.stream_check.specs.Telling.{with_more, in_frame};
+    ghost use Rattle.stream_check.specs.Rules.{is_placed, makes_swap, announces_another, is_other, place_faults, swap_or_another, announcement, announces_first, ensemble_findings};
+    ghost use Rattle.stream_check.specs.Memory.{IsSane, known_in, most, with_swap, with_flags, with_ensemble};
+
+    /// Whether a FIG 0/0 is in place: the first FIG of its frame, at a count that the mode's step divides.
+    pub(crate) fn is_in_place(&self, first: bool, ensemble: &Ensemble) -> bool
+        requires step { 0 < self.now.step }
+        ensures { result ≡ is_placed (known_in self.now) first ensemble.now }
+    {
+        first && ensemble.count() % self.step == 0
+    }
+
+    /// Whether the awaited swap is made here.
+    fn is_made(&self, ensemble: &Ensemble) -> bool
+        ensures { result ≡ makes_swap (known_in self.now) ensemble.now }
+    {
+        match self.awaited {
+            Some(low) => ensemble.change() == 0 || ensemble.count() % 250 == u16::from(low),
+            None => false,
+        }
+    }
+
+    /// Whether another swap is announced than the one that is awaited.
+    fn announces_another(&self, ensemble: &Ensemble) -> bool
+        ensures { result ≡ announces_another (known_in self.now) ensemble.now }
+    {
+        match self.awaited {
+            Some(low) => {
+                ensemble.change() != self.flags || ensemble.occurrence().unwrap_or(0) != low
+            }
+            None => false,
+        }
+    }
+
+    /// Whether it is of another ensemble than the last one in place.
+    fn is_other_ensemble(&self, ensemble: &Ensemble) -> bool
+        ensures { result ≡ is_other ensemble.now.eid self.now.eid }
+    {
+        match self.eid {
+            Some(eid) => ensemble.eid() != eid,
+            None => false,
+        }
+    }
+
+    /// Whether another count was due.
+    fn is_other_count(&self, ensemble: &Ensemble) -> bool
+        ensures { result ≡ is_other ensemble.now.count self.now.due }
+    {
+        match self.due {
+            Some(due) => ensemble.count() != due,
+            None => false,
+        }
+    }
+
+    /// Tells where it is not in place, or not what its place asks.
+    fn tell_place<R: Report>(&self, at: FrameAt, first: bool, ensemble: &Ensemble, report: &mut R)
+        requires step { 0 < self.now.step }
+        ensures { R.told report.new ≡ with_more (R.told report.old)
+            (map (in_frame at) (place_faults (known_in self.now) first ensemble.now)) }
+    {
+        let is_in_place = self.is_in_place(first, ensemble);
+        let is_other_ensemble = is_in_place && self.is_other_ensemble(ensemble);
+        tell_if(
+            is_other_ensemble,
+            at,
+            Fault::OtherEnsemble(ensemble.eid()),
+            report,
+        );
+        let is_other_count = is_in_place && self.is_other_count(ensemble);
+        tell_if(
+            is_other_count,
+            at,
+            Fault::Count(self.due.unwrap_or(0)),
+            report,
+        );
+        tell_if(!is_in_place, at, Fault::OutOfPlace, report);
+    }
+
+    /// Tells what a swap shows, where it is one, or else whether it announces another one.
+    fn tell_swap_or_another<R: Report>(&self, at: FrameAt, ensemble: &Ensemble, report: &mut R)
+        ensures { R.told report.new ≡ with_more (R.told report.old)
+            (map (in_frame at) (swap_or_another (known_in self.now) ensemble.now)) }
+    {
+        if self.is_made(ensemble) {
+            self.tell_swap(at, ensemble, report);
+            return;
+        }
+        let another = Fault::AnnouncedAgain(ensemble.change(), ensemble.occurrence().unwrap_or(0));
+        tell_if(self.announces_another(ensemble), at, another, report);
+    }
+
+    /// Whether this is a first announcement: flags where nothing was awaited, or where the swap has just been made.
+    fn announces_first(&self, ensemble: &Ensemble) -> bool
+        ensures { result ≡ announces_first (known_in self.now) ensemble.now }
+    {
+        ensemble.change() > 0 && (self.is_made(ensemble) || self.awaited.is_none())
+    }
+
+    /// Tells a first announcement.
+    fn tell_announcement<R: Report>(&self, at: FrameAt, ensemble: &Ensemble, report: &mut R)
+        ensures { R.told report.new ≡ with_more (R.told report.old)
+            (map (in_frame at) (announcement (known_in self.now) ensemble.now)) }
+    {
+        if self.announces_first(ensemble) {
+            let low = ensemble.occurrence().unwrap_or(0);
+            tell(
+                at,
+                What::Event(Event::Announced(ensemble.change(), low)),
+                report,
+            );
+            tell_if(
+                !can_fall_at(self.step, low),
+                at,
+                Fault::NoSwapAt(low),
+                report,
+            );
+        }
+    }
+
+    /// Tells what is found at a FIG 0/0.
+    fn tell_ensemble<R: Report>(
+        &self,
+        at: FrameAt,
+        first: bool,
+        ensemble: &Ensemble,
+        report: &mut R,
+    )
+        requires step { 0 < self.now.step }
+        ensures { R.told report.new ≡ with_more (R.told report.old)
+            (map (in_frame at) (ensemble_findings (known_in self.now) first ensemble.now)) }
+    {
+        self.tell_place(at, first, ensemble, report);
+        self.tell_swap_or_another(at, ensemble, report);
+        self.tell_announcement(at, ensemble, report);
+        let is_bare = ensemble.change() == 0 && self.began_early;
+        tell_if(is_bare, at, Fault::NextUnannounced, report);
+    }
+
+    /// Takes note of change flags.
+    fn note_flags(&mut self, ensemble: &Ensemble)
+        requires times { self.old.times ≤ 3 }
+        ensures { self.new ≡ with_flags ensemble.now self.old }
+    {
+        if ensemble.change() > 0 {
+            self.is_cut_off = self.is_cut_off || !self.tuned;
+            self.awaited = ensemble.occurrence();
+            self.flags = ensemble.change();
+            self.times = (self.times + 1).min(3);
+            self.has_begun = true;
+        }
+    }
+
+    /// Takes note of a FIG 0/0.
+    fn note_ensemble(&mut self, first: bool, ensemble: &Ensemble)
+        requires step { 0 < self.old.step }
+        requires times { self.old.times ≤ 3 }
+        ensures { self.new ≡ with_ensemble first ensemble.now self.old }
+    {
+        let is_in_place = self.is_in_place(first, ensemble);
+        self.note_flags(ensemble);
+        if self.eid.is_none() || is_in_place {
+            self.eid = Some(ensemble.eid());
+        }
+        self.began_early = false;
+        self.has_ensemble = true;
+        self.tuned = true;
+    }
+
+    /// Takes note of a FIG 0/0, and tells what is found at it.
+    pub(crate) fn hear_ensemble<R: Report>(
+        &mut self,
+        at: FrameAt,
+        first: bool,
+        ensemble: &Ensemble,
+        report: &mut R,
+    )
+        requires step { 0 < self.old.step }
+        requires times { self.old.times ≤ 3 }
+        requires frames { self.old.frames < most }
+        requires period { self.old.period < 65536 }
+        ensures told { R.told report.new ≡ with_more (R.told report.old)
+            (map (in_frame at) (ensemble_findings (known_in self.old) first ensemble.now)) }
+        ensures memory { self.new ≡ with_ensemble first ensemble.now
+            (if makes_swap (known_in self.old) ensemble.now then with_swap self.old else self.old) }
+    {
+        self.tell_ensemble(at, first, ensemble, report);
+        if self.is_made(ensemble) {
+            self.swap();
+        }
+        self.note_ensemble(first, ensemble);
+    }
+}

@@ -1,0 +1,165 @@
+//! What is found in a frame (EN 300 401 clauses 5.1, 6.4 and 6.5).
+
+ghost use Rattle.std.specs.Prelude.{◌≡◌};
+ghost use Rattle.stream_check.specs.Memory.{later};
+
+use crate::finding::{Event, Fault, What};
+use crate::frame::{damaged_of, first_of_fibs, is_unopened, opening_of};
+use crate::heard_entry::HeardEntry;
+use crate::member_rules::name_of;
+use crate::memory::Memory;
+use crate::telling::{FrameAt, Report, tell, tell_if};
+
+/// The later of two numbers.
+fn later(one: u64, other: u64) -> u64
+    ensures { result ≡ later one other }
+{
+    if one < other { other } else { one }
+}
+
+impl Memory {
+    ghost use Rattle.std.specs.Prelude.{◌≡◌, ◌<◌, ◌≤◌, ◌==◌, ◌&&◌, map, not, true, false};
+    ghost use Rattle.stream_check.specs.Telling.{with_more, in_frame};
+    ghost use Rattle.stream_check.specs.Frames.{Reading};
+    ghost use Rattle.stream_check.specs.History.{frame_items};
+    ghost use Rattle.stream_check.specs.Stream.{count_due, count_of_frame, first_line, frame_findings};
+    ghost use Rattle.stream_check.specs.Memory.{IsSane, most, is_quiet, quiet_findings, silent_in};
+    ghost use Rattle.stream_check.specs.Hearing.{IsLater, HearsFrame};
+
+    /// The count that is due in a frame, in the first frame that of its first FIG 0/0.
+    fn count_due(&self, fibs: &[[u8; 32]]) -> u16
+        requires sane { IsSane self.now }
+        ensures value { (r : Reading) → result ≡ count_due self.now.due (map r.read fibs.now) }
+        ensures in_range { result < 5000 }
+    {
+        if let Some(due) = self.due {
+            return due;
+        }
+        match first_of_fibs(fibs) {
+            Some(ensemble) => ensemble.count(),
+            None => 0,
+        }
+    }
+
+    /// The count of a frame: that of the FIG 0/0 in place, else the one due.
+    fn count_of(&self, fibs: &[[u8; 32]]) -> u16
+        requires sane { IsSane self.now }
+        ensures value { (r : Reading)
+            → result ≡ count_of_frame self.now.step self.now.due (map r.read fibs.now) }
+        ensures in_range { result < 5000 }
+    {
+        let due = self.count_due(fibs);
+        match opening_of(fibs) {
+            Some(ensemble) => {
+                if ensemble.count() % self.step == 0 {
+                    ensemble.count()
+                } else {
+                    due
+                }
+            }
+            None => due,
+        }
+    }
+
+    /// Tells the ensemble of the first frame.
+    fn tell_first_line<R: Report>(&self, at: FrameAt, fibs: &[[u8; 32]], report: &mut R)
+        ensures { (r : Reading) → R.told report.new ≡ with_more (R.told report.old)
+            (map (in_frame at) (first_line self.now.due (map r.read fibs.now))) }
+    {
+        if self.due.is_some() {
+            return;
+        }
+        let eid = match first_of_fibs(fibs) {
+            Some(ensemble) => ensemble.eid(),
+            None => 0,
+        };
+        tell(at, What::Event(Event::Ensemble(eid)), report);
+    }
+
+    /// Tells what is found at a frame as a whole.
+    fn tell_frame<R: Report>(&self, at: FrameAt, size: usize, fibs: &[[u8; 32]], report: &mut R)
+        requires sane { IsSane self.now }
+        ensures { (r : Reading) → R.told report.new ≡ with_more (R.told report.old)
+            (map (in_frame at)
+            (frame_findings size self.now.step self.now.due (map r.read fibs.now))) }
+    {
+        self.tell_first_line(at, fibs, report);
+        let count = fibs.len() as u64;
+        tell_if(fibs.len() < size, at, Fault::ShortFrame(count), report);
+        let damaged = damaged_of(fibs);
+        tell_if(damaged > 0, at, Fault::Damaged(damaged), report);
+        let is_missing = self.count_due(fibs) % self.step == 0 && is_unopened(fibs);
+        tell_if(is_missing, at, Fault::NoEnsemble, report);
+    }
+
+    /// Whether an entry of the current configuration was heard for the last time as many frames before this one as the
+    /// period has.
+    fn is_quiet(&self, entry: &HeardEntry) -> bool
+        requires frames { self.now.frames < most }
+        ensures { result
+            ≡ is_quiet self.now.swapped self.now.period self.now.frames entry.now }
+    {
+        let last = later(entry.at(), self.swapped);
+        let now = self.frames + 1;
+        if last > now {
+            return false;
+        }
+        now - last == self.period
+    }
+
+    /// Tells which of these entries of the current configuration are silent.
+    fn tell_quiet<R: Report>(&self, at: FrameAt, entries: &[HeardEntry], report: &mut R)
+        requires frames { self.now.frames < most }
+        ensures { R.told report.new ≡ with_more (R.told report.old) (map (in_frame at)
+            (quiet_findings self.now.swapped self.now.period self.now.frames entries.now)) }
+    {
+        let mut rest = entries;
+        while let Some((entry, after)) = rest.split_first() {
+            let is_quiet = self.is_quiet(entry);
+            tell_if(is_quiet, at, Fault::Silent(name_of(&entry.lent())), report);
+            rest = after;
+        }
+    }
+
+    /// Tells which entries of the current configuration are silent.
+    fn tell_silent<R: Report>(&self, at: FrameAt, report: &mut R)
+        requires frames { self.now.frames < most }
+        ensures { R.told report.new ≡ with_more (R.told report.old)
+            (map (in_frame at) (silent_in self.now)) }
+    {
+        self.tell_quiet(at, self.current.subs().as_slice(), report);
+        self.tell_quiet(at, self.current.services().as_slice(), report);
+        self.tell_quiet(at, self.current.packets().as_slice(), report);
+    }
+
+    /// Hears a frame of FIBs, and tells what is found in it. The answer is false where a picture had no room for an
+    /// entry of it, after which nothing more is told.
+    pub(crate) fn hear_frame<R: Report>(
+        &mut self,
+        size: usize,
+        fibs: &[[u8; 32]],
+        report: &mut R,
+    ) -> bool
+        requires sane { IsSane self.old }
+        requires frames { self.old.frames < most }
+        ensures sane { IsSane self.new }
+        ensures bound { self.new.frames ≤ most }
+        ensures step { self.new.step ≡ self.old.step }
+        ensures period { self.new.period ≡ self.old.period }
+        ensures heard { (r : Reading) → HearsFrame size (map r.read fibs.now) self.old
+            (R.told report.old) self.new (R.told report.new) (not result) }
+    {
+        let count = self.count_of(fibs);
+        let at = FrameAt {
+            frame: self.frames,
+            count,
+        };
+        self.tell_frame(at, size, fibs, report);
+        if !self.hear_fibs(at, fibs, report) {
+            return false;
+        }
+        self.tell_silent(at, report);
+        self.end_frame(count);
+        true
+    }
+}

@@ -1,0 +1,174 @@
+//! A frame is heard, entry by entry.
+
+use crate::frame::read;
+use crate::memory::Memory;
+use crate::telling::{FrameAt, Report};
+use fib_reader::{Entries, Fig, Figs, RawEntry};
+
+impl Memory {
+    ghost use Rattle.std.specs.Prelude.{◌≢◌, ◌<◌, [], ◌∷◌, map, not, Bool};
+    ghost use Rattle.stream_check.specs.Frames.{Reading};
+    ghost use Rattle.stream_check.specs.History.{items_of, fig_items, figs_items, fib_items, frame_items};
+    ghost use Rattle.stream_check.specs.Memory.{IsSane, most};
+    ghost use Rattle.stream_check.specs.Hearing.{IsLater, Hears};
+
+    /// Takes note of an entry of FIG 0/1 to 0/3, and tells what is found at it. Before the first FIG 0/0 it is passed
+    /// over. The answer is false where there is no room for it.
+    fn hear_member<R: Report>(
+        &mut self,
+        at: FrameAt,
+        next: bool,
+        entry: &RawEntry<'_>,
+        report: &mut R,
+    ) -> bool
+        requires member { entry.now.ext ≢ 0 }
+        requires few { entry.now.ext < 4 }
+        requires sane { IsSane self.old }
+        requires frames { self.old.frames < most }
+        ensures later { IsLater self.old self.new }
+        ensures heard { (first : Bool) → Hears at (items_of first next (entry.now ∷ []))
+            self.old (R.told report.old) self.new (R.told report.new) (not result) }
+    {
+        if !self.tuned {
+            return true;
+        }
+        if next {
+            return self.hear_next(at, entry, report);
+        }
+        self.hear_current(at, entry, report)
+    }
+
+    /// Takes note of one entry, and tells what is found at it.
+    fn hear_entry<R: Report>(
+        &mut self,
+        at: FrameAt,
+        first: bool,
+        next: bool,
+        entry: &RawEntry<'_>,
+        report: &mut R,
+    ) -> bool
+        requires sane { IsSane self.old }
+        requires frames { self.old.frames < most }
+        ensures later { IsLater self.old self.new }
+        ensures heard { Hears at (items_of first next (entry.now ∷ []))
+            self.old (R.told report.old) self.new (R.told report.new) (not result) }
+    {
+        if entry.ext() == 0 {
+            self.hear_ensemble(at, first, &entry.ensemble(), report);
+            return true;
+        }
+        self.hear_member(at, next, entry, report)
+    }
+
+    /// The same for the entries of one FIG.
+    fn hear_entries<R: Report>(
+        &mut self,
+        at: FrameAt,
+        first: bool,
+        next: bool,
+        mut entries: Entries<'_>,
+        report: &mut R,
+    ) -> bool
+        requires sane { IsSane self.old }
+        requires frames { self.old.frames < most }
+        ensures later { IsLater self.old self.new }
+        ensures heard { Hears at (items_of first next entries.entry)
+            self.old (R.told report.old) self.new (R.told report.new) (not result) }
+    {
+        while let Some(entry) = entries.next() {
+            if !self.hear_entry(at, first, next, &entry, report) {
+                return false;
+            }
+        }
+        true
+    }
+
+    /// The same for one FIG.
+    fn hear_fig<R: Report>(
+        &mut self,
+        at: FrameAt,
+        first: bool,
+        fig: &Fig<'_>,
+        report: &mut R,
+    ) -> bool
+        requires sane { IsSane self.old }
+        requires frames { self.old.frames < most }
+        ensures later { IsLater self.old self.new }
+        ensures heard { Hears at (fig_items first fig.now)
+            self.old (R.told report.old) self.new (R.told report.new) (not result) }
+    {
+        match fig.head() {
+            Some(head) => self.hear_entries(at, first, head.next, fig.entries(), report),
+            None => true,
+        }
+    }
+
+    /// The same for the FIGs of one FIB.
+    fn hear_figs<R: Report>(
+        &mut self,
+        at: FrameAt,
+        first: bool,
+        mut figs: Figs<'_>,
+        report: &mut R,
+    ) -> bool
+        requires sane { IsSane self.old }
+        requires frames { self.old.frames < most }
+        ensures later { IsLater self.old self.new }
+        ensures heard { Hears at (figs_items first figs.entry)
+            self.old (R.told report.old) self.new (R.told report.new) (not result) }
+    {
+        let mut is_first = first;
+        while let Some(fig) = figs.next() {
+            if !self.hear_fig(at, is_first, &fig, report) {
+                return false;
+            }
+            is_first = false;
+        }
+        true
+    }
+
+    /// The same for one FIB. A damaged one says nothing.
+    fn hear_fib<R: Report>(
+        &mut self,
+        at: FrameAt,
+        first: bool,
+        fib: &[u8; 32],
+        report: &mut R,
+    ) -> bool
+        requires sane { IsSane self.old }
+        requires frames { self.old.frames < most }
+        ensures later { IsLater self.old self.new }
+        ensures heard { (r : Reading) → Hears at (fib_items first (r.read fib.now))
+            self.old (R.told report.old) self.new (R.told report.new) (not result) }
+    {
+        match read(fib) {
+            Some(figs) => self.hear_figs(at, first, figs, report),
+            None => true,
+        }
+    }
+
+    /// The same for the FIBs of a frame.
+    pub(crate) fn hear_fibs<R: Report>(
+        &mut self,
+        at: FrameAt,
+        fibs: &[[u8; 32]],
+        report: &mut R,
+    ) -> bool
+        requires sane { IsSane self.old }
+        requires frames { self.old.frames < most }
+        ensures later { IsLater self.old self.new }
+        ensures heard { (r : Reading) → Hears at (frame_items (map r.read fibs.now))
+            self.old (R.told report.old) self.new (R.told report.new) (not result) }
+    {
+        let mut is_first = true;
+        let mut rest = fibs;
+        while let Some((fib, after)) = rest.split_first() {
+            if !self.hear_fib(at, is_first, fib, report) {
+                return false;
+            }
+            is_first = false;
+            rest = after;
+        }
+        true
+    }
+}

@@ -1,0 +1,18 @@
+//! What holds of all streams. Each law is a function that does nothing; its contract is the law.
+
+ghost use Rattle.stream_check.specs.Parts.{IsTheMost};
+ghost use Rattle.stream_check.specs.Frames.{Reading};
+
+/// The law of parts: of all ways to cut the frames of a notice into successive parts, each of which has all that is
+/// wanted, one that ends each part as soon as it has all gives the most parts. So the number that is told of a notice is
+/// the number of times that the next configuration could be read.
+pub fn parts()
+    ensures { IsTheMost }
+{}
+
+/// The law of reading: all FIBs can be read by the grammar, each as its FIGs or as damaged.
+pub fn reading()
+    ensures { Reading }
+{
+    fib_reader::laws::reading();
+}

@@ -1,0 +1,121 @@
+//! What is found at an entry of FIG 0/1 to 0/3 (EN 300 401 clause 6.5).
+
+ghost use Rattle.std.specs.Prelude.{◌≡◌, ◌≢◌};
+ghost use Rattle.stream_check.specs.Rules.{name_of};
+
+use crate::finding::{EntryName, Fault};
+use crate::heard_table::Standing;
+use crate::memory::Memory;
+use crate::telling::{FrameAt, Report, tell_if};
+use fib_reader::RawEntry;
+
+/// The name of an entry of FIG 0/1 to 0/3.
+pub(crate) fn name_of(entry: &RawEntry<'_>) -> EntryName
+    ensures { result ≡ name_of entry.now }
+{
+    let identifier = entry.identifier();
+    match entry.ext() {
+        1 => EntryName::Sub(identifier),
+        2 => {
+            if entry.long() {
+                EntryName::LongService(identifier - 65_536)
+            } else {
+                EntryName::Service(identifier)
+            }
+        }
+        _ => EntryName::Packet(identifier),
+    }
+}
+
+impl Memory {
+    ghost use Rattle.std.specs.Prelude.{◌≡◌, ◌≢◌, ◌<◌, ◌+◌, map, true, false};
+    ghost use Rattle.stream_check.specs.declared.heard_table.Standing.TheVariants as standings;
+    ghost use Rattle.stream_check.specs.Telling.{with_more, in_frame};
+    ghost use Rattle.stream_check.specs.Pictures.{shown};
+    ghost use Rattle.stream_check.specs.Standing.{standing_in};
+    ghost use Rattle.stream_check.specs.Rules.{finds_no_room, current_findings, next_findings};
+    ghost use Rattle.stream_check.specs.Memory.{known_in, most, with_current, with_begun, with_next};
+
+    /// Takes an entry into the current configuration, and tells what is found at it. The answer is whether there
+    /// was room for it; where there was none, nothing changes.
+    pub(crate) fn hear_current<R: Report>(
+        &mut self,
+        at: FrameAt,
+        entry: &RawEntry<'_>,
+        report: &mut R,
+    ) -> bool
+        requires frames { self.old.frames < most }
+        ensures room { result ≡ true →
+            finds_no_room (standing_in entry.now (shown self.old.current)) ≡ false }
+        ensures told { result ≡ true → R.told report.new ≡ with_more (R.told report.old)
+            (map (in_frame at) (current_findings (known_in self.old) entry.now)) }
+        ensures memory { result ≡ true → self.new ≡ with_current entry.now self.old }
+        ensures full { result ≡ false →
+            finds_no_room (standing_in entry.now (shown self.old.current)) ≡ true }
+        ensures nothing { result ≡ false → R.told report.new ≡ R.told report.old }
+        ensures unchanged { result ≡ false → self.new ≡ self.old }
+    {
+        let standing = self.current.standing(entry);
+        if standing == Standing::Full {
+            return false;
+        }
+        let name = name_of(entry);
+        tell_if(
+            standing == Standing::Other,
+            at,
+            Fault::Changed(name),
+            report,
+        );
+        let is_new = standing == Standing::Absent && self.settles_at <= self.frames;
+        tell_if(is_new, at, Fault::Appeared(name), report);
+        self.current.keep(entry, self.frames + 1);
+        true
+    }
+
+    /// Takes note that an entry of the next configuration came, which may begin the notice, and of one that it did not
+    /// have before.
+    fn note_next(&mut self, is_absent: bool)
+        ensures { self.new ≡ with_begun is_absent self.old }
+    {
+        if !self.has_begun {
+            self.began_early = !self.has_ensemble;
+        }
+        self.has_begun = true;
+        if is_absent {
+            self.since = 0;
+            self.parts = 0;
+        }
+    }
+
+    /// Takes an entry into the next configuration, and tells what is found at it. The answer is whether there
+    /// was room for it; where there was none, nothing changes.
+    pub(crate) fn hear_next<R: Report>(
+        &mut self,
+        at: FrameAt,
+        entry: &RawEntry<'_>,
+        report: &mut R,
+    ) -> bool
+        requires rows { self.old.rows < most }
+        ensures room { result ≡ true →
+            finds_no_room (standing_in entry.now (shown self.old.next)) ≡ false }
+        ensures told { result ≡ true → R.told report.new ≡ with_more (R.told report.old)
+            (map (in_frame at) (next_findings (known_in self.old) entry.now)) }
+        ensures memory { result ≡ true → self.new ≡ with_next entry.now self.old }
+        ensures full { result ≡ false →
+            finds_no_room (standing_in entry.now (shown self.old.next)) ≡ true }
+        ensures nothing { result ≡ false → R.told report.new ≡ R.told report.old }
+        ensures unchanged { result ≡ false → self.new ≡ self.old }
+    {
+        let standing = self.next.standing(entry);
+        if standing == Standing::Full {
+            return false;
+        }
+        let is_bare = !self.has_begun && self.has_ensemble;
+        tell_if(is_bare, at, Fault::NextUnannounced, report);
+        let other = Fault::NextChanged(name_of(entry));
+        tell_if(standing == Standing::Other, at, other, report);
+        self.note_next(standing == Standing::Absent);
+        self.next.keep(entry, self.rows + 1);
+        true
+    }
+}

@@ -1,0 +1,155 @@
+//! What is kept of what a stream said before.
+
+ghost use Rattle.std.specs.Prelude.{◌≡◌};
+
+use crate::picture::Picture;
+use fib_codec::Mode;
+use std::mem;
+
+/// What is kept of the frames heard so far.
+#[derive(Drop)]
+pub struct Memory {
+    /// The mode's step of counts.
+    pub(crate) step: u16,
+    /// The number of successive frames in any of which each entry of the current configuration has to come.
+    pub(crate) period: u64,
+    /// How many frames have ended.
+    pub(crate) frames: u64,
+    /// The count that is due.
+    pub(crate) due: Option<u16>,
+    /// The EId of the last FIG 0/0 in place.
+    pub(crate) eid: Option<u16>,
+    /// Whether the frame at hand had a FIG 0/0.
+    pub(crate) has_ensemble: bool,
+    /// Whether a FIG 0/0 was heard, and entries are kept.
+    pub(crate) tuned: bool,
+    /// The current configuration. Each entry has the number of the frame, from 1, in which it was last heard.
+    pub(crate) current: Picture,
+    /// The next configuration. Each entry has the number of the notice's frame, from 1, in which it was last heard.
+    pub(crate) next: Picture,
+    /// The low part of the count at which a swap is awaited.
+    pub(crate) awaited: Option<u8>,
+    /// The flags of the last flagged FIG 0/0.
+    pub(crate) flags: u8,
+    /// How many flagged FIG 0/0 the notice has, up to three.
+    pub(crate) times: u64,
+    /// Whether the notice's beginning was not heard.
+    pub(crate) is_cut_off: bool,
+    /// The number of the frame, from 1, in which the last swap was made.
+    pub(crate) swapped: u64,
+    /// The frame from which on the entries of the current configuration ought to be known.
+    pub(crate) settles_at: u64,
+    /// Whether the notice has begun.
+    pub(crate) has_begun: bool,
+    /// Whether an entry began it, since the last FIG 0/0, in a frame that had none yet.
+    pub(crate) began_early: bool,
+    /// How many of the notice's frames have ended.
+    pub(crate) rows: u64,
+    /// How many of them are in parts that are whole.
+    pub(crate) since: u64,
+    /// How many parts are whole.
+    pub(crate) parts: u64,
+}
+
+impl Memory {
+    ghost use Rattle.std.specs.Prelude.{◌≡◌, ◌<◌, ◌≤◌, [], false};
+    ghost use Rattle.fib_codec.specs.Modes.{count_step};
+    ghost use Rattle.stream_check.specs.Memory.{IsSane, Knows, most, with_swap, with_row, with_frame};
+
+    /// Nothing heard so far.
+    pub(crate) fn new(mode: Mode, period: u16) -> Self
+        ensures knows { Knows (count_step mode) period [] result }
+        ensures sane { IsSane result }
+        ensures frames { result.frames ≡ 0 }
+    {
+        Memory {
+            step: mode.step(),
+            period: u64::from(period),
+            frames: 0,
+            due: None,
+            eid: None,
+            has_ensemble: false,
+            tuned: false,
+            current: Picture::new(),
+            next: Picture::new(),
+            awaited: None,
+            flags: 0,
+            times: 0,
+            is_cut_off: false,
+            swapped: 0,
+            settles_at: u64::from(period),
+            has_begun: false,
+            began_early: false,
+            rows: 0,
+            since: 0,
+            parts: 0,
+        }
+    }
+
+    /// How many frames have ended.
+    pub(crate) fn frames(&self) -> u64
+        ensures { result ≡ self.now.frames }
+    {
+        self.frames
+    }
+
+    /// Whether as many frames have ended as are counted.
+    pub(crate) fn is_full(&self) -> bool
+        ensures { result ≡ false → self.now.frames < most }
+    {
+        self.frames >= 1u64 << 62
+    }
+
+    /// A frame of the notice is over.
+    fn end_row(&mut self)
+        requires rows { self.old.rows < most }
+        requires parts { self.old.parts < most }
+        ensures { self.new ≡ with_row self.old }
+    {
+        self.rows += 1;
+        if self.next.is_heard_since(self.since) {
+            self.parts += 1;
+            self.since = self.rows;
+        }
+    }
+
+    /// The frame at hand is over, which had this count.
+    pub(crate) fn end_frame(&mut self, count: u16)
+        requires count { count < 5000 }
+        requires frames { self.old.frames < most }
+        requires rows { self.old.rows < most }
+        requires parts { self.old.parts < most }
+        ensures { self.new ≡ with_frame count self.old }
+    {
+        if self.has_begun {
+            self.end_row();
+        }
+        self.has_ensemble = false;
+        self.frames += 1;
+        self.due = Some((count + 1) % 5000);
+    }
+
+    /// The next configuration becomes the current one.
+    #[inline(never)]
+    pub(crate) fn swap(&mut self)
+        requires frames { self.old.frames < most }
+        requires period { self.old.period < 65536 }
+        ensures { self.new ≡ with_swap self.old }
+    {
+        mem::swap(&mut self.current, &mut self.next);
+        self.next = Picture::new();
+        self.awaited = None;
+        self.settles_at = if self.is_cut_off {
+            self.frames + self.period
+        } else {
+            0
+        };
+        self.is_cut_off = false;
+        self.swapped = self.frames + 1;
+        self.times = 0;
+        self.has_begun = false;
+        self.rows = 0;
+        self.since = 0;
+        self.parts = 0;
+    }
+}

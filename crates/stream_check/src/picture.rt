@@ -1,0 +1,115 @@
+//! What was heard of one configuration, and when.
+
+ghost use Rattle.std.specs.Prelude.{◌≡◌, ◌≢◌};
+
+use crate::heard_table::{HeardTable, Standing};
+use fib_reader::RawEntry;
+use std::marker::Model;
+
+/// The entries of FIG 0/1 to 0/3 that were heard of one configuration, each with when it was last heard.
+#[derive(Drop)]
+pub struct Picture {
+    subs: HeardTable,
+    services: HeardTable,
+    packets: HeardTable,
+}
+
+impl Model for Picture {
+    ghost use Rattle.stream_check.specs.Pictures.{HeardPicture};
+
+    ghost Value = { HeardPicture };
+
+    ghost view = { λ p. record { subs = p.subs; services = p.services; packets = p.packets } };
+}
+
+impl Picture {
+    ghost use Rattle.std.specs.Prelude.{◌≡◌, ◌≢◌};
+    ghost use Rattle.stream_check.specs.Pictures.{empty_picture, shown, picture_kept, heard_since};
+    ghost use Rattle.stream_check.specs.Rules.{change_between};
+    ghost use Rattle.stream_check.specs.Standing.{standing_in};
+    ghost use Rattle.stream_check.specs.declared.heard_table.Standing.TheVariants as standings;
+
+    /// No entries.
+    pub(crate) fn new() -> Self
+        ensures { result ≡ empty_picture }
+    {
+        Picture {
+            subs: HeardTable::new(),
+            services: HeardTable::new(),
+            packets: HeardTable::new(),
+        }
+    }
+
+    /// The sub-channels in ascending order.
+    pub(crate) fn subs(&self) -> &HeardTable
+        ensures { result.now ≡ self.now.subs }
+    {
+        &self.subs
+    }
+
+    /// The services in ascending order.
+    pub(crate) fn services(&self) -> &HeardTable
+        ensures { result.now ≡ self.now.services }
+    {
+        &self.services
+    }
+
+    /// The packet components in ascending order.
+    pub(crate) fn packets(&self) -> &HeardTable
+        ensures { result.now ≡ self.now.packets }
+    {
+        &self.packets
+    }
+
+    /// How an entry of FIG 0/1 to 0/3 stands to those that are here.
+    pub(crate) fn standing(&self, entry: &RawEntry<'_>) -> Standing
+        ensures { result ≡ standing_in entry.now (shown self.now) }
+    {
+        match entry.ext() {
+            1 => self.subs.standing(entry),
+            2 => self.services.standing(entry),
+            _ => self.packets.standing(entry),
+        }
+    }
+
+    /// Puts an entry of FIG 0/1 to 0/3 in place of the one with the same identifier, or beside the others, as heard
+    /// now. There must be room for it.
+    pub(crate) fn keep(&mut self, entry: &RawEntry<'_>, at: u64)
+        requires room { standing_in entry.now (shown self.old) ≢ standings.Full }
+        ensures { self.new ≡ picture_kept (record { raw = entry.now; at = at }) self.old }
+    {
+        match entry.ext() {
+            1 => self.subs.keep(entry, at),
+            2 => self.services.keep(entry, at),
+            _ => self.packets.keep(entry, at),
+        }
+    }
+
+    /// Whether each entry was heard after this number.
+    pub(crate) fn is_heard_since(&self, since: u64) -> bool
+        ensures { result ≡ heard_since since self.now }
+    {
+        self.subs.is_heard_since(since)
+            && (self.services.is_heard_since(since) && self.packets.is_heard_since(since))
+    }
+
+    /// The flags of the change to another picture: 1 where sub-channels differ, 2 where services or packet components
+    /// do, 3 where both do.
+    pub(crate) fn change_to(&self, other: &Picture) -> u8
+        ensures { result ≡ change_between (shown self.now) (shown other.now) }
+    {
+        let subs = if self.subs.has_same_entries(&other.subs) {
+            0
+        } else {
+            1
+        };
+        let has_same_services = self.services.has_same_entries(&other.services);
+        let has_same_packets = self.packets.has_same_entries(&other.packets);
+        let services = if has_same_services && has_same_packets {
+            0
+        } else {
+            2
+        };
+        subs + services
+    }
+}
