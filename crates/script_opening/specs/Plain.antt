@@ -1,0 +1,29 @@
+-- Scripts without blocks: a header, items that make a configuration, and acts, each on a line of its own as `print`
+-- lays them out.
+use Rattle.std.specs.Prelude.{◌≡◌, ℕ, ◌+◌, List, [], ◌∷◌, length}
+use Rattle.mux_config.specs.declared.edit.Edit.{Edit}
+use Rattle.script_front.specs.declared.tree.Act.{Act}
+use Rattle.script_front.specs.declared.tree.Header.{Header}
+use Rattle.script_front.specs.declared.tree.Item.{Item}
+use Rattle.script_front.specs.Block.{Block, nothing, basic, block_of}
+use Rattle.script_front.specs.Tree.{Tree}
+
+-- edits as items, on lines from this one on
+abbrev pub items_from : ℕ → List Edit → List Item
+items_from line [] = []
+items_from line (e ∷ es) = record { line = line; edit = e } ∷ items_from (line + 1) es
+
+-- acts before a block, on lines from this one on
+abbrev pub acts_from : ℕ → List Act → Block → Block
+acts_from line [] rest = rest
+acts_from line (a ∷ acts) rest = basic line a (acts_from (line + 1) acts rest)
+
+-- the script of this header, these edits as items and these acts: the header has two lines, and `begin` one
+pub record IsPlain (header : Header) (edits : List Edit) (acts : List Act) (s : Tree) : Type 0 where
+  pub heads : s.header ≡ header
+  pub items : s.items ≡ items_from 3 edits
+  pub names : s.names ≡ []
+  pub blocks : s.blocks ≡ []
+  pub begins : s.begin_line ≡ 3 + length edits
+  pub statements : block_of [] s.statements ≡ acts_from (4 + length edits) acts nothing
+  pub ends : s.last_line ≡ 3 + length edits + length acts

@@ -1,0 +1,50 @@
+//! Headers within their ranges.
+
+ghost use Rattle.std.specs.Prelude.{◌≡◌, IfSome, IfNone};
+ghost use Rattle.script_front.specs.Tree.{IsHeader};
+
+use fib_codec::Mode;
+use script_front::Header;
+
+/// The header of these numbers; None where the period is not 1 to 60 frames, the notice not 12 to 248 frames, or the
+/// budget not 1 to 255 instructions per frame.
+pub fn header_of(eid: u16, mode: Mode, period: u8, notice: u8, budget: u8) -> Option<Header>
+    ensures formed { IfSome result IsHeader }
+    ensures value { IfSome result (λ h. h ≡ record {
+      eid = eid;
+      mode = mode;
+      period = period;
+      notice = notice;
+      budget = budget;
+    }) }
+    ensures none { IfNone result (IsHeader (record {
+      eid = eid;
+      mode = mode;
+      period = period;
+      notice = notice;
+      budget = budget;
+    }) → ⊥) }
+{
+    if period < 1 {
+        return None;
+    }
+    if period > 60 {
+        return None;
+    }
+    if notice < 12 {
+        return None;
+    }
+    if notice > 248 {
+        return None;
+    }
+    if budget < 1 {
+        return None;
+    }
+    Some(Header {
+        eid,
+        mode,
+        period,
+        notice,
+        budget,
+    })
+}
