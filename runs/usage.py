@@ -22,7 +22,7 @@ def twice(name):
 def wrong_command_lines(rows):
     """Command lines that are wrong, each with its line; no file is read, or there would be another line."""
     for line, wanted in (
-        ("", "a command is wanted: frame, listen, compile, verify, play, debug or help"),
+        ("", "a command is wanted: frame, listen, check, compile, verify, play, debug or help"),
         ("fram", "unrecognized subcommand 'fram'; tip: a similar subcommand exists: 'frame'"),
         ("frame - --ensemble E1C5", required("--count <N>")),
         ("frame - --ensemble E1C --count 0", f"invalid value 'E1C' for '--ensemble <HHHH>': {FOUR_DIGITS}"),
@@ -43,6 +43,10 @@ def wrong_command_lines(rows):
         ("frame - --ensemble E1C5 --count 0 --count 0", twice("--count <N>")),
         ("listen", required("<FILE>")),
         ("listen a b", "unexpected argument 'b' found"),
+        ("check", required("<FILE>")),
+        ("check x.fib --mode 5", "invalid value '5' for '--mode <M>': 5 is not in 1..=4"),
+        ("check x.fib --period 0", "invalid value '0' for '--period <N>': 0 is not in 1..=60000"),
+        ("check x.fib --period 60001", "invalid value '60001' for '--period <N>': 60001 is not in 1..=60000"),
         ("verify", required("<CODE>")),
         ("verify a b", "unexpected argument 'b' found"),
     ):
@@ -72,6 +76,7 @@ def help_is_no_fault(rows):
         ("help", "Usage: dabplan <COMMAND>"),
         ("frame --help", "Usage: dabplan frame <CONFIG> --ensemble <HHHH> --count <N> [--page <K>] [--mode <M>]"),
         ("help listen", "Usage: dabplan listen <FILE>"),
+        ("help check", "Usage: dabplan check <FILE> [--mode <M>] [--period <N>]"),
         ("verify --help", "Usage: dabplan verify <CODE>"),
     ):
         ended = rows.run(line)
@@ -81,7 +86,7 @@ def help_is_no_fault(rows):
 def the_names_in_the_help(rows):
     """Each name of a fault that a help page has stands in the document of the commands too."""
     document = (pathlib.Path(__file__).resolve().parent.parent / "docs/COMMANDS.md").read_text(encoding="utf-8")
-    for line in ("help", *(f"help {command}" for command in ("frame", "listen", "compile", "verify", "play", "debug"))):
+    for line in ("help", *(f"help {command}" for command in ("frame", "listen", "check", "compile", "verify", "play", "debug"))):
         names = set(re.findall(r"\b[A-Za-z]*[a-z][A-Z][A-Za-z]*\b", rows.run(line).printed.decode()))
         rows.tally.same(f"names in {line}", [], sorted(name for name in names if name not in document))
 

@@ -11,6 +11,7 @@ What goes in and comes out:
           packet components there are, and then each of them, field by field. It prints the
           three FIBs of a frame, in mode 3 four, of 32 bytes each as hexadecimal digits.
   listen  reads a binary file of FIBs, and prints the multiplex that they describe.
+  check   reads a binary file of FIBs, and prints where it breaks the rules of reconfigurations.
   compile reads a script, the text of a plan of reconfigurations, and writes its code file.
   verify  reads a code file, the binary form of a plan of reconfigurations. It says whether the
           plan can be played without going wrong, or what is wrong with it and where.
@@ -100,6 +101,43 @@ Example: the FIBs that 'dabplan frame' writes, heard again
 Exit status:
   0  the listing was printed
   1  the file holds no whole FIBs or more than 64 services or packet components, or can't be read
+  2  the command line is wrong";
+
+pub const CHECK: &str = "Tells where a stream of FIBs breaks the rules of reconfigurations";
+
+pub const LONG_CHECK: &str = "\
+Tells where a stream of FIBs breaks the rules of reconfigurations (EN 300 401, clause 6.5).
+
+In goes a file of whole FIBs of 32 bytes, one after another, as any multiplexer may have written
+them. Out come the swaps, how they were announced, and each fault, with its frame and CIF count: a
+swap that was not announced in time, at another count or with other flags; a next configuration
+that could not be read three times before its swap; an entry that changed, appeared or fell silent
+without a swap; a jump of the CIF count, a FIG 0/0 out of its place, a FIB that is damaged or lost.";
+
+pub const CHECK_USAGE: &str = "dabplan check <FILE> [--mode <M>] [--period <N>]";
+
+pub const AFTER_CHECK: &str = "\
+The lines, each with the number of its frame, from 0, and the CIF count of the frame:
+  0 0 ensemble E1C5                   the ensemble of the first FIG 0/0
+  4 4 announced 1 swap at low 28      flags 1: sub-channels change, 2: services, 3: both; the low
+                                      part of the CIF count of the swap
+  28 28 swap                          the next configuration becomes the current one
+  28 28 fault: announced for low 24   a fault; see docs/COMMANDS.md for each kind
+  frames 100 skipped 0 left over 0 damaged 0 swaps 1 faults 1
+                                      skipped: FIBs before the first FIG 0/0; left over: those
+                                      behind the last whole frame
+
+A frame has three FIBs, in mode 3 four, or fewer where the next one begins with a FIG 0/0.
+
+Example: one frame of one configuration, without a fault
+  printf '\\001\\001\\000\\001\\000\\000\\000\\003\\000\\200\\000\\302\\041\\001\\000\\077\\001' |
+    dabplan frame - --ensemble E1C5 --count 0 | xxd -r -p > frame.fib
+  dabplan check frame.fib
+
+Exit status:
+  0  there is no fault
+  1  there is one, or the file holds no whole FIBs, no FIG 0/0 or more than 64 services or packet
+     components, or can't be read
   2  the command line is wrong";
 
 pub const COMPILE: &str = "Compiles a script into a code file";

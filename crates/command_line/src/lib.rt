@@ -5,6 +5,6 @@ mod help;
 pub mod words;
 
 pub use words::{
-    CompileRequest, DebugRequest, FrameRequest, PlayRequest, Request, StartOptions, UsageError,
-    request_of,
+    CheckRequest, CompileRequest, DebugRequest, FrameRequest, PlayRequest, Request, StartOptions,
+    UsageError, request_of,
 };

@@ -23,6 +23,8 @@ pub enum Request<'a> {
     Frame(FrameRequest<'a>),
     /// `listen`, and the path of its file.
     Listen(&'a str),
+    /// `check`.
+    Check(CheckRequest<'a>),
     /// `compile`.
     Compile(CompileRequest<'a>),
     /// `verify`, and the path of its code file.
@@ -31,6 +33,17 @@ pub enum Request<'a> {
     Play(PlayRequest<'a>),
     /// `debug`.
     Debug(DebugRequest<'a>),
+}
+
+/// The file and options of `check`.
+#[derive(Clone, Copy)]
+pub struct CheckRequest<'a> {
+    /// The path of the file of FIBs, or `-` for standard input.
+    pub file: &'a str,
+    /// The transmission mode.
+    pub mode: Mode,
+    /// The number of successive frames in any of which each entry of the current configuration has to come.
+    pub period: u16,
 }
 
 /// The files of `compile`.
@@ -135,6 +148,7 @@ pub fn request_of<'a, S: AsStr>(
     match matches.subcommand() {
         Some(("frame", options)) => frame_request(options),
         Some(("listen", options)) => listen_request(options),
+        Some(("check", options)) => check_request(options),
         Some(("compile", options)) => compile_request(options),
         Some(("verify", options)) => verify_request(options),
         Some(("play", options)) => play_request(options),
@@ -152,6 +166,7 @@ fn program<'a>(alloc: Global) -> Result<Command<'a>, AllocError> {
         .override_usage("dabplan <COMMAND>")
         .subcommand(frame(alloc)?)?
         .subcommand(listen(alloc)?)?
+        .subcommand(check(alloc)?)?
         .subcommand(compile(alloc)?)?
         .subcommand(verify(alloc)?)?
         .subcommand(play(alloc)?)?
@@ -236,6 +251,31 @@ fn listen<'a>(alloc: Global) -> Result<Command<'a>, AllocError> {
         .after_long_help(help::AFTER_LISTEN)
         .override_usage(help::LISTEN_USAGE)
         .arg(file(alloc, "file", "FILE", "The file of FIBs"))
+}
+
+fn check<'a>(alloc: Global) -> Result<Command<'a>, AllocError> {
+    let file_help = "The file of FIBs, or '-' for standard input";
+    Command::new(alloc, "check")
+        .about(help::CHECK)
+        .long_about(help::LONG_CHECK)
+        .after_long_help(help::AFTER_CHECK)
+        .override_usage(help::CHECK_USAGE)
+        .arg(file(alloc, "file", "FILE", file_help))?
+        .arg(mode(alloc))?
+        .arg(period(alloc))
+}
+
+/// The option of the period in which entries have to come.
+fn period<'a>(alloc: Global) -> Arg<'a> {
+    Arg::new(alloc, "period")
+        .long("period")
+        .value_name("N")
+        .default_value("250")
+        .allow_negative_numbers(true)
+        .value_parser(value_parser!(u16).range(1..60001))
+        .help(
+            "In how many successive frames each entry of the current configuration has to come, 1 to 60000",
+        )
 }
 
 fn compile<'a>(alloc: Global) -> Result<Command<'a>, AllocError> {
@@ -356,6 +396,14 @@ fn mode_of(number: u16) -> Option<Mode>
 fn listen_request<'a>(options: &ArgMatches<'a>) -> Result<Request<'a>, UsageError<'a>> {
     let file = options.get_str("file").ok_or(UsageError::Nothing)?;
     Ok(Request::Listen(file))
+}
+
+fn check_request<'a>(options: &ArgMatches<'a>) -> Result<Request<'a>, UsageError<'a>> {
+    let file = options.get_str("file").ok_or(UsageError::Nothing)?;
+    let mode = options.get_one::<u16>("mode").ok_or(UsageError::Nothing)?;
+    let mode = mode_of(mode).ok_or(UsageError::Nothing)?;
+    let period = options.get_one::<u16>("period").ok_or(UsageError::Nothing)?;
+    Ok(Request::Check(CheckRequest { file, mode, period }))
 }
 
 fn compile_request<'a>(options: &ArgMatches<'a>) -> Result<Request<'a>, UsageError<'a>> {
