@@ -52,7 +52,7 @@ stream() {
     cat "$samples/real_fic.fib" >"$work/part"
   else
     for ((count = 0; count < 42; count++)); do
-      ./dabplan frame docs/examples/one_programme.rec --ensemble E1C5 --count "$count"
+      ./dabplan frame examples/one_programme.rec --ensemble E1C5 --count "$count"
     done | xxd -r -p >"$work/part"
   fi
   while [ "$(stat -c %s "$work/part")" -lt 32000000 ]; do

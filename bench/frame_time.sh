@@ -5,11 +5,11 @@
 
 program=$(release/make --program)
 frame() {
-  "$program" frame - --ensemble E1C5 --count 0 <docs/examples/one_programme.rec
+  "$program" frame - --ensemble E1C5 --count 0 <examples/one_programme.rec
 }
 micros=$(best 100 frame)
 /usr/bin/time -f '%M' "$program" frame - --ensemble E1C5 --count 0 \
-  <docs/examples/one_programme.rec 2>"$work/resident" >/dev/null
+  <examples/one_programme.rec 2>"$work/resident" >/dev/null
 resident=$(tail -n 1 "$work/resident")
 echo "frame: $(thousandths "$micros") ms at the best of 100 runs, $resident KB resident"
 if [ "$micros" -ge 10000 ] || [ "$resident" -ge 8192 ]; then

@@ -61,6 +61,6 @@ program=$(release/make --program)
 large_plan >"$work/large.code"
 echo 'frames 1000000' >"$work/million.events"
 echo 'frames 3600000 frames 3600000 frames 2800000' >"$work/ten.events"
-measure small docs/examples/contact_lowers_a_rate.code 500
+measure small examples/contact_lowers_a_rate.code 500
 measure large "$work/large.code" 1000
 exit "$failed"

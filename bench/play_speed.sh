@@ -15,7 +15,7 @@ code() {
 }
 
 example() {
-  xxd -p docs/examples/contact_lowers_a_rate.code | tr -d '\n' | cut -c 11-
+  xxd -p examples/contact_lowers_a_rate.code | tr -d '\n' | cut -c 11-
 }
 
 # large COMPONENTS: sub-channel 63 is moved on and back, with a swap 248 frames after each commit and the next commit 52

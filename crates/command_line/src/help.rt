@@ -122,7 +122,7 @@ The lines, each with the number of its frame, from 0, and the CIF count of the f
   4 4 announced 1 swap at low 28      flags 1: sub-channels change, 2: services, 3: both; the low
                                       part of the CIF count of the swap
   28 28 swap                          the next configuration becomes the current one
-  28 28 fault: announced for low 24   a fault; see docs/COMMANDS.md for each kind
+  28 28 fault: announced for low 24   a fault; see docs/guide/COMMANDS.md for each kind
   frames 100 skipped 0 left over 0 damaged 0 swaps 1 faults 1
                                       skipped: FIBs before the first FIG 0/0; left over: those
                                       behind the last whole frame
@@ -182,7 +182,7 @@ The line:
 OUT is made last: where the script is refused it stays as it was.
 
 Example: a lower rate at night
-  dabplan compile docs/examples/night_rate.plan night.code
+  dabplan compile examples/night_rate.plan night.code
   dabplan verify night.code
 
 Exit status:
@@ -232,7 +232,7 @@ The causes of a refusal:
   FallsOff       the plan does not end with an instruction that ends it
 
 Example: a plan that lowers and raises a rate as contact 3 is closed and opened
-  dabplan verify docs/examples/contact_lowers_a_rate.code
+  dabplan verify examples/contact_lowers_a_rate.code
 
 Exit status:
   0  the plan is accepted
@@ -271,7 +271,7 @@ CODE and EVENTS are read before OUT is made. Where the plan or the events are re
 
 Example: a plan that lowers and raises a rate as contact 3 is closed and opened
   printf 'frames 1 contact 3 closed frames 40 contact 3 open frames 30' > day.events
-  dabplan play docs/examples/contact_lowers_a_rate.code day.events day.fib
+  dabplan play examples/contact_lowers_a_rate.code day.events day.fib
   dabplan listen day.fib
 
 Exit status:
@@ -321,7 +321,7 @@ The lines:
 
 Example: a plan that lowers and raises a rate as contact 3 is closed and opened
   printf 'break 9 run 100 contact 3 closed run 2 next show' > day.commands
-  dabplan debug docs/examples/contact_lowers_a_rate.code day.commands
+  dabplan debug examples/contact_lowers_a_rate.code day.commands
 
 Exit status:
   0  all commands were carried out

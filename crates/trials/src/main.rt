@@ -1,7 +1,7 @@
-//! Trials of the libraries under hostile use: calls that take memory while it is refused, damaged code files, and a
-//! day of frames that a listener hears.
+//! Trials of the libraries under faults: calls that take memory while it is refused, damaged code files, and a day of
+//! frames that a listener hears.
 //!
-//! `hostile/` has the scripts that run it. `trials call NAME` makes one call twice over the script on standard input,
+//! `tests/faults/` has the scripts that run it. `trials call NAME` makes one call twice over the script on standard input,
 //! the first time between the lines `ready` and `called`; `trials damaged` tries each damaged version of the code file
 //! on standard input; `trials day` plays the code file on standard input for a day.
 #![tactic(auto)]

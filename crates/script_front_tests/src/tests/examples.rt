@@ -1,4 +1,4 @@
-//! The example scripts of docs/examples.
+//! The example scripts of examples.
 
 use super::fixtures::{is_printed, printed_of};
 use super::seen::{item_line, lines_of, sizes_of};

@@ -6,7 +6,7 @@ judges, and what is accepted is played for 100 frames, each of whose FIBs has a 
 of a contact in version 1, and one of version 2 with a label at which a swap is perhaps pending.
 
 And files of each kind with random changes, from a seed that is printed: each command ends with 0 or 1, and prints one
-of the lines of docs/COMMANDS.md and no other. The last line is 'N passed, M failed'.
+of the lines of docs/guide/COMMANDS.md and no other. The last line is 'N passed, M failed'.
 """
 import random
 import re

@@ -85,7 +85,7 @@ def help_is_no_fault(rows):
 
 def the_names_in_the_help(rows):
     """Each name of a fault that a help page has stands in the document of the commands too."""
-    document = (pathlib.Path(__file__).resolve().parent.parent / "docs/COMMANDS.md").read_text(encoding="utf-8")
+    document = (pathlib.Path(__file__).resolve().parents[2] / "docs/guide/COMMANDS.md").read_text(encoding="utf-8")
     for line in ("help", *(f"help {command}" for command in ("frame", "listen", "check", "compile", "verify", "play", "debug"))):
         names = set(re.findall(r"\b[A-Za-z]*[a-z][A-Z][A-Za-z]*\b", rows.run(line).printed.decode()))
         rows.tally.same(f"names in {line}", [], sorted(name for name in names if name not in document))

@@ -1,13 +1,13 @@
-"""What the scripts of hostile use share: the built programs, how they are run, and what passed and failed."""
+"""What the scripts of faults share: the built programs, how they are run, and what passed and failed."""
 import pathlib
 import resource
 import shutil
 import subprocess
 import sys
 
-TOP = pathlib.Path(__file__).resolve().parent.parent
-EXAMPLES = TOP / "docs" / "examples"
-SAMPLES = TOP / "hostile" / "samples"
+TOP = pathlib.Path(__file__).resolve().parents[2]
+EXAMPLES = TOP / "examples"
+SAMPLES = TOP / "tests" / "faults" / "samples"
 SECONDS = 7200
 
 
@@ -84,7 +84,7 @@ def c_compiler():
 def preloaded(folder, name):
     """The path of a library that is loaded before the C library, made of `name`.c in a folder."""
     library = pathlib.Path(folder, f"{name}.so")
-    subprocess.run([*c_compiler(), "-shared", "-fPIC", "-O1", "-nostdlib", "-o", library, TOP / "hostile" / f"{name}.c"],
+    subprocess.run([*c_compiler(), "-shared", "-fPIC", "-O1", "-nostdlib", "-o", library, TOP / "tests" / "faults" / f"{name}.c"],
                    check=True)
     return library
 

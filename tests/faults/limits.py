@@ -2,7 +2,7 @@
 """Every command at the limits of its input, within a stack of 1 MB.
 
 Scripts, codes, configurations and nesting at their limits and one past them; texts of 1,048,576 bytes of each kind of
-token, in scripts, events and commands. The lines that are wanted are those of docs/COMMANDS.md, reasoned out beside
+token, in scripts, events and commands. The lines that are wanted are those of docs/guide/COMMANDS.md, reasoned out beside
 each text. At the end it says on how small a stack each command still ends. The last line is 'N passed, M failed'.
 """
 import tempfile

@@ -1,9 +1,9 @@
-"""What the scripts of runs/ share: a command line over its files, and the comparison with what has to come out."""
+"""What the scripts of tests/cli/ share: a command line over its files, and the comparison with what has to come out."""
 import pathlib
 import sys
 import tempfile
 
-sys.path.insert(0, str(pathlib.Path(__file__).resolve().parent.parent / "hostile"))
+sys.path.insert(0, str(pathlib.Path(__file__).resolve().parent.parent / "faults"))
 import common  # noqa: E402
 
 # Sub-channel 1 at 0, 3-A, 128 kbit/s, and service C221 with audio of type 63 on it.
