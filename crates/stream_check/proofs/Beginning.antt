@@ -1,5 +1,5 @@
 -- What is kept of nothing.
-use Rattle.std.proofs.Common.{◌≡◌, ℕ, false, [], None, refl, arith}
+use Rattle.std.proofs.Common.{ℕ, false, [], None, refl, arith}
 use Rattle.stream_check.specs.declared.memory.Memory.{Memory}
 use Rattle.stream_check.specs.Pictures.{empty_picture}
 use Rattle.stream_check.specs.Memory.{Knows}

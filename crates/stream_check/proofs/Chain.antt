@@ -1,17 +1,16 @@
 -- Entries that are heard one after the other.
-use Rattle.std.proofs.Common.{◌≡◌, ℕ, ◌+◌, ◌&&◌, Bool, true, false, cond, not, List, [], ◌∷◌, ◌++◌, map, Option, Some, None, refl, sym, ap, ◌∙◌, subst}
+use Rattle.std.proofs.Common.{◌≡◌, ℕ, Bool, true, false, cond, List, [], ◌∷◌, ◌++◌, map, Option, Some, None, refl, sym, ap, ◌∙◌, subst}
 use Rattle.std.proofs.lemmas.Bool.{false≢true}
 use Rattle.std.proofs.lemmas.List.{append_assoc, append-nil, map-append}
 use Rattle.stream_check.specs.declared.finding.Finding.{Finding}
-use Rattle.stream_check.specs.declared.finding.What.{What}
 use Rattle.stream_check.specs.declared.telling.FrameAt.{FrameAt}
 use Rattle.stream_check.specs.declared.memory.Memory.{Memory}
 use Rattle.stream_check.specs.Telling.{with_more, in_frame}
 use Rattle.stream_check.specs.History.{Item, Moment, Said, said}
 use Rattle.stream_check.specs.Rules.{known_of, findings_at, has_no_room}
 use Rattle.stream_check.specs.Stream.{findings_at_items, runs_full}
-use Rattle.stream_check.specs.Memory.{Knows, IsSane}
-use Rattle.stream_check.specs.Hearing.{IsLater, IsHeard, Hears}
+use Rattle.stream_check.specs.Memory.{Knows}
+use Rattle.stream_check.specs.Hearing.{Hears}
 
 pub more_twice : (told : Option (List Finding)) (xs ys : List Finding) → with_more (with_more told xs) ys ≡ with_more told (xs ++ ys)
 more_twice None xs ys = refl

@@ -1,14 +1,14 @@
 -- What is kept stays what was said before, a FIG 0/0 further.
-use Rattle.std.proofs.Common.{◌≡◌, ◌≢◌, ℕ, ◌+◌, ◌*◌, ◌%◌, ◌<◌, ◌≤◌, ◌==◌, ◌&&◌, ◌||◌, Bool, true, false, cond, not, nat_lt, List, [], ◌∷◌, ◌++◌, length, map, Option, Some, None, refl, sym, ap, ◌∙◌, arith, inl, inr, subst, lt-ltb, le-ltb}
+use Rattle.std.proofs.Common.{◌≡◌, ℕ, ◌+◌, ◌%◌, ◌≤◌, ◌==◌, ◌&&◌, ◌||◌, Bool, true, false, cond, not, List, [], ◌∷◌, ◌++◌, length, Option, Some, None, refl, sym, ap, ◌∙◌, arith, inl, inr, subst, lt-ltb, le-ltb}
 use Rattle.std.proofs.lemmas.Bool.{cases_lt, false≢true}
 use Rattle.std.proofs.lemmas.List.{append-nil}
 use Rattle.mux_entries.specs.Entries.{EnsembleInformation}
 use Rattle.fib_reader.specs.Listening.{Listening, is_made, swapped, awaiting, at_ensemble}
 use Rattle.stream_check.specs.declared.memory.Memory.{Memory}
-use Rattle.stream_check.specs.Pictures.{Heard, HeardPicture, empty_picture, Each, key_of, shown}
+use Rattle.stream_check.specs.Pictures.{empty_picture, Each, key_of}
 use Rattle.stream_check.specs.Rules.{at_most, has_flags, makes_swap}
-use Rattle.stream_check.specs.History.{Item, Moment, Said, is_ensemble, ensemble_of, is_flagged, is_in_place, is_swap, is_member, frames_ended, listening, listener_after, eid_of, last_eid, has_ensemble, begins_notice, has_begun, began_early, flag_count, times_announced, last_flags, is_cut_off, next_key, settles_at, row_at_hand, rows, last_heard}
-use Rattle.stream_check.specs.Memory.{listener_in, known_in, with_swap, with_flags, with_ensemble, eid_after, later, IsLastHeard, IsStamped, HasNotice, Knows}
+use Rattle.stream_check.specs.History.{Item, Moment, Said, is_ensemble, ensemble_of, is_flagged, is_swap, is_member, frames_ended, listening, listener_after, eid_of, last_eid, has_ensemble, begins_notice, has_begun, began_early, flag_count, times_announced, last_flags, is_cut_off, next_key, settles_at, row_at_hand, rows, last_heard}
+use Rattle.stream_check.specs.Memory.{listener_in, known_in, with_swap, with_ensemble, eid_after, IsLastHeard, IsStamped, HasNotice, Knows}
 use Rattle.stream_check.proofs.Notice.{notice_none, notice_begins, each_in}
 use Rattle.stream_check.proofs.Members.{or_false, or_true, ensemble_swap, ensemble_flagged, ensemble_placed, ensemble_no_member, ensemble_heard, after_is}
 use Rattle.stream_check.proofs.Knowing.{later_second}

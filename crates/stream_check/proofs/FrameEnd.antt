@@ -1,27 +1,26 @@
 -- What is kept stays what was said before, to the end of a frame.
-use Rattle.std.proofs.Common.{◌≡◌, ◌≢◌, ℕ, ◌+◌, ◌-◌, ◌*◌, ◌%◌, ◌<◌, ◌≤◌, ◌==◌, ◌&&◌, ◌||◌, Bool, true, false, cond, not, nat_lt, List, [], ◌∷◌, ◌++◌, length, map, Option, Some, None, refl, sym, ap, ◌∙◌, arith, inl, inr, subst}
+use Rattle.std.proofs.Common.{◌≡◌, ℕ, ◌+◌, ◌-◌, ◌%◌, ◌<◌, ◌≤◌, ◌==◌, Bool, true, false, cond, List, [], ◌∷◌, ◌++◌, length, map, Option, Some, refl, sym, ap, ◌∙◌, arith, subst}
 use Rattle.std.specs.List.{AllByRecursion, filter}
-use Rattle.std.proofs.lemmas.Bool.{cases_lt, false≢true, eq-eqb, ne_eqb, eqb-true}
+use Rattle.std.proofs.lemmas.Bool.{false≢true, eq-eqb, ne_eqb, eqb-true}
 use Rattle.std.proofs.lemmas.List.{append_assoc, append-nil, length-append, length-map, map-append}
 use Rattle.fib_reader.specs.Raw.{Raw}
-use Rattle.fib_reader.specs.Listening.{Listening, Pictured, all_entries}
+use Rattle.fib_reader.specs.Listening.{Listening, all_entries}
 use Rattle.stream_check.specs.declared.finding.Finding.{Finding}
 use Rattle.stream_check.specs.declared.finding.What.{What}
-use Rattle.stream_check.specs.declared.finding.What.TheVariants as whats
 use Rattle.stream_check.specs.declared.finding.Fault.TheVariants as faults
 use Rattle.stream_check.specs.declared.telling.FrameAt.{FrameAt}
 use Rattle.stream_check.specs.declared.memory.Memory.{Memory}
 use Rattle.stream_check.specs.Telling.{with_more, in_frame, when}
-use Rattle.stream_check.specs.Pictures.{Heard, HeardPicture, heard_since, Each, raws, shown, key_of}
+use Rattle.stream_check.specs.Pictures.{Heard, heard_since, raws, key_of}
 use Rattle.stream_check.specs.Frames.{Fib, Reading}
-use Rattle.stream_check.specs.History.{Item, Moment, Said, Ended, said, frame_items, frames_ended, listener_after, due, has_begun, row_at_hand, rows, last_heard}
+use Rattle.stream_check.specs.History.{Moment, Ended, said, frame_items, frames_ended, due, has_begun, row_at_hand, rows, last_heard}
 use Rattle.stream_check.specs.Rules.{name_of, is_silent, silence, silent_findings}
-use Rattle.stream_check.specs.Stream.{frame_findings, findings_at_items, runs_full, frame_at, last_findings, findings_in, after_frame, count_of_frame}
-use Rattle.stream_check.specs.Memory.{listener_in, with_row, with_frame, later, IsLastHeard, HasNotice, Knows, IsSane, is_quiet, quiet_findings, silent_in, most}
-use Rattle.stream_check.specs.Hearing.{IsLater, IsHeard, Hears, IsFrameHeard, HearsFrame}
+use Rattle.stream_check.specs.Stream.{frame_findings, findings_at_items, frame_at, last_findings, count_of_frame}
+use Rattle.stream_check.specs.Memory.{listener_in, with_row, with_frame, IsLastHeard, HasNotice, Knows, IsSane, is_quiet, quiet_findings, silent_in}
+use Rattle.stream_check.specs.Hearing.{IsLater, Hears, HearsFrame}
 use Rattle.stream_check.proofs.Notice.{notice_closed, notice_open}
 use Rattle.stream_check.proofs.Members.{after_is}
-use Rattle.stream_check.proofs.Chain.{more_twice, more_none}
+use Rattle.stream_check.proofs.Chain.{more_twice}
 
 -- ---- the frames of the notice
 

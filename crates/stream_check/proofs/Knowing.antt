@@ -1,14 +1,13 @@
 -- What is kept stays what was said before, an entry of FIG 0/1 to 0/3 further.
-use Rattle.std.proofs.Common.{◌≡◌, ◌≢◌, ℕ, ◌+◌, ◌*◌, ◌<◌, ◌≤◌, ◌==◌, ◌&&◌, ◌||◌, Bool, true, false, cond, not, nat_lt, List, [], ◌∷◌, ◌++◌, length, map, Option, Some, None, refl, sym, ap, ◌∙◌, arith, inl, inr, subst, lt-ltb, le-ltb}
+use Rattle.std.proofs.Common.{◌≡◌, ℕ, ◌+◌, ◌<◌, ◌≤◌, ◌==◌, ◌&&◌, ◌||◌, Bool, true, false, cond, not, List, [], ◌∷◌, ◌++◌, length, Some, refl, sym, ap, ◌∙◌, arith, inl, inr, subst, lt-ltb, le-ltb}
 use Rattle.std.proofs.lemmas.Bool.{cases_lt, false≢true, eq-eqb, ne_eqb}
 use Rattle.std.proofs.lemmas.List.{append-nil}
-use Rattle.fib_reader.specs.Raw.{Raw}
-use Rattle.fib_reader.specs.Listening.{Listening, hear_entry, into, pictured, picture_of}
+use Rattle.fib_reader.specs.Listening.{Listening, into, pictured, picture_of}
 use Rattle.stream_check.specs.declared.memory.Memory.{Memory}
-use Rattle.stream_check.specs.Pictures.{Heard, HeardPicture, picture_kept, Each, HasKinds, key_of, shown}
+use Rattle.stream_check.specs.Pictures.{Heard, picture_kept, key_of, shown}
 use Rattle.stream_check.specs.Standing.{standing_in}
 use Rattle.stream_check.specs.Rules.{finds_no_room, is_absent, at_most}
-use Rattle.stream_check.specs.History.{Item, Moment, Said, is_ensemble, frames_ended, listening, listener_after, has_ensemble, has_begun, began_early, row_at_hand, rows, last_heard}
+use Rattle.stream_check.specs.History.{Item, Moment, Said, is_ensemble, frames_ended, listener_after, has_ensemble, has_begun, began_early, row_at_hand, rows, last_heard}
 use Rattle.stream_check.specs.Memory.{listener_in, with_current, with_next, later, IsLastHeard, HasNotice, Knows}
 use Rattle.stream_check.proofs.Tables.{pictured_kept}
 use Rattle.stream_check.proofs.Keys.{picture_each, kinds_kept, known_has}

@@ -1,11 +1,9 @@
 -- What an entry of FIG 0/1 to 0/3 leaves of what was said before.
-use Rattle.std.proofs.Common.{◌≡◌, ◌≢◌, ℕ, ◌+◌, ◌*◌, ◌%◌, ◌<◌, ◌≤◌, ◌==◌, ◌&&◌, ◌||◌, Bool, true, false, cond, not, nat_lt, List, [], ◌∷◌, ◌++◌, length, map, Option, Some, None, refl, sym, ap, ◌∙◌, arith, subst}
-use Rattle.std.proofs.lemmas.List.{append-nil}
-use Rattle.mux_entries.specs.Entries.{EnsembleInformation}
+use Rattle.std.proofs.Common.{◌≡◌, ℕ, ◌+◌, ◌%◌, ◌==◌, ◌&&◌, ◌||◌, Bool, true, false, cond, not, List, [], ◌∷◌, ◌++◌, Option, Some, None, refl, sym, ap, ◌∙◌, arith}
 use Rattle.fib_reader.specs.Raw.{Raw, ensemble_in}
-use Rattle.fib_reader.specs.Listening.{Listening, identifier_of, hear_entry, is_made, where_heard, at_ensemble, into, pictured, picture_of}
+use Rattle.fib_reader.specs.Listening.{Listening, hear_entry, is_made, where_heard, at_ensemble, into, pictured, picture_of}
 use Rattle.stream_check.specs.Pictures.{key_of}
-use Rattle.stream_check.specs.History.{Item, Moment, Said, Ended, is_ensemble, ensemble_of, is_flagged, is_in_place, frames_ended, listening, listener, listener_after, is_swap, is_member, due, eid_of, last_eid, has_ensemble, begins_notice, has_begun, began_early, flag_count, times_announced, last_flags, is_cut_off, next_key, row_at_hand, rows, settles_at, last_heard}
+use Rattle.stream_check.specs.History.{Item, Moment, Said, is_ensemble, ensemble_of, is_flagged, is_in_place, frames_ended, listening, listener, listener_after, is_swap, is_member, eid_of, last_eid, has_ensemble, begins_notice, has_begun, began_early, flag_count, times_announced, last_flags, is_cut_off, next_key, row_at_hand, rows, settles_at, last_heard}
 
 pub and_false : (a : Bool) → (a && false) ≡ false
 and_false true = refl

@@ -1,5 +1,5 @@
 -- The frames of a notice, an entry further and a frame further.
-use Rattle.std.proofs.Common.{◌≡◌, ◌≢◌, ◌↔◌, ℕ, zero, suc, ◌+◌, ◌<◌, ◌≤◌, ◌&&◌, Bool, true, false, nat_lt, List, [], ◌∷◌, ◌++◌, length, map, take, drop, Contains, refl, sym, ap, ◌∙◌, arith, inl, inr, ◌⊎◌, subst, lt-ltb, le-ltb}
+use Rattle.std.proofs.Common.{◌≡◌, ◌≢◌, ◌↔◌, ℕ, ◌+◌, ◌<◌, ◌≤◌, ◌&&◌, Bool, true, false, nat_lt, List, [], ◌∷◌, ◌++◌, length, take, drop, Contains, refl, sym, ap, ◌∙◌, arith, inl, inr, ◌⊎◌, subst, lt-ltb}
 use Rattle.std.specs.List.{AllByRecursion, concat, list_all}
 use Rattle.std.proofs.lemmas.Bool.{cases_lt, false≢true}
 use Rattle.std.proofs.lemmas.Bool.Decides.{Decides-ltb}
@@ -11,7 +11,7 @@ use Rattle.stream_check.specs.Standing.{standing_in}
 use Rattle.stream_check.specs.Rules.{finds_no_room, is_absent}
 use Rattle.stream_check.specs.Memory.{IsStamped, HasNotice}
 use Rattle.stream_check.proofs.Rows.{concat-more}
-use Rattle.stream_check.proofs.Greedily.{greedy_closes, greedy_stays, new_begins_anew, same_wanted}
+use Rattle.stream_check.proofs.Greedily.{greedy_closes, greedy_stays, new_begins_anew}
 use Rattle.stream_check.proofs.PartCount.{here, there, one_of, in_none, greedy_at_first}
 use Rattle.stream_check.proofs.Tables.{each_weaker}
 use Rattle.stream_check.proofs.Keys.{picture_each, known_keys, new_keys}

@@ -1,10 +1,10 @@
 -- Cutting as soon as a part is whole gives the most parts, counted along the frames.
-use Rattle.std.proofs.Common.{◌≡◌, ◌≢◌, ℕ, zero, suc, ◌+◌, ◌<◌, ◌≤◌, ◌==◌, ◌&&◌, ◌||◌, Bool, true, false, cond, List, [], ◌∷◌, ◌++◌, length, Contains, get_or, refl, sym, ap, ◌∙◌, arith, inl, inr, subst}
-use Rattle.std.specs.List.{concat, list_any, list_all}
+use Rattle.std.proofs.Common.{◌≡◌, ℕ, zero, suc, ◌+◌, ◌≤◌, ◌==◌, ◌&&◌, ◌||◌, Bool, true, false, cond, List, [], ◌∷◌, ◌++◌, Contains, refl, sym, ap, ◌∙◌, arith, inl, inr, subst}
+use Rattle.std.specs.List.{concat, list_all}
 use Rattle.std.proofs.lemmas.Bool.{eq-eqb, eqb-true, false≢true}
 use Rattle.std.proofs.lemmas.List.{append_assoc, append-nil}
-use Rattle.std.proofs.lemmas.List.Elements.{Contains-append_left, Contains-append_right, Contains-append_cases}
-use Rattle.stream_check.specs.Cutting.{HasAll, IsPart, IsCutInto, IsMostParts, IsGreedy}
+use Rattle.std.proofs.lemmas.List.Elements.{Contains-append_right, Contains-append_cases}
+use Rattle.stream_check.specs.Cutting.{HasAll, IsCutInto, IsMostParts, IsGreedy}
 use Rattle.stream_check.specs.Parts.{contains, has_all, parts_from, most_parts, IsTheMost}
 use Rattle.stream_check.proofs.Cuts.{last, none}
 use Rattle.stream_check.proofs.Greedily.{greedy_closes, greedy_stays, greedy_is_most, most_is_one}

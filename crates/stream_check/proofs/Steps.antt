@@ -1,10 +1,10 @@
 -- One entry is heard: what is told of it, and what is known after it.
-use Rattle.std.proofs.Common.{◌≡◌, ◌≢◌, ℕ, ◌+◌, ◌*◌, ◌%◌, ◌<◌, ◌≤◌, ◌==◌, ◌&&◌, ◌||◌, Bool, true, false, cond, not, nat_lt, List, [], ◌∷◌, ◌++◌, length, map, take, drop, Option, Some, None, refl, sym, ap, ◌∙◌, arith, inl, inr, subst, lt-ltb, le-ltb}
+use Rattle.std.proofs.Common.{◌≡◌, ◌≢◌, ℕ, ◌+◌, ◌<◌, ◌≤◌, ◌==◌, ◌&&◌, ◌||◌, Bool, true, false, cond, not, List, [], ◌∷◌, ◌++◌, map, take, drop, Option, refl, sym, ap, ◌∙◌, arith, inl, inr, subst, lt-ltb, le-ltb}
 use Rattle.std.proofs.lemmas.Bool.{cases_lt, false≢true, ne_eqb}
 use Rattle.std.proofs.lemmas.List.{append-nil, append_assoc, map-append, take-append-drop}
 use Rattle.mux_entries.specs.Entries.{EnsembleInformation}
 use Rattle.fib_reader.specs.Raw.{Raw, ensemble_in}
-use Rattle.fib_reader.specs.Listening.{Listening, Pictured, all_entries}
+use Rattle.fib_reader.specs.Listening.{Listening, all_entries}
 use Rattle.stream_check.specs.declared.finding.Finding.{Finding}
 use Rattle.stream_check.specs.declared.finding.What.{What}
 use Rattle.stream_check.specs.declared.telling.FrameAt.{FrameAt}
@@ -13,11 +13,10 @@ use Rattle.stream_check.specs.Telling.{with_more, in_frame}
 use Rattle.stream_check.specs.Pictures.{Heard, HeardPicture, key_of, keys, keys_of, raws, shown}
 use Rattle.stream_check.specs.Standing.{standing_in}
 use Rattle.stream_check.specs.Parts.{most_parts}
-use Rattle.stream_check.specs.History.{Item, Moment, Said, items_of, is_ensemble, ensemble_of, frames_ended, listener_after, due, last_eid, has_ensemble, has_begun, began_early, times_announced, last_flags, is_cut_off, settles_at, rows}
-use Rattle.stream_check.specs.Rules.{Known, known_of, wanted, times_heard, at_most, has_flags, makes_swap, findings_at, ensemble_findings, member_findings, current_findings, next_findings, has_no_room, finds_no_room, is_absent}
-use Rattle.stream_check.specs.Stream.{findings_at_items, runs_full}
+use Rattle.stream_check.specs.History.{Item, Moment, Said, items_of, frames_ended, listener_after, due, last_eid, has_ensemble, has_begun, began_early, times_announced, last_flags, is_cut_off, rows}
+use Rattle.stream_check.specs.Rules.{Known, known_of, times_heard, at_most, has_flags, makes_swap, findings_at, ensemble_findings, member_findings, current_findings, next_findings, has_no_room, finds_no_room, is_absent}
 use Rattle.stream_check.specs.Memory.{listener_in, known_in, with_swap, with_flags, with_ensemble, with_current, with_next, Knows, IsSane}
-use Rattle.stream_check.specs.Hearing.{IsLater, IsHeard, Hears}
+use Rattle.stream_check.specs.Hearing.{IsLater, Hears}
 use Rattle.stream_check.proofs.PartCount.{parts_counted}
 use Rattle.stream_check.proofs.Members.{after_is}
 use Rattle.stream_check.proofs.Knowing.{knows_passed, knows_current, knows_next}

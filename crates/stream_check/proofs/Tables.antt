@@ -1,18 +1,17 @@
 -- Entries with when they were heard, and the entries alone.
-use Rattle.std.proofs.Common.{Bor, ◌≡◌, ◌≢◌, ℕ, zero, suc, ◌+◌, ◌*◌, ◌<◌, ◌≤◌, ◌==◌, Bool, true, false, cond, not, nat_lt, List, [], ◌∷◌, ◌++◌, length, map, Option, Some, None, is_some, refl, sym, ap, ◌∙◌, arith, inl, inr, subst, lt-ltb, le-ltb}
+use Rattle.std.proofs.Common.{Bor, ◌≡◌, ℕ, ◌<◌, ◌≤◌, ◌==◌, Bool, true, false, cond, nat_lt, List, [], ◌∷◌, length, Option, Some, None, is_some, refl, sym, ap, ◌∙◌, lt-ltb, le-ltb}
 use Rattle.std.specs.Prelude.{◌||◌}
 use Rattle.std.specs.Option.{option_copied}
-use Rattle.std.specs.List.{AllByRecursion, find, list_any}
-use Rattle.std.proofs.lemmas.Bool.{cases_lt, false≢true, eq-eqb, eqb-true}
+use Rattle.std.specs.List.{AllByRecursion}
+use Rattle.std.proofs.lemmas.Bool.{false≢true}
 use Rattle.std.proofs.lemmas.List.{length-map}
 use Rattle.mux_config.specs.Tables.{entry_at, with_entry, with_entry_changed, has_entry}
 use Rattle.fib_reader.specs.Raw.{Raw}
-use Rattle.fib_reader.specs.Listening.{Pictured, identifier_of, is_known, kept, has_room, pictured}
-use Rattle.stream_check.specs.declared.heard_table.Standing.{Standing}
+use Rattle.fib_reader.specs.Listening.{identifier_of, is_known, kept, has_room, pictured}
 use Rattle.stream_check.specs.declared.heard_table.Standing.TheVariants as standings
-use Rattle.stream_check.specs.Pictures.{Heard, HeardPicture, heard_key, raws, heard_kept, shown, all_heard, picture_kept}
-use Rattle.stream_check.specs.Standing.{agree, standing_to, standing, list_for, standing_in}
-use Rattle.stream_check.specs.Rules.{finds_no_room, is_absent}
+use Rattle.stream_check.specs.Pictures.{Heard, HeardPicture, heard_key, raws, heard_kept, shown, picture_kept}
+use Rattle.stream_check.specs.Standing.{agree, standing_to, standing, standing_in}
+use Rattle.stream_check.specs.Rules.{finds_no_room}
 
 abbrev pub raw_in : Option Heard → Option Raw
 raw_in None = None

@@ -1,15 +1,13 @@
 -- The rules in small cases, computed by the checker from the definitions: each holds in one and fails in another.
-use Rattle.std.proofs.Common.{◌≡◌, ℕ, true, false, List, [], ◌∷◌, Option, Some, None, refl}
-use Rattle.mux_entries.specs.Entries.{EnsembleInformation}
+use Rattle.std.proofs.Common.{◌≡◌, ℕ, true, false, List, [], ◌∷◌, Some, None, refl}
 use Rattle.fib_reader.specs.Raw.{Raw}
-use Rattle.fib_reader.specs.Listening.{Pictured, blank}
 use Rattle.stream_check.specs.declared.finding.EntryName.TheVariants as names
 use Rattle.stream_check.specs.declared.finding.Fault.TheVariants as faults
 use Rattle.stream_check.specs.declared.finding.Event.TheVariants as events
 use Rattle.stream_check.specs.declared.finding.What.TheVariants as whats
 use Rattle.stream_check.specs.Parts.{most_parts}
-use Rattle.stream_check.specs.History.{Item, Moment, Said, Ended, frames_ended, due, has_begun, times_announced, is_cut_off, rows, last_heard, settles_at}
-use Rattle.stream_check.specs.Rules.{Known, known_of, can_fall_at, share_unit, overlap, past_end, change_between, findings_at, silent_findings}
+use Rattle.stream_check.specs.History.{Item, Moment, Said, Ended, due, has_begun, is_cut_off}
+use Rattle.stream_check.specs.Rules.{known_of, can_fall_at, share_unit, overlap, past_end, findings_at, silent_findings}
 
 -- ---- parts
 

@@ -1,5 +1,5 @@
 -- What the check of a stream knows, and what it has told, after the FIBs that it was given.
-use Rattle.std.specs.Prelude.{◌≡◌, ℕ, ◌+◌, ◌<◌, ◌≤◌, ◌||◌, Bool, true, false, not, nat_lt, List, [], ◌∷◌, ◌++◌, length, map, flat_map, Option, Some, None}
+use Rattle.std.specs.Prelude.{◌≡◌, ℕ, ◌+◌, ◌<◌, ◌≤◌, ◌⊎◌, ◌||◌, Bool, true, false, not, nat_lt, List, [], ◌∷◌, ◌++◌, length, map, flat_map, Option}
 use Rattle.fib_codec.specs.Modes.{fib_count, count_step}
 use Rattle.fib_codec.specs.declared.modes.Mode.{Mode}
 use Rattle.stream_check.specs.declared.finding.Finding.{Finding}
@@ -7,7 +7,6 @@ use Rattle.stream_check.specs.declared.memory.Memory.{Memory}
 use Rattle.stream_check.specs.declared.checker.Summary.{Summary}
 use Rattle.stream_check.specs.Telling.{with_more}
 use Rattle.stream_check.specs.Frames.{Fib, Reading, IsFramed, damaged_in}
-use Rattle.stream_check.specs.History.{Moment}
 use Rattle.stream_check.specs.Stream.{findings_of, after_frames, frames_full}
 use Rattle.stream_check.specs.Memory.{IsSane, Knows, most}
 
@@ -26,6 +25,10 @@ pub record IsChecking (c : Checking) : Type 0 where
   pub room : length c.held < c.size
   pub skipped : c.skipped ≤ most
   pub damaged : c.damaged ≤ most + 4
+
+-- nothing more is counted: there were 2^62 frames, skipped FIBs or damaged FIBs
+abbrev pub IsAtLimit : Checking → Type 0
+IsAtLimit c = (most ≤ c.memory.frames) ⊎ (most ≤ c.skipped) ⊎ (most ≤ c.damaged)
 
 -- whether a FIG 0/0 was heard
 abbrev pub is_empty : List (List ℕ) → Bool

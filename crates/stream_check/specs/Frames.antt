@@ -1,5 +1,5 @@
 -- FIBs as they are read, and what is seen of them before they are heard.
-use Rattle.std.specs.Prelude.{◌≡◌, ℕ, ◌+◌, ◌%◌, ◌<◌, ◌≤◌, ◌==◌, ◌&&◌, Bool, true, false, not, if◌then◌else◌, List, [], ◌∷◌, ◌++◌, length, flat_map, Option, Some, None}
+use Rattle.std.specs.Prelude.{◌≡◌, ℕ, ◌+◌, ◌<◌, ◌≤◌, ◌==◌, ◌&&◌, Bool, true, false, not, if◌then◌else◌, List, [], ◌∷◌, ◌++◌, length, flat_map, Option, Some, None}
 use Rattle.std.specs.List.{AllByRecursion}
 use Rattle.mux_entries.specs.Entries.{EnsembleInformation}
 use Rattle.fib_codec.specs.Grammar.{Fig, IsFib}

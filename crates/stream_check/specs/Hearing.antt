@@ -1,5 +1,5 @@
 -- What hearing entries does: what is told, and what is known afterwards.
-use Rattle.std.specs.Prelude.{◌≡◌, ℕ, ◌<◌, ◌≤◌, Bool, false, List, map, Option, Some}
+use Rattle.std.specs.Prelude.{◌≡◌, ℕ, Bool, false, List, map, Option}
 use Rattle.stream_check.specs.declared.finding.Finding.{Finding}
 use Rattle.stream_check.specs.declared.telling.FrameAt.{FrameAt}
 use Rattle.stream_check.specs.declared.memory.Memory.{Memory}

@@ -1,11 +1,11 @@
 -- What was said in a stream: what each frame says, and what had been said before.
-use Rattle.std.specs.Prelude.{◌≡◌, ℕ, ◌+◌, ◌*◌, ◌/◌, ◌%◌, ◌==◌, ◌&&◌, ◌||◌, Bool, true, false, not, if◌then◌else◌, nat_lt, nat_le, List, [], ◌∷◌, ◌++◌, length, map, Option, Some, None}
+use Rattle.std.specs.Prelude.{ℕ, ◌+◌, ◌%◌, ◌==◌, ◌&&◌, ◌||◌, Bool, true, false, not, if◌then◌else◌, nat_le, List, [], ◌∷◌, ◌++◌, map, Option, Some, None}
 use Rattle.mux_entries.specs.Entries.{EnsembleInformation}
 use Rattle.fib_codec.specs.Grammar.{Fig, Open, Other, is_next}
 use Rattle.stream_check.specs.Frames.{Fib}
 use Rattle.stream_check.specs.Pictures.{key_of}
 use Rattle.fib_reader.specs.Raw.{Raw, entries_in, ensemble_in}
-use Rattle.fib_reader.specs.Listening.{Pictured, Listening, untuned, blank, identifier_of, hear_entry, is_made, where_heard}
+use Rattle.fib_reader.specs.Listening.{Listening, untuned, hear_entry, is_made, where_heard}
 
 -- ---- what FIBs say
 

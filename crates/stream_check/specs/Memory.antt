@@ -1,6 +1,6 @@
 -- What is kept of a stream, and that it is what the frames before say.
-use Rattle.std.specs.Prelude.{◌≡◌, ◌↔◌, ℕ, ◌+◌, ◌%◌, ◌<◌, ◌≤◌, ◌^◌, ◌==◌, ◌&&◌, ◌||◌, Bool, true, false, not, if◌then◌else◌, nat_lt, List, [], ◌∷◌, ◌++◌, length, map, take, drop, Contains, Option, Some, None, IfSome}
-use Rattle.std.specs.List.{AllByRecursion, concat, list_all}
+use Rattle.std.specs.Prelude.{◌≡◌, ◌↔◌, ℕ, ◌+◌, ◌%◌, ◌<◌, ◌≤◌, ◌^◌, ◌==◌, ◌&&◌, ◌||◌, Bool, true, false, not, if◌then◌else◌, nat_lt, List, [], ◌∷◌, ◌++◌, length, take, drop, Contains, Option, Some, None, IfSome}
+use Rattle.std.specs.List.{concat}
 use Rattle.mux_entries.specs.Entries.{EnsembleInformation}
 use Rattle.fib_reader.specs.Raw.{Raw}
 use Rattle.fib_reader.specs.Listening.{Listening}
@@ -12,7 +12,7 @@ use Rattle.stream_check.specs.Pictures.{Heard, HeardPicture, empty_picture, show
 use Rattle.stream_check.specs.Standing.{standing_in}
 use Rattle.stream_check.specs.Cutting.{IsGreedy}
 use Rattle.stream_check.specs.Pictures.{key_of}
-use Rattle.stream_check.specs.History.{Item, Moment, Said, Ended, frames_ended, listening, listener_after, due, last_eid, has_ensemble, has_begun, began_early, times_announced, last_flags, is_cut_off, rows, row_at_hand, settles_at, last_heard}
+use Rattle.stream_check.specs.History.{Moment, frames_ended, listening, due, last_eid, has_ensemble, has_begun, began_early, times_announced, last_flags, is_cut_off, rows, row_at_hand, settles_at, last_heard}
 use Rattle.stream_check.specs.Rules.{Known, at_most, is_absent, has_flags, name_of}
 
 abbrev pub listener_in : Memory → Listening

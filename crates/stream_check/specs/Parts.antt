@@ -1,5 +1,5 @@
 -- How many parts the frames of a notice can be cut into, each of which has all that is wanted.
-use Rattle.std.specs.Prelude.{◌≡◌, ℕ, ◌+◌, ◌==◌, Bool, if◌then◌else◌, List, [], ◌∷◌, ◌++◌}
+use Rattle.std.specs.Prelude.{ℕ, ◌+◌, ◌==◌, Bool, if◌then◌else◌, List, [], ◌∷◌, ◌++◌}
 use Rattle.std.specs.List.{list_any, list_all, concat}
 use Rattle.stream_check.specs.Cutting.{IsMostParts}
 

@@ -1,8 +1,8 @@
 -- Pictures whose entries tell when they were last heard.
-use Rattle.std.specs.Prelude.{◌≡◌, ℕ, ◌+◌, ◌*◌, ◌≤◌, ◌<◌, ◌==◌, Bool, true, false, ◌&&◌, not, if◌then◌else◌, nat_lt, List, [], ◌∷◌, ◌++◌, length, map, Option, Some, None}
+use Rattle.std.specs.Prelude.{◌≡◌, ℕ, ◌+◌, ◌*◌, ◌==◌, Bool, ◌&&◌, if◌then◌else◌, nat_lt, List, [], ◌++◌, map}
 use Rattle.std.specs.List.{list_all, AllByRecursion}
 use Rattle.fib_reader.specs.Raw.{Raw}
-use Rattle.fib_reader.specs.Listening.{Pictured, identifier_of, is_known}
+use Rattle.fib_reader.specs.Listening.{Pictured, identifier_of}
 use Rattle.mux_config.specs.Tables.{with_entry, with_entry_changed, has_entry}
 
 -- an entry, and a number that says when it was last heard

@@ -1,8 +1,8 @@
 -- What is found at an entry that is said, of what was known before it.
-use Rattle.std.specs.Prelude.{◌≡◌, ℕ, ◌+◌, ◌*◌, ◌/◌, ◌%◌, ◌-◌, ◌==◌, ◌&&◌, ◌||◌, Bool, true, false, not, if◌then◌else◌, nat_lt, nat_le, List, [], ◌∷◌, ◌++◌, length, map, get_or, Option, Some, None, unwrap_or}
+use Rattle.std.specs.Prelude.{ℕ, ◌+◌, ◌/◌, ◌%◌, ◌-◌, ◌==◌, ◌&&◌, ◌||◌, Bool, true, false, not, if◌then◌else◌, nat_lt, nat_le, List, [], ◌∷◌, ◌++◌, map, get_or, Option, Some, None, unwrap_or}
 use Rattle.std.specs.List.{filter}
 use Rattle.mux_entries.specs.Entries.{EnsembleInformation}
-use Rattle.fib_reader.specs.Raw.{Raw, word_at, ensemble_in}
+use Rattle.fib_reader.specs.Raw.{Raw, word_at}
 use Rattle.fib_reader.specs.Listening.{Pictured, Listening, identifier_of, is_made, all_entries}
 use Rattle.stream_check.specs.declared.finding.EntryName.{EntryName}
 use Rattle.stream_check.specs.declared.finding.EntryName.TheVariants as names

@@ -1,5 +1,5 @@
 -- Findings as they are told, one after the other.
-use Rattle.std.specs.Prelude.{ℕ, Bool, if◌then◌else◌, List, [], ◌∷◌, ◌++◌, Option, Some, None}
+use Rattle.std.specs.Prelude.{Bool, if◌then◌else◌, List, [], ◌∷◌, ◌++◌, Option, Some, None}
 use Rattle.stream_check.specs.declared.finding.Finding.{Finding}
 use Rattle.stream_check.specs.declared.finding.What.{What}
 use Rattle.stream_check.specs.declared.finding.What.TheVariants as whats

@@ -78,7 +78,7 @@ impl Checker {
     ghost use Rattle.stream_check.specs.Frames.{Fib, Reading, damaged_in, is_there};
     ghost use Rattle.stream_check.specs.Memory.{most};
     ghost use Rattle.stream_check.specs.Hearing.{HearsFrame};
-    ghost use Rattle.stream_check.specs.Following.{Follows, EndsFull, IsSummary, has_begun, is_empty, with_skip, with_fib};
+    ghost use Rattle.stream_check.specs.Following.{Follows, EndsFull, IsAtLimit, IsSummary, has_begun, is_empty, with_skip, with_fib};
 
     /// The check of a stream in this mode, of which no FIB was given yet. Each entry of the current configuration has to
     /// come in any `period` successive frames.
@@ -119,8 +119,9 @@ impl Checker {
 
     /// Whether a number is at its limit.
     fn is_at_limit(&self) -> bool
-        ensures { result ≡ false → (self.now.memory.frames < most)
+        ensures room { result ≡ false → (self.now.memory.frames < most)
             × (self.now.skipped < most) × (self.now.damaged < most) }
+        ensures limit { result ≡ true → IsAtLimit self.now }
     {
         self.memory.is_full() || (self.skipped >= LIMIT || self.damaged >= LIMIT)
     }
@@ -214,6 +215,7 @@ impl Checker {
             (R.told report.new)) }
         ensures long { IfErr result (λ fault. fault ≡ faults.TooLong
             → (self.new ≡ self.old) × (R.told report.new ≡ R.told report.old)) }
+        ensures limit { IfErr result (λ fault. fault ≡ faults.TooLong → IsAtLimit self.old) }
     {
         if self.is_at_limit() {
             return Err(CheckFault::TooLong);

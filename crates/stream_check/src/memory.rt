@@ -52,7 +52,7 @@ pub struct Memory {
 }
 
 impl Memory {
-    ghost use Rattle.std.specs.Prelude.{◌≡◌, ◌<◌, ◌≤◌, [], false};
+    ghost use Rattle.std.specs.Prelude.{◌≡◌, ◌<◌, ◌≤◌, [], false, true};
     ghost use Rattle.fib_codec.specs.Modes.{count_step};
     ghost use Rattle.stream_check.specs.Memory.{IsSane, Knows, most, with_swap, with_row, with_frame};
 
@@ -95,7 +95,8 @@ impl Memory {
 
     /// Whether as many frames have ended as are counted.
     pub(crate) fn is_full(&self) -> bool
-        ensures { result ≡ false → self.now.frames < most }
+        ensures room { result ≡ false → self.now.frames < most }
+        ensures full { result ≡ true → most ≤ self.now.frames }
     {
         self.frames >= 1u64 << 62
     }

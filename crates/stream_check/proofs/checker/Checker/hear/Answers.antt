@@ -1,6 +1,6 @@
-use Rattle.std.proofs.Common.{◌≡◌, ◌≢◌, ◌+◌, ◌<◌, ◌∷◌, ◌++◌, ◌∙◌, [], List, ℕ, Bool, true, false, not, Option, length, map, sym, ap, subst}
+use Rattle.std.proofs.Common.{◌∷◌, ◌++◌, ◌∙◌, [], List, ℕ, Bool, not, map, sym, subst}
 use Rattle.fib_codec.specs.Modes.{fib_count}
-use Rattle.stream_check.specs.Frames.{Fib, IsFramed}
+use Rattle.stream_check.specs.Frames.{IsFramed}
 use Rattle.stream_check.specs.Hearing.{HearsFrame}
 use Rattle.stream_check.specs.Following.{Checking, Follows}
 use Rattle.stream_check.proofs.Followed.{two_fibs, skipped_where, next_where, cut_where, later_where, follows_skip, follows_hold, follows_frame, ends_frame, cut_before, cut_after}

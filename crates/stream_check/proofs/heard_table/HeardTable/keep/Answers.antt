@@ -1,5 +1,4 @@
-use Rattle.std.proofs.Common.{◌≡◌, ◌<◌, ◌≤◌, ◌∙◌, true, false, List, length, None, Some, is_some, sym, ap, subst, arith}
-use Rattle.std.specs.Option.{option_copied}
+use Rattle.std.proofs.Common.{◌≡◌, ◌≤◌, ◌∙◌, true, false, List, length, is_some, sym, ap, subst}
 use Rattle.mux_config.specs.Tables.{entry_at, with_entry, with_entry_changed}
 use Rattle.fib_reader.specs.Listening.{identifier_of}
 use Rattle.stream_check.specs.Pictures.{Heard, heard_key}

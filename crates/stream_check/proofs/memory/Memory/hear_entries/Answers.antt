@@ -1,7 +1,7 @@
-use Rattle.std.proofs.Common.{◌≡◌, ◌∷◌, ◌++◌, [], true, false, not, ◌∙◌, sym, ap, subst, Bool, refl}
+use Rattle.std.proofs.Common.{◌∷◌, [], not, ap, subst, Bool}
 use Rattle.stream_check.specs.History.{items_of}
 use Rattle.stream_check.specs.Hearing.{Hears}
-use Rattle.stream_check.proofs.Loops.{sets_out, goes_on, breaks_off, arrives}
+use Rattle.stream_check.proofs.Loops.{sets_out, goes_on, breaks_off}
 use Rattle.stream_check.proofs.memory.Memory.hear_entries.Goals as goal
 
 pub loop-entry-init : goal.loop-entry-init

@@ -1,4 +1,4 @@
-use Rattle.std.proofs.Common.{◌≡◌, ◌∙◌, sym, ap, subst, map}
+use Rattle.std.proofs.Common.{◌≡◌, ◌∙◌, sym, subst, map}
 use Rattle.std.specs.Prelude.{if◌then◌else◌}
 use Rattle.mux_entries.specs.Entries.{EnsembleInformation}
 use Rattle.stream_check.specs.Telling.{with_more, in_frame}

@@ -1,7 +1,7 @@
-use Rattle.std.proofs.Common.{◌≡◌, ◌∷◌, ◌++◌, [], true, false, not, ◌∙◌, sym, ap, subst, Bool, refl, map, List, ℕ}
+use Rattle.std.proofs.Common.{false, not, ap, subst, Bool, map}
 use Rattle.stream_check.specs.History.{fib_items, fibs_items, frame_items}
 use Rattle.stream_check.specs.Hearing.{Hears}
-use Rattle.stream_check.proofs.Loops.{sets_out, goes_on, breaks_off, arrives}
+use Rattle.stream_check.proofs.Loops.{sets_out, goes_on, breaks_off}
 use Rattle.stream_check.proofs.Steps.{later_itself, later_twice}
 use Rattle.stream_check.proofs.memory.Memory.hear_fibs.Goals as goal
 

@@ -1,6 +1,6 @@
-use Rattle.std.proofs.Common.{◌≡◌, ◌∙◌, sym, ap, subst, map, not, true, false, Bool, ℕ}
+use Rattle.std.proofs.Common.{◌≡◌, ◌∙◌, sym, ap, subst, map, not, false, Bool, ℕ}
 use Rattle.stream_check.specs.History.{frame_items}
-use Rattle.stream_check.specs.Stream.{frame_at, count_of_frame}
+use Rattle.stream_check.specs.Stream.{count_of_frame}
 use Rattle.stream_check.specs.Memory.{with_frame}
 use Rattle.stream_check.specs.Hearing.{Hears, HearsFrame}
 use Rattle.stream_check.specs.declared.telling.FrameAt.{FrameAt}

@@ -1,4 +1,4 @@
-use Rattle.std.proofs.Common.{Bool, true, false, not, [], ◌∷◌, sym, subst}
+use Rattle.std.proofs.Common.{Bool, not, [], ◌∷◌, sym, subst}
 use Rattle.stream_check.specs.History.{items_of}
 use Rattle.stream_check.specs.Hearing.{Hears}
 use Rattle.stream_check.proofs.Steps.{hears_passed, answered_current, answered_next}
