@@ -26,8 +26,8 @@ pub struct ItemFault {
 fn add(item: &Item, config: &mut Config) -> Result<(), ItemFault>
     ensures made { OnOk result (config.new ≡ changed item.now.edit config.old) }
     ensures fine { OnOk result (edit_fault item.now.edit config.old ≡ None) }
-    ensures refused { IfErr result (λ e. (e.line ≡ item.now.line) × (edit_fault item.now.edit config.old
-        ≡ Some e.fault)) }
+    ensures refused { IfErr result (λ e. (e.line ≡ item.now.line)
+        × (edit_fault item.now.edit config.old ≡ Some e.fault)) }
 {
     let line = item.line;
     match item.edit.apply(config) {
