@@ -16,7 +16,7 @@ use Rattle.stream_check.specs.Memory.{Knows}
 use Rattle.stream_check.specs.Hearing.{IsFrameHeard, HearsFrame}
 use Rattle.mux_entries.specs.Entries.{EnsembleInformation}
 use Rattle.stream_check.specs.declared.checker.Summary.{Summary}
-use Rattle.stream_check.specs.Following.{Checking, Follows, EndsFull, IsSummary, has_begun, is_empty}
+use Rattle.stream_check.specs.Following.{Checking, Follows, EndsFull, IsSummary, is_begun, is_empty}
 use Rattle.stream_check.proofs.Chain.{more_twice, more_none}
 use Rattle.stream_check.proofs.Framing.{flat, one_more, held_of, skips_more, goes_on, after_more, full_more, findings_more, damaged_append}
 
@@ -238,18 +238,18 @@ pub record Unbegun (c : Checking) : Type 0 where
   pub none : c.memory.frames ≡ 0
   pub empty : c.held ≡ []
 
-pub unbegun : (c : Checking) → has_begun c ≡ false → Unbegun c
+pub unbegun : (c : Checking) → is_begun c ≡ false → Unbegun c
 unbegun c e = let parts = neither (nat_lt 0 c.memory.frames) (not (is_empty c.held)) e in record { none = no_count c.memory.frames parts.0; empty = empty_is c.held parts.1 }
 
-pub skipped_where : (r : Reading) (c : Checking) (fib : List ℕ) (first : Option EnsembleInformation) → first ≡ first_in (r.read fib) → (not (has_begun c) && not (is_there first)) ≡ true → Unbegun c × (holds_ensemble (r.read fib) ≡ false)
+pub skipped_where : (r : Reading) (c : Checking) (fib : List ℕ) (first : Option EnsembleInformation) → first ≡ first_in (r.read fib) → (not (is_begun c) && not (is_there first)) ≡ true → Unbegun c × (holds_ensemble (r.read fib) ≡ false)
 skipped_where r c fib first is e =
-    let parts = both (not (has_begun c)) (not (is_there first)) e in
-    (unbegun c (not_true (has_begun c) parts.0), ap is_there (sym is) ∙ not_true (is_there first) parts.1)
+    let parts = both (not (is_begun c)) (not (is_there first)) e in
+    (unbegun c (not_true (is_begun c) parts.0), ap is_there (sym is) ∙ not_true (is_there first) parts.1)
 
-begun_not : (c : Checking) → c.memory.frames ≡ 0 → c.held ≡ [] → has_begun c ≡ false
+begun_not : (c : Checking) → c.memory.frames ≡ 0 → c.held ≡ [] → is_begun c ≡ false
 begun_not c none empty = ap (λ n. nat_lt 0 n || not (is_empty c.held)) none ∙ ap (λ h. nat_lt 0 0 || not (is_empty h)) empty
 
-pub next_where : (r : Reading) (c : Checking) (fib : List ℕ) (first : Option EnsembleInformation) → first ≡ first_in (r.read fib) → (not (has_begun c) && not (is_there first)) ≡ false → IsNext r c fib
+pub next_where : (r : Reading) (c : Checking) (fib : List ℕ) (first : Option EnsembleInformation) → first ≡ first_in (r.read fib) → (not (is_begun c) && not (is_there first)) ≡ false → IsNext r c fib
 next_where r c fib first is e = record { holds = λ none empty. ap is_there (sym is) ∙ chosen (is_there first) (sym (ap (λ t. not t && not (is_there first)) (begun_not c none empty)) ∙ e) }
   where
     chosen : (b : Bool) → not b ≡ false → b ≡ true

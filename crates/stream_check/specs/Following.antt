@@ -35,8 +35,8 @@ abbrev pub is_empty : List (List ℕ) → Bool
 is_empty [] = true
 is_empty (x ∷ xs) = false
 
-abbrev pub has_begun : Checking → Bool
-has_begun c = nat_lt 0 c.memory.frames || not (is_empty c.held)
+abbrev pub is_begun : Checking → Bool
+is_begun c = nat_lt 0 c.memory.frames || not (is_empty c.held)
 
 -- a FIB that is skipped, and one that is held
 abbrev pub with_skip : Checking → Checking

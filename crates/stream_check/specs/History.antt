@@ -1,5 +1,5 @@
 -- What was said in a stream: what each frame says, and what had been said before.
-use Rattle.std.specs.Prelude.{ℕ, ◌+◌, ◌%◌, ◌==◌, ◌&&◌, ◌||◌, Bool, true, false, not, if◌then◌else◌, nat_le, List, [], ◌∷◌, ◌++◌, map, Option, Some, None}
+use Rattle.std.specs.Prelude.{ℕ, ◌+◌, ◌%◌, ◌==◌, ◌&&◌, ◌||◌, Bool, true, false, not, if◌then◌else◌, List, [], ◌∷◌, ◌++◌, map, Option, Some, None}
 use Rattle.mux_entries.specs.Entries.{EnsembleInformation}
 use Rattle.fib_codec.specs.Grammar.{Fig, Open, Other, is_next}
 use Rattle.stream_check.specs.Frames.{Fib}
@@ -185,9 +185,6 @@ settles_at period [] = period
 settles_at period (Said i ∷ past) =
     if is_swap past i then (if is_cut_off past then frames_ended past + period else 0) else settles_at period past
 settles_at period (Ended count ∷ past) = settles_at period past
-
-abbrev pub is_settled : ℕ → List Moment → Bool
-is_settled period past = nat_le (settles_at period past) (frames_ended past)
 
 -- the number of the frame, from 1, in which the entry of this key was last heard with C/N 0, or the last swap was made;
 -- 0 where neither was so

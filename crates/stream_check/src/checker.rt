@@ -78,7 +78,7 @@ impl Checker {
     ghost use Rattle.stream_check.specs.Frames.{Fib, Reading, damaged_in, is_there};
     ghost use Rattle.stream_check.specs.Memory.{most};
     ghost use Rattle.stream_check.specs.Hearing.{HearsFrame};
-    ghost use Rattle.stream_check.specs.Following.{Follows, EndsFull, IsAtLimit, IsSummary, has_begun, is_empty, with_skip, with_fib};
+    ghost use Rattle.stream_check.specs.Following.{Follows, EndsFull, IsAtLimit, IsSummary, is_begun, is_empty, with_skip, with_fib};
 
     /// The check of a stream in this mode, of which no FIB was given yet. Each entry of the current configuration has to
     /// come in any `period` successive frames.
@@ -97,14 +97,14 @@ impl Checker {
 
     /// Whether a FIG 0/0 was heard.
     fn has_begun(&self) -> bool
-        ensures { result ≡ has_begun self.now }
+        ensures { result ≡ is_begun self.now }
     {
         self.memory.frames() > 0 || !self.held.is_empty()
     }
 
     /// Whether a FIB that is seen so is skipped: no FIG 0/0 was heard before, and it holds none.
     fn is_skipped(&self, sight: &Sight) -> bool
-        ensures { result ≡ (not (has_begun self.now) && not (is_there sight.now.first)) }
+        ensures { result ≡ (not (is_begun self.now) && not (is_there sight.now.first)) }
     {
         !self.has_begun() && sight.first.is_none()
     }
@@ -243,8 +243,8 @@ impl Checker {
 
     /// The stream is over; None where it has no FIG 0/0.
     pub fn finish(&self) -> Option<Summary>
-        ensures none { IfNone result (has_begun self.now ≡ false) }
-        ensures some { IfSome result (λ s. (has_begun self.now ≡ true)
+        ensures none { IfNone result (is_begun self.now ≡ false) }
+        ensures some { IfSome result (λ s. (is_begun self.now ≡ true)
             × ((r : Reading) (mode : modes.Mode) (period : ℕ) (stream : List Fib)
             (start told : Option (List findings.Finding))
             (follows : Follows r mode period stream start told self.now)

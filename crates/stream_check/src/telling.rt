@@ -40,7 +40,8 @@ pub(crate) fn tell<R: Report>(at: FrameAt, what: What, report: &mut R)
 
 /// Tells a fault where this holds.
 pub(crate) fn tell_if<R: Report>(holds: bool, at: FrameAt, fault: Fault, report: &mut R)
-    ensures { R.told report.new ≡ with_more (R.told report.old) (map (in_frame at) (when holds fault)) }
+    ensures { let found = map (in_frame at) (when holds fault) in
+        R.told report.new ≡ with_more (R.told report.old) found }
 {
     if holds {
         tell(at, What::Fault(fault), report);
@@ -49,7 +50,8 @@ pub(crate) fn tell_if<R: Report>(holds: bool, at: FrameAt, fault: Fault, report:
 
 /// Tells a fault, if there is one.
 pub(crate) fn tell_some<R: Report>(fault: Option<Fault>, at: FrameAt, report: &mut R)
-    ensures { R.told report.new ≡ with_more (R.told report.old) (map (in_frame at) (as_list fault)) }
+    ensures { let found = map (in_frame at) (as_list fault) in
+        R.told report.new ≡ with_more (R.told report.old) found }
 {
     if let Some(fault) = fault {
         tell(at, What::Fault(fault), report);
