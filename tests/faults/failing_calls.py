@@ -21,6 +21,7 @@ ROWS = [
     ("frame x.record --ensemble E1C5 --count 1", ["cannot read x.record\n"]),
     ("frame - --ensemble E1C5 --count 1", ["cannot read -\n"]),
     ("listen x.fib", ["cannot read x.fib\n"]),
+    ("check x.fib", ["cannot read x.fib\n"]),
     ("compile x.script x.out", ["cannot read x.script\n", "cannot write x.out\n"]),
     ("verify x.code", ["cannot read x.code\n"]),
     ("play x.code x.events x.out", ["cannot read x.code\n", "cannot read x.events\n", "cannot write x.out\n"]),

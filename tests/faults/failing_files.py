@@ -69,6 +69,7 @@ def try_files(tally, program, folder):
     common.write(folder, "kept", "kept")
     absent = [
         (["frame", "absent", *FRAME], "cannot read absent"), (["listen", "absent"], "cannot read absent"),
+        (["check", "absent"], "cannot read absent"), (["check", "."], "cannot read ."),
         (["verify", "absent"], "cannot read absent"), (["compile", "absent", "kept"], "cannot read absent"),
         (["play", "absent", "a.events", "kept"], "cannot read absent"),
         (["play", CODE, "absent", "kept"], "cannot read absent"),

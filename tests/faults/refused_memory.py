@@ -108,6 +108,7 @@ def commands():
         (["frame", common.EXAMPLES / "one_programme.rec", "--ensemble", "E1C5", "--count", "0"], []),
         (["frame", "-", "--ensemble", "E1C5", "--count", "0", "--page", "1"], []),
         (["listen", "a.fib"], []),
+        (["check", "a.fib"], []),
         (["compile", SCRIPT, "made.code"], ["made.code"]),
         (["compile", "wrong.plan", "made.code"], ["made.code"]),
         (["verify", CODE], []),
