@@ -8,6 +8,7 @@ ghost use Rattle.plan_session.specs.declared.command.Command.{Command};
 ghost use Rattle.plan_session.specs.Playback.{asked};
 ghost use Rattle.commands.specs.Transcript.{place_text, swap_text, break_line, report_lines, announcement_line, shown_lines, Transcript, IsSession, Prints, IsDebugFault, IsUnprinted};
 
+use crate::code_input::read_code;
 use crate::play::text_of;
 use command_line::{DebugRequest, StartOptions};
 use console::exit::{Failure, Status, read_file};
@@ -46,7 +47,7 @@ pub fn show_debug<'a, F: Files, W: Write>(
     files: &mut F,
     out: &mut W,
 ) -> Result<Status, Failure<'a>> {
-    let code = read_file(alloc, files, request.code, usize::MAX)?;
+    let code = read_code(alloc, files, request.code)?;
     let text = read_file(alloc, files, request.commands, usize::MAX)?;
     let commands = text_of(text.as_slice(), request.commands)?;
     match debug(alloc, code.as_slice(), commands, request.start, out) {

@@ -3,6 +3,7 @@
 #![tactic(auto)]
 
 pub mod answer;
+pub mod code_input;
 pub mod compile;
 pub mod debug;
 pub mod play;

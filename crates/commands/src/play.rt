@@ -1,5 +1,6 @@
 //! `dabplan play`: a plan code played over events, its frames written to a file.
 
+use crate::code_input::read_code;
 use command_line::PlayRequest;
 use console::exit::{Failure, Status, create_file, read_file};
 use console::files::Files;
@@ -21,7 +22,7 @@ pub fn show_play<'a, F: Files, W: Write>(
     files: &mut F,
     out: &mut W,
 ) -> Result<Status, Failure<'a>> {
-    let code = read_file(alloc, files, request.code, usize::MAX)?;
+    let code = read_code(alloc, files, request.code)?;
     let text = read_file(alloc, files, request.events, usize::MAX)?;
     let events = text_of(text.as_slice(), request.events)?;
     let file = create_file(files, request.out)?;

@@ -1,6 +1,7 @@
 //! `dabplan verify`: whether the plan code in a file is accepted.
 
-use console::exit::{Failure, Status, read_file};
+use crate::code_input::read_code;
+use console::exit::{Failure, Status};
 use console::files::Files;
 use plan_code::CodeFault;
 use plan_session::{RunFault, typed_code};
@@ -14,7 +15,7 @@ pub fn show_verdict<'a, F: Files, W: Write>(
     files: &mut F,
     out: &mut W,
 ) -> Result<Status, Failure<'a>> {
-    let file = read_file(alloc, files, path, usize::MAX)?;
+    let file = read_code(alloc, files, path)?;
     match typed_code(alloc, file.as_slice()) {
         Ok(_verified) => {
             writeln!(out, "accepted")?;
