@@ -3,9 +3,10 @@
 to standard output.
 
 Where a call for a file fails, the command prints the line of that file alone, or `no memory` where the system says so,
-ends with 1, makes no other such call, and leaves no file; one that is interrupted is made again. Where a write fails, takes nothing or is interrupted, what was
-printed before is all that is printed, nothing is written after it, and the status is 1. The last line is 'N passed, M
-failed'.
+ends with 1, makes no other such call, and leaves no file; `check`, which prints as it reads, may have printed a
+beginning of its lines before. A call that is interrupted is made again. Where a write fails, takes nothing or is
+interrupted, what was printed before is all that is printed, nothing is written after it, and the status is 1. The last
+line is 'N passed, M failed'.
 """
 import os
 import pathlib
@@ -75,7 +76,9 @@ def try_files(tally, failing):
             for error, wanted in ((EIO, refusals[file - 1]), (ENOMEM, "no memory\n")):
                 ended, made = failing.run(line, at=number, **{"as": error})
                 what = f"{line}: call {number} fails as {error}"
-                tally.same(what, (1, wanted.encode(), b""), (*ended.lines(), ended.messages))
+                before = ended.printed.removesuffix(wanted.encode()) if line.startswith("check") else b""
+                tally.same(what, (1, before + wanted.encode(), b""), (*ended.lines(), ended.messages))
+                tally.hold(printed.startswith(before), f"{what}: what is printed before it")
                 tally.same(f"{what}: calls", calls[:number], made.replace("w", ""))
                 tally.hold(not failing.is_made(), f"{what}: a file is made")
             ended, made = failing.run(line, at=number, **{"as": EINTR})
