@@ -5,8 +5,9 @@ ghost use Rattle.std.specs.Io.KnownBytes.{Appends};
 ghost use Rattle.commands.specs.Compiled.{IsCompiled, counts_line};
 
 use crate::play::text_of;
+use crate::script_input::{read_script, whole_characters};
 use command_line::CompileRequest;
-use console::exit::{Failure, Status, create_file, read_file};
+use console::exit::{Failure, Status, create_file};
 use console::files::Files;
 use console::output::write_out;
 use plan_code::encode;
@@ -76,8 +77,8 @@ pub fn show_compile<'a, F: Files, W: Write>(
     files: &mut F,
     out: &mut W,
 ) -> Result<Status, Failure<'a>> {
-    let bytes = read_file(alloc, files, request.script, usize::MAX)?;
-    let text = text_of(bytes.as_slice(), request.script)?;
+    let bytes = read_script(alloc, files, request.script)?;
+    let text = text_of(whole_characters(bytes.as_slice()), request.script)?;
     let compiled = match compile_text(alloc, text) {
         Ok(compiled) => compiled,
         Err(ScriptRefusal::Memory) => return Err(Failure::Memory),

@@ -7,4 +7,5 @@ pub mod code_input;
 pub mod compile;
 pub mod debug;
 pub mod play;
+pub mod script_input;
 pub mod verify;
