@@ -118,7 +118,7 @@ build_own() {
     exit 1
   fi
   echo "dabplan: these sources are not those of release/dabplan: proving and building the program;" \
-    "from nothing that takes some 35 minutes on four cores" >&2
+    "from nothing that takes more than half an hour on four cores" >&2
   log=$(mktemp)
   if ! build "$log"; then
     cat "$log" >&2
