@@ -55,7 +55,7 @@ pub figs_added : (ms : List Marked) (m : Marked) → figs_of (ms ++ m ∷ []) �
 figs_added [] m = refl
 figs_added (x ∷ ms) m = ap (λ fs. joined x fs) (figs_added ms m) ∙ joined_added x m (figs_of ms)
 
-added_same : (fs : List Written) (f : Written) (m : Marked) → same_head f.head (head_of m) ≡ true → added (fs ++ f ∷ []) m ≡ fs ++ written_of f.head (f.entries ++ m.entry ∷ []) ∷ []
+pub added_same : (fs : List Written) (f : Written) (m : Marked) → same_head f.head (head_of m) ≡ true → added (fs ++ f ∷ []) m ≡ fs ++ written_of f.head (f.entries ++ m.entry ∷ []) ∷ []
 added_same [] f m e = rw e refl
 added_same (g ∷ []) f m e = ap (λ t. g ∷ t) (added_same [] f m e)
 added_same (g ∷ (h ∷ fs)) f m e = ap (λ t. g ∷ t) (added_same (h ∷ fs) f m e)
@@ -66,7 +66,7 @@ added_other (g ∷ []) f m e = ap (λ t. g ∷ t) (added_other [] f m e)
 added_other (g ∷ (h ∷ fs)) f m e = ap (λ t. g ∷ t) (added_other (h ∷ fs) f m e)
 
 -- the bytes of a FIG behind others, and of one entry in a FIG
-figs_bytes_last : (fs : List Written) (f : Written) → figs_bytes (fs ++ f ∷ []) ≡ figs_bytes fs ++ fig_bytes f.head f.entries
+pub figs_bytes_last : (fs : List Written) (f : Written) → figs_bytes (fs ++ f ∷ []) ≡ figs_bytes fs ++ fig_bytes f.head f.entries
 figs_bytes_last fs f =
     flat_map-append (λ (g : Written). fig_bytes g.head g.entries) fs (f ∷ [])
     ∙ ap (λ t. figs_bytes fs ++ t) (append-nil (fig_bytes f.head f.entries))
@@ -317,7 +317,7 @@ filled_before mode ms n old bytes c d last s at before used near inside w =
     }
 
 -- a step into this one
-figs_size_part : (h : Option Head) (xs ys : List Marked) → figs_size h xs ≤ figs_size h (xs ++ ys)
+pub figs_size_part : (h : Option Head) (xs ys : List Marked) → figs_size h xs ≤ figs_size h (xs ++ ys)
 figs_size_part h [] ys = omega arith
 figs_size_part h (x ∷ xs) ys = omega (arith, figs_size_part (Some (head_of x)) xs ys)
 
@@ -332,7 +332,7 @@ room_next mode ms n from top c q s into w room =
     subst (λ (xs : List Marked). figs_size None (piece ++ s.entry ∷ []) ≤ figs_size None xs) whole (figs_size_part None (piece ++ s.entry ∷ []) rest) in
     omega (arith, part, room)
 
-same_there : (ms : List Marked) (i : ℕ) (a b : Marked) → slice_get ms i ≡ Some a → slice_get ms i ≡ Some b → a ≡ b
+pub same_there : (ms : List Marked) (i : ℕ) (a b : Marked) → slice_get ms i ≡ Some a → slice_get ms i ≡ Some b → a ≡ b
 same_there ms i a b h k = sym (get_or_from_slice_get ms i a a h) ∙ get_or_from_slice_get ms i b a k
 
 -- what the walk knows of a step into FIB n
@@ -352,7 +352,7 @@ filled_fits mode ms n old bytes c d last shape s e w =
     fits_next old bytes (take (c.index - w.from) (drop w.from ms)) e.step.entry shape last w.filled (s.head ∙ ap head_of same) (s.size ∙ ap size_of same)
     (room_next mode ms n w.from (length old) c d.state e.step e.into w.walked e.room)
 
-put_step : (mode : Mode) (ms : List Marked) (n : ℕ) (old bytes mid : List ℕ) (c d : Position) (last : Option OpenFig) (fig : OpenFig) (shape : EntryShape) (s : IsShapeAt ms c.index shape) (e : Entered mode ms n old c d)
+pub put_step : (mode : Mode) (ms : List Marked) (n : ℕ) (old bytes mid : List ℕ) (c d : Position) (last : Option OpenFig) (fig : OpenFig) (shape : EntryShape) (s : IsShapeAt ms c.index shape) (e : Entered mode ms n old c d)
     → (w : FilledTo mode ms n old c last bytes) → Grows last shape bytes fig mid → Put old mid (take (c.index - w.from) (drop w.from ms)) e.step.entry fig
 put_step mode ms n old bytes mid c d last fig shape s e w g =
     let same : s.entry ≡ e.step.entry = same_there ms c.index s.entry e.step.entry s.here e.step.here in

@@ -15,3 +15,5 @@ pub mod Hearing
 pub mod Sides
 pub mod Most
 pub mod Runs
+pub mod Together
+pub mod Sections

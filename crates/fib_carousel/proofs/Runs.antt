@@ -38,7 +38,7 @@ last_placed mode (m ∷ ms) p = last_placed mode ms (placed mode m p)
 
 -- ---- a run
 
-step_stays : (mode : Mode) (s : EntryShape) (fib used : ℕ) → used + s.size ≤ room mode fib → step mode s (state_at s fib used) ≡ state_at s fib (used + s.size)
+pub step_stays : (mode : Mode) (s : EntryShape) (fib used : ℕ) → used + s.size ≤ room mode fib → step mode s (state_at s fib used) ≡ state_at s fib (used + s.size)
 step_stays mode s fib used fits = rw (same_head_own s.head, le-leb (used + s.size) (room mode fib) fits) refl
 
 step_leaves : (mode : Mode) (s : EntryShape) (fib used : ℕ) → s.size ≤ 21 → room mode fib < used + s.size → step mode s (state_at s fib used) ≡ state_at s (fib + 1) (2 + s.size)

@@ -1,13 +1,21 @@
 -- The entries of a configuration, each with its C/N flag, and those of two side by side.
-use Rattle.std.proofs.Common.{◌≡◌, ℕ, ◌+◌, ◌-◌, ◌<◌, ◌≤◌, Bool, true, false, List, ◌++◌, length, slice_get, Option, Some, None, option_map, refl, sym, ◌∙◌, ap, arith}
+use Rattle.std.proofs.Common.{◌≡◌, ℕ, ◌+◌, ◌-◌, ◌<◌, ◌≤◌, Bool, true, false, List, ◌++◌, length, slice_get, get_or, subst, Option, Some, None, option_map, refl, sym, ◌∙◌, ap, arith}
 use Rattle.std.proofs.lemmas.List.{length-append, length-map, get_or_append_left}
 use Rattle.std.proofs.Math.Seq.{get_or-append_right}
-use Rattle.std.proofs.lemmas.Option.{slice_get-map, slice_get_within, slice_get_read, get_or_from_slice_get}
+use Rattle.std.proofs.lemmas.Option.{slice_get-map, slice_get-get_or, slice_get_within, slice_get_read, get_or_from_slice_get}
 use Rattle.mux_config.specs.Configuration.{Configuration}
 use Rattle.mux_entries.specs.Facts.{marked, facts_of}
 use Rattle.mux_entries.specs.declared.entry.Entry.{Entry}
 use Rattle.fib_carousel.specs.Items.{config_entries}
 use Rattle.fib_carousel.specs.Pages.{page_set}
+use Rattle.mux_entries.specs.Facts.{Marked}
+use Rattle.fib_codec.specs.Spelling.{head_of}
+use Rattle.fib_carousel.specs.declared.pack_state.EntryShape.{EntryShape}
+use Rattle.fib_carousel.specs.Packing.{size_of}
+use Rattle.fib_carousel.specs.Walk.{IsShapeAt}
+use Rattle.fib_carousel.specs.Shapes.{piece, AreAlike, IsRun, marked_bytes, PutsRun, TakesRuns}
+use Rattle.fib_carousel.proofs.Filling.{same_there}
+use Rattle.fib_carousel.proofs.Sections.{piece_front, piece_behind}
 
 pub marked_at : (c : Configuration) (next : Bool) (place : ℕ) (e : Entry) → slice_get (config_entries c) place ≡ Some e → slice_get (facts_of c next) place ≡ Some (marked next e)
 marked_at c next place e h = slice_get-map (marked next) (config_entries c) place ∙ ap (λ o. option_map (marked next) o) h
@@ -39,3 +47,81 @@ in_next c d count place e same le h =
     let there : slice_get (facts_of d true) (place - length (facts_of c false)) ≡ Some (marked true e) =
     ap (λ n. slice_get (facts_of d true) (place - n)) long ∙ marked_at d true (place - count) e h in
     behind_get (facts_of c false) (facts_of d true) place (marked true e) (omega (arith, le, long)) there
+
+-- ---- runs of the entries of one side
+run_front : (xs ys : List Marked) (i n : ℕ) (s : EntryShape) → IsRun xs i n s → IsRun (xs ++ ys) i n s
+run_front xs ys i n s r = record {
+  inside = omega (arith, r.inside, length-append xs ys);
+  alike = subst (λ (ms : List Marked). AreAlike s ms) (sym (piece_front xs ys i n r.inside)) r.alike;
+}
+
+behind_piece : (xs ys : List Marked) (i n : ℕ) → length xs ≤ i → piece (xs ++ ys) i n ≡ piece ys (i - length xs) n
+behind_piece xs ys i n le =
+    let at : i ≡ length xs + (i - length xs) = omega (arith, le) in
+    ap (λ j. piece (xs ++ ys) j n) at ∙ piece_behind xs ys (i - length xs) n
+
+run_behind : (xs ys : List Marked) (i n : ℕ) (s : EntryShape) → length xs ≤ i → IsRun ys (i - length xs) n s → IsRun (xs ++ ys) i n s
+run_behind xs ys i n s le r = record {
+  inside = omega (arith, le, r.inside, length-append xs ys);
+  alike = subst (λ (ms : List Marked). AreAlike s ms) (sym (behind_piece xs ys i n le)) r.alike;
+}
+
+-- what holds of the first of two lists one after another, and of the second
+pub record OneSide (all side : List Marked) (i j : ℕ) : Type 0 where
+  pub run : (n : ℕ) (s : EntryShape) → IsRun side j n s → IsRun all i n s
+  pub same : (n : ℕ) → j + n ≤ length side → piece all i n ≡ piece side j n
+  pub get : (m : Marked) → slice_get side j ≡ Some m → slice_get all i ≡ Some m
+
+front_side : (xs ys : List Marked) (i : ℕ) → OneSide (xs ++ ys) xs i i
+front_side xs ys i = record {
+  run = λ n s r. run_front xs ys i n s r;
+  same = λ n h. piece_front xs ys i n h;
+  get = λ m h. front_get xs ys i m h;
+}
+
+behind_side : (xs ys : List Marked) (i : ℕ) → length xs ≤ i → OneSide (xs ++ ys) ys i (i - length xs)
+behind_side xs ys i le = record {
+  run = λ n s r. run_behind xs ys i n s le r;
+  same = λ n h. behind_piece xs ys i n le;
+  get = λ m h. behind_get xs ys i m le h;
+}
+
+whole_side : (xs : List Marked) (i : ℕ) → OneSide xs xs i i
+whole_side xs i = record { run = λ n s r. r; same = λ n h. refl; get = λ m h. h }
+
+pub current_side : (c : Configuration) (next : Option Configuration) (i : ℕ) → OneSide (page_set c next) (facts_of c false) i i
+current_side c None i = whole_side (facts_of c false) i
+current_side c (Some d) i = front_side (facts_of c false) (facts_of d true) i
+
+pub next_side : (c d : Configuration) (next : Option Configuration) (count i : ℕ) → next ≡ Some d → count ≡ length (config_entries c) → count ≤ i → OneSide (page_set c next) (facts_of d true) i (i - count)
+next_side c d next count i is same le =
+    let long : length (facts_of c false) ≡ count = length-map (config_entries c) (marked false) ∙ sym same in
+    subst (λ (o : Option Configuration). OneSide (page_set c o) (facts_of d true) i (i - count)) (sym is)
+    (subst (λ k. OneSide (facts_of c false ++ facts_of d true) (facts_of d true) i (i - k)) long
+    (behind_side (facts_of c false) (facts_of d true) i (omega (arith, long, le))))
+
+pub side_takes : (all side : List Marked) (i j room : ℕ) (old : List ℕ) → OneSide all side i j → TakesRuns all i room old → TakesRuns side j room old
+side_takes all side i j room old o takes n s r fits = takes n s (o.run n s r) fits
+
+pub side_first : (all side : List Marked) (i j room : ℕ) → OneSide all side i j → ((m : Marked) → slice_get all i ≡ Some m → size_of m ≤ room) → (m : Marked) → slice_get side j ≡ Some m → size_of m ≤ room
+side_first all side i j room o first m h = first m (o.get m h)
+
+pub side_puts : (all side : List Marked) (i j room n : ℕ) (old new : List ℕ) → OneSide all side i j → j < length side → ((s : EntryShape) → IsShapeAt side j s → PutsRun side j s room n old new)
+    → (s : EntryShape) → IsShapeAt all i s → PutsRun all i s room n old new
+side_puts all side i j room n old new o there puts s at =
+    let here : slice_get side j ≡ Some (get_or side j at.entry) = slice_get-get_or side j at.entry there in
+    let same : at.entry ≡ get_or side j at.entry = same_there all i at.entry (get_or side j at.entry) at.here (o.get (get_or side j at.entry) here) in
+    let p = puts s (record { entry = get_or side j at.entry; here = here; head = at.head ∙ ap head_of same; size = at.size ∙ ap size_of same }) in
+    record {
+      some = p.some;
+      run = o.run n s p.run;
+      fits = p.fits;
+      bytes = p.bytes ∙ ap (λ (ms : List Marked). old ++ marked_bytes ms) (sym (o.same n p.run.inside));
+    }
+
+pub next_within : (c d : Configuration) (next : Option Configuration) (count i : ℕ) → next ≡ Some d → count ≡ length (config_entries c) → count ≤ i → i < length (page_set c next) → i - count < length (facts_of d true)
+next_within c d next count i is same le inside =
+    let long : length (facts_of c false) ≡ count = length-map (config_entries c) (marked false) ∙ sym same in
+    let all : length (page_set c next) ≡ length (facts_of c false) + length (facts_of d true) =
+    ap (λ o. length (page_set c o)) is ∙ length-append (facts_of c false) (facts_of d true) in
+    omega (arith, inside, all, long, le)

@@ -9,6 +9,7 @@ pub mod Walk
 pub mod Filling
 pub mod Runs
 pub mod Items
+pub mod Shapes
 pub use Rattle.fib_codec.specs.Modes
 pub use Rattle.fib_codec.specs.Crc
 pub use Rattle.fib_codec.specs.Spelling

@@ -1,6 +1,6 @@
 //! The entries that wait to be packed.
 
-ghost use Rattle.std.specs.Prelude.{◌≡◌, ◌+◌, ◌-◌, ◌<◌, ◌≤◌, List, length, slice_get, Some};
+ghost use Rattle.std.specs.Prelude.{◌≡◌, ◌<◌, ◌≤◌, List, length, slice_get, Some};
 ghost use Rattle.mux_entries.specs.Facts.{Marked};
 
 use crate::pack_state::EntryShape;
@@ -8,12 +8,13 @@ use fib_codec::Fib;
 
 /// A list of entries in the order in which they are packed.
 pub(crate) trait EntryList {
-    ghost use Rattle.std.specs.Prelude.{List, ◌++◌};
+    ghost use Rattle.std.specs.Prelude.{List};
     ghost use Rattle.mux_entries.specs.Facts.{Marked};
-    ghost use Rattle.fib_codec.specs.Spelling.{entry_bytes};
+    ghost use Rattle.fib_carousel.specs.declared.pack_state.EntryShape.{EntryShape};
     ghost use Rattle.fib_carousel.specs.Packing.{size_of};
     ghost use Rattle.fib_carousel.specs.Carried.{AreSendable};
     ghost use Rattle.fib_carousel.specs.Walk.{IsShapeAt};
+    ghost use Rattle.fib_carousel.specs.Shapes.{TakesRuns, PutsRun};
 
     ghost entries: { Self → List Marked };
 
@@ -26,14 +27,16 @@ pub(crate) trait EntryList {
     fn shape(&self, index: u16) -> EntryShape
         requires { index < length (entries self.now) }
         ensures value { IsShapeAt (entries self.now) index result }
+        ensures some { 1 ≤ result.size }
         ensures small { result.size ≤ 28 };
 
-    /// Appends the entry at an index to a FIB that has room for it.
-    fn put(&self, index: u16, fib: &mut Fib)
+    /// Appends the entry at an index to a FIB, and entries of the same head and size that stand behind it, but none
+    /// that the room in bytes is too small for. How many they are is the result.
+    fn put_run(&self, index: u16, room: u8, fib: &mut Fib) -> u8
         requires here { index < length (entries self.now) }
-        requires room { (m : Marked) → slice_get (entries self.now) index ≡ Some m
-            → length fib.old + size_of m ≤ 30 }
-        ensures { (m : Marked)
-            × (slice_get (entries self.now) index ≡ Some m)
-            × (fib.new ≡ fib.old ++ entry_bytes m.entry) };
+        requires first { (m : Marked) → slice_get (entries self.now) index ≡ Some m
+            → size_of m ≤ room }
+        requires room { TakesRuns (entries self.now) index room fib.old }
+        ensures { (s : EntryShape) → IsShapeAt (entries self.now) index s
+            → PutsRun (entries self.now) index s room result fib.old fib.new };
 }

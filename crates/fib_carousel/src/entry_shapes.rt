@@ -25,6 +25,7 @@ pub(crate) fn service_shape(service: &Service, next: bool) -> EntryShape
     ensures long { result.head.long ≡ is_long_entry (service_entry service.now) }
     ensures ext { result.head.ext ≡ 2 }
     ensures size { result.size ≡ entry_size (service_entry service.now) }
+    ensures some { 1 ≤ result.size }
     ensures small { result.size ≤ 28 }
 {
     let components = service.components.len() as u8;

@@ -8,6 +8,7 @@
 
 pub mod carousel;
 mod entry_list;
+mod entry_runs;
 mod entry_shapes;
 pub mod kept_page;
 pub mod laws;

@@ -1,6 +1,6 @@
 //! How far the packing has come.
 
-ghost use Rattle.std.specs.Prelude.{◌≡◌, ◌+◌, ◌*◌, ◌<◌, ◌≤◌, ◌^◌};
+ghost use Rattle.std.specs.Prelude.{◌≡◌, ◌↔◌, ◌+◌, ◌*◌, ◌<◌, ◌≤◌, ◌^◌, IsTrue};
 ghost use Rattle.mux_entries.specs.Facts.{Marked};
 ghost use Rattle.fib_codec.specs.Spelling.{head_of};
 ghost use Rattle.fib_carousel.specs.Packing.{cost, room, same_head, size_of};
@@ -59,6 +59,13 @@ pub(crate) fn same_head(one: Head, other: Head) -> bool
     ensures { result ≡ same_head one other }
 {
     one.next == other.next && one.oe == other.oe && one.long == other.long && one.ext == other.ext
+}
+
+/// Whether two entries have the same head and size.
+pub(crate) fn is_same_shape(one: EntryShape, other: EntryShape) -> bool
+    ensures { IsTrue result ↔ (one ≡ other) }
+{
+    same_head(one.head, other.head) && one.size == other.size
 }
 
 impl PackState {
@@ -123,6 +130,38 @@ impl PackState {
             used: 2 + shape.size,
             head: Some(shape.head),
         }
+    }
+
+    /// The state with the next entry placed, as [`PackState::then`] gives it. The room of the FIB of a number is known,
+    /// so that it is not computed anew where the entry goes into that one behind another.
+    pub(crate) fn then_beside(
+        self,
+        mode: Mode,
+        shape: EntryShape,
+        number: usize,
+        known: u8,
+    ) -> PackState
+        requires small { shape.size ≤ 28 }
+        requires used { self.used ≤ 30 }
+        requires fib { self.fib < 2 ^ 32 }
+        requires known { known ≡ room mode number }
+        ensures value { (m : Marked)
+            → shape.head ≡ head_of m → shape.size ≡ size_of m → result ≡ placed mode m self }
+        ensures used { result.used ≤ 30 }
+        ensures from { self.fib ≤ result.fib }
+        ensures to { result.fib ≤ self.fib + 2 }
+    {
+        if self.fib == number {
+            let used = self.used + self.cost(shape);
+            if used <= known {
+                return PackState {
+                    fib: number,
+                    used,
+                    head: Some(shape.head),
+                };
+            }
+        }
+        self.then(mode, shape)
     }
 
     /// The state with this many entries of one shape placed, of which each FIB takes as many as fit. Such an

@@ -1,19 +1,19 @@
 //! The entries of the pages: those of the current configuration, and those of the next one where it is given.
 
-ghost use Rattle.std.specs.Prelude.{◌≡◌, ◌+◌, ◌<◌, ◌≤◌, ◌++◌, Bool, true, false, length, Option, Some, slice_get};
+ghost use Rattle.std.specs.Prelude.{◌≡◌, ◌+◌, ◌<◌, ◌≤◌, Bool, true, false, length};
 ghost use Rattle.std.specs.Option.{option_copied};
 ghost use Rattle.mux_entries.specs.Facts.{marked, facts_of};
 ghost use Rattle.fib_carousel.specs.Pages.{page_set_of};
 ghost use Rattle.mux_entries.specs.declared.entry.Entry.{Entry};
-ghost use Rattle.fib_codec.specs.Spelling.{entry_bytes, entry_size, ext_of, is_long_entry};
+ghost use Rattle.fib_codec.specs.Spelling.{entry_size, ext_of, is_long_entry};
 ghost use Rattle.fib_carousel.specs.Carried.{AreSendable};
 ghost use Rattle.fib_carousel.specs.Walk.{IsShapeAt};
 ghost use Rattle.fib_carousel.specs.Items.{item_entry, IsFormedItem, config_entries, IsItemAt};
 
 use crate::entry_list::EntryList;
+use crate::entry_runs::put_run_at;
 use crate::entry_shapes::{packet_shape, service_shape, sub_shape};
 use crate::pack_state::EntryShape;
-use crate::to_entries::{put_packet, put_service, put_sub};
 use fib_codec::Fib;
 use mux_config::{Packet, Service, Store, Sub};
 
@@ -29,19 +29,6 @@ enum Item<'a> {
 }
 
 impl Item<'_> {
-    /// Appends the entry that says it to a FIB that has room for it.
-    fn put(&self, fib: &mut Fib)
-        requires formed { IsFormedItem self.now }
-        requires room { length fib.old + entry_size (item_entry self.now) ≤ 30 }
-        ensures { fib.new ≡ fib.old ++ entry_bytes (item_entry self.now) }
-    {
-        match self {
-            Item::Sub(sub) => put_sub(fib, *sub),
-            Item::Service(service) => put_service(fib, service),
-            Item::Packet(packet) => put_packet(fib, *packet),
-        }
-    }
-
     /// The head and the size of its entry, marked with this C/N flag.
     fn shape(&self, next: bool) -> EntryShape
         requires { IsFormedItem self.now }
@@ -50,6 +37,7 @@ impl Item<'_> {
         ensures long { result.head.long ≡ is_long_entry (item_entry self.now) }
         ensures ext { result.head.ext ≡ ext_of (item_entry self.now) }
         ensures size { result.size ≡ entry_size (item_entry self.now) }
+        ensures some { 1 ≤ result.size }
         ensures small { result.size ≤ 28 }
     {
         match self {
@@ -116,30 +104,10 @@ fn item_at<S: Store>(store: &S, index: u16) -> Item<'_>
 fn shape_at<S: Store>(store: &S, next: bool, index: u16) -> EntryShape
     requires { index < length (config_entries (S.content store.now)) }
     ensures value { IsShapeAt (facts_of (S.content store.now) next) index result }
+    ensures some { 1 ≤ result.size }
     ensures small { result.size ≤ 28 }
 {
     item_at(store, index).shape(next)
-}
-
-/// Appends the entry at an index of a store's configuration to a FIB that has room for it.
-fn put_at<S: Store>(store: &S, index: u16, fib: &mut Fib)
-    requires here { index < length (config_entries (S.content store.now)) }
-    requires room { (e : Entry) → slice_get (config_entries (S.content store.now)) index ≡ Some e
-        → length fib.old + entry_size e ≤ 30 }
-    ensures { (e : Entry) × (slice_get (config_entries (S.content store.now)) index ≡ Some e)
-        × (fib.new ≡ fib.old ++ entry_bytes e) }
-{
-    let index = usize::from(index);
-    let subs = store.sub_count();
-    if index < subs {
-        sub_item(store, index).put(fib);
-        return;
-    }
-    if index < subs + store.service_count() {
-        service_item(store, index).put(fib);
-        return;
-    }
-    packet_item(store, index).put(fib);
 }
 
 /// The entries of the pages: those of the current configuration, marked with C/N 0, and then those of the
@@ -185,15 +153,14 @@ impl<'a, 'b, S: Store> EntryList for PageSet<'a, 'b, S> {
         }
     }
 
-    fn put(&self, index: u16, fib: &mut Fib) {
+    fn put_run(&self, index: u16, room: u8, fib: &mut Fib) -> u8 {
         let current = entry_count(self.current);
         if index < current {
-            put_at(self.current, index, fib);
-            return;
+            return put_run_at(self.current, false, index, room, fib);
         }
         match self.next {
-            Some(next) => put_at(next, index - current, fib),
-            None => put_at(self.current, index, fib),
+            Some(next) => put_run_at(next, true, index - current, room, fib),
+            None => put_run_at(self.current, false, index, room, fib),
         }
     }
 }

@@ -12,7 +12,7 @@ ghost use Rattle.fib_carousel.specs.Walk.{StandsBefore, HasPassed};
 ghost use Rattle.fib_carousel.specs.Carried.{AreSendable, IsPageable};
 
 use crate::entry_list::EntryList;
-use crate::pack_state::{EntryShape, Position, same_head};
+use crate::pack_state::{EntryShape, PackState, Position, room, same_head};
 use fib_codec::{Fib, FibFrame, Head, Mode, entry_len};
 use mux_config::{Ensemble, Entry};
 
@@ -78,19 +78,30 @@ fn put_figs<L: EntryList>(
     ensures next { StandsBefore mode (L.entries list.now) (number + 1) position.new }
     ensures passed { HasPassed mode (L.entries list.now) number position.new }
 {
+    let known = room(mode, number);
     let mut last = None;
     'entries: while position.index < len {
         let shape = list.shape(position.index);
-        let state = position.state.then(mode, shape);
+        let state = position.state.then_beside(mode, shape, number, known);
         if state.fib > number {
             return;
         }
         if state.fib == number {
-            last = Some(fig_for(fib, last, shape));
-            list.put(position.index, fib);
+            let fig = fig_for(fib, last, shape);
+            let left = known - state.used;
+            let count = list.put_run(position.index, shape.size + left, fib);
+            let more = (count - 1) * shape.size;
+            fib.lengthen_fig(fig.place, more);
+            last = Some(fig);
+            position.index += u16::from(count);
+            position.state = PackState {
+                used: state.used + more,
+                ..state
+            };
+        } else {
+            position.index += 1;
+            position.state = state;
         }
-        position.index += 1;
-        position.state = state;
     }
 }
 

@@ -1,10 +1,15 @@
-use Rattle.std.proofs.Common.{◌+◌, arith, refl, subst, sym, Option, Some, List, ℕ}
+use Rattle.std.proofs.Common.{◌≡◌, ◌+◌, ◌-◌, ◌*◌, ◌≤◌, arith, refl, subst, sym, ap, ◌∙◌, Option, Some, List, ℕ, slice_set, slice_index_or}
+use Rattle.fib_codec.specs.declared.modes.Mode.{Mode}
 use Rattle.fib_carousel.specs.declared.pack_state.Position.{Position}
+use Rattle.fib_carousel.specs.declared.pack_state.PackState.{PackState}
 use Rattle.fib_carousel.specs.declared.page_writer.OpenFig.{OpenFig}
+use Rattle.fib_carousel.specs.Packing.{room}
+use Rattle.fib_carousel.specs.Walk.{IsShapeAt}
+use Rattle.fib_carousel.proofs.Least.{room_high}
 use Rattle.fib_carousel.proofs.Walk.{passed, walked_over, walked_end, passed_by}
-use Rattle.fib_carousel.proofs.Filling.{FilledTo, filled_start, filled_all, filled_fits, put_fits, filled_in, filled_before}
+use Rattle.fib_carousel.proofs.Filling.{FilledTo, Entered, filled_start, filled_all, filled_fits, filled_before}
+use Rattle.fib_carousel.proofs.Together.{Room, first_of_run, counted, takes, all_in}
 use Rattle.fib_carousel.proofs.page_writer.put_figs.Goals as goal
-use Rattle.fib_carousel.proofs.page_writer.put_figs.Goals.{then-state-number-2, else-state-number-2}
 
 pub entries-init : goal.entries-init
 entries-init g c = filled_start _ _ _ _ _ c.requires.stands
@@ -12,64 +17,221 @@ entries-init g c = filled_start _ _ _ _ _ c.requires.stands
 pub returns-then-state-number-clause-bytes : goal.returns-then-state-number-clause-bytes
 returns-then-state-number-clause-bytes g c =
     filled_all _ _ _ _ _ _ _ c.entries.invariant
-    (walked_over _ _ _ _ _ _ (passed _ _ _ _ _ _ c.shape-shape.ensures.value c.then-state.ensures.value) c.if-state-number.true c.entries.invariant.walked)
+    (walked_over _ _ _ _ _ _ (passed _ _ _ _ _ _ c.shape-shape.ensures.value c.then_beside-state.ensures.value) c.if-state-number.true c.entries.invariant.walked)
 
 pub returns-then-state-number-clause-passed : goal.returns-then-state-number-clause-passed
 returns-then-state-number-clause-passed g c =
-    passed_by _ _ _ _ _ _ (passed _ _ _ _ _ _ c.shape-shape.ensures.value c.then-state.ensures.value) c.if-state-number.true c.entries.invariant.walked
+    passed_by _ _ _ _ _ _ (passed _ _ _ _ _ _ c.shape-shape.ensures.value c.then_beside-state.ensures.value) c.if-state-number.true c.entries.invariant.walked
 
-pub fig_for-requires-clause-room : goal.fig_for-requires-clause-room
-fig_for-requires-clause-room g c =
-    let d : Position = record { index = c.entries.position.index + 1; state = c.then-state.result } in
+pub fig_for-fig-requires-clause-room : goal.fig_for-fig-requires-clause-room
+fig_for-fig-requires-clause-room g c =
+    let d : Position = record { index = c.entries.position.index + 1; state = c.then_beside-state.result } in
     filled_fits _ _ _ _ _ c.entries.position d _ _ c.shape-shape.ensures.value
     (record {
-      step = passed _ _ _ _ _ _ c.shape-shape.ensures.value c.then-state.ensures.value;
+      step = passed _ _ _ _ _ _ c.shape-shape.ensures.value c.then_beside-state.ensures.value;
       at = refl;
       into = c.if-state-number-2.true;
-      used = c.then-state.ensures.used;
-      near = c.then-state.ensures.to;
+      used = c.then_beside-state.ensures.used;
+      near = c.then_beside-state.ensures.to;
       inside = omega arith;
       room = c.requires.room;
     }) c.entries.invariant
 
-pub put-requires-clause-room : goal.put-requires-clause-room
-put-requires-clause-room g c =
-    let d : Position = record { index = c.entries.position.index + 1; state = c.then-state.result } in
-    put_fits _ _ _ _ _ _ c.entries.position d _ _ _ c.shape-shape.ensures.value
+pub put_run-count-requires-clause-room : goal.put_run-count-requires-clause-room
+put_run-count-requires-clause-room g c =
+    let e : Position = record { index = c.entries.position.index + 1; state = c.then_beside-state.result } in
+    let step = passed _ _ _ _ _ _ c.shape-shape.ensures.value c.then_beside-state.ensures.value in
+    let known : c.room-known.result ≡ room c.args.mode c.args.number = c.room-known.ensures.value in
+    let r : Room c.args.mode c.args.number c.then_beside-state.result c.shape-shape.result _ = record {
+      first = first_of_run _ _ _ _ _ _ c.shape-shape.ensures.value c.shape-shape.ensures.small step;
+      into = c.if-state-number-2.true;
+      is = ap (λ k. c.shape-shape.result.size + (k - c.then_beside-state.result.used)) known;
+    } in
+    takes _ _ _ _ _ _ c.entries.position e _ _ _ c.shape-shape.ensures.value
     (record {
-      step = passed _ _ _ _ _ _ c.shape-shape.ensures.value c.then-state.ensures.value;
+      step = step;
       at = refl;
       into = c.if-state-number-2.true;
-      used = c.then-state.ensures.used;
-      near = c.then-state.ensures.to;
+      used = c.then_beside-state.ensures.used;
+      near = c.then_beside-state.ensures.to;
       inside = omega arith;
       room = c.requires.room;
-    }) c.entries.invariant c.fig_for.ensures
-
-pub entries-preserved : goal.entries-preserved
-entries-preserved g c =
-    let d : Position = record { index = c.entries.position.index + 1; state = c.then-state.result } in
-    let step = passed _ _ _ _ _ _ c.shape-shape.ensures.value c.then-state.ensures.value in
-    elim c.if-state-number-2.branch [
-      | then-state-number-2 w ↦
-          subst (λ (l : Option OpenFig). FilledTo c.args.mode (g.L.EntryList.entries c.args.list.now) c.args.number c.args.fib.now d l c.if-state-number-2.fib) (sym w.last-is)
-          (subst (λ (b : List ℕ). FilledTo c.args.mode (g.L.EntryList.entries c.args.list.now) c.args.number c.args.fib.now d (Some w.fig_for.result) b) (sym w.fib-is)
-          (filled_in _ _ _ _ _ _ _ c.entries.position d _ _ _ c.shape-shape.ensures.value
-          (record {
-            step = step;
-            at = refl;
-            into = w.if-state-number-2.true;
-            used = c.then-state.ensures.used;
-            near = c.then-state.ensures.to;
-            inside = omega arith;
-            room = c.requires.room;
-          }) c.entries.invariant w.fig_for.ensures w.put.ensures.0 w.put.ensures.1 w.put.ensures.2))
-      | else-state-number-2 w ↦
-          subst (λ (l : Option OpenFig). FilledTo c.args.mode (g.L.EntryList.entries c.args.list.now) c.args.number c.args.fib.now d l c.if-state-number-2.fib) (sym w.last-is)
-          (subst (λ (b : List ℕ). FilledTo c.args.mode (g.L.EntryList.entries c.args.list.now) c.args.number c.args.fib.now d c.entries.last b) (sym w.fib-is)
-          (filled_before _ _ _ _ _ c.entries.position d _ step refl
-          (omega (arith, c.if-state-number.false, w.if-state-number-2.false)) c.then-state.ensures.used c.then-state.ensures.to (omega arith) c.entries.invariant))
-    ]
+    }) c.entries.invariant c.fig_for-fig.ensures _ r
 
 pub returns-clause-bytes : goal.returns-clause-bytes
 returns-clause-bytes g c = filled_all _ _ _ _ _ _ _ c.entries.invariant (walked_end _ _ _ _ _ (omega (arith, c.entries-test.false, c.requires.count)) c.entries.invariant.walked)
+
+pub overflow_sub-more : goal.overflow_sub-more
+overflow_sub-more g c =
+    let shape = c.shape-shape.result in
+    let at : IsShapeAt (g.L.EntryList.entries c.args.list.now) c.entries.position.index shape = c.shape-shape.ensures.value in
+    let q : PackState = c.then_beside-state.result in
+    let step = passed _ _ _ _ _ _ at c.then_beside-state.ensures.value in
+    let r : Room c.args.mode c.args.number q shape (shape.size + (c.room-known.result - q.used)) = record {
+      first = first_of_run _ _ _ _ _ _ at c.shape-shape.ensures.small step;
+      into = c.if-state-number-2.true;
+      is = ap (λ k. shape.size + (k - q.used)) c.room-known.ensures.value;
+    } in
+    let put = c.put_run-count.ensures shape at in
+    omega (arith, put.some)
+
+pub overflow_mul-more : goal.overflow_mul-more
+overflow_mul-more g c =
+    let shape = c.shape-shape.result in
+    let at : IsShapeAt (g.L.EntryList.entries c.args.list.now) c.entries.position.index shape = c.shape-shape.ensures.value in
+    let q : PackState = c.then_beside-state.result in
+    let step = passed _ _ _ _ _ _ at c.then_beside-state.ensures.value in
+    let r : Room c.args.mode c.args.number q shape (shape.size + (c.room-known.result - q.used)) = record {
+      first = first_of_run _ _ _ _ _ _ at c.shape-shape.ensures.small step;
+      into = c.if-state-number-2.true;
+      is = ap (λ k. shape.size + (k - q.used)) c.room-known.ensures.value;
+    } in
+    let put = c.put_run-count.ensures shape at in
+    let many = counted _ _ _ _ _ _ _ _ _ _ r put in
+    omega (arith, many.fits, room_high c.args.mode c.args.number)
+
+pub lengthen_fig-requires-clause-place : goal.lengthen_fig-requires-clause-place
+lengthen_fig-requires-clause-place g c =
+    let shape = c.shape-shape.result in
+    let at : IsShapeAt (g.L.EntryList.entries c.args.list.now) c.entries.position.index shape = c.shape-shape.ensures.value in
+    let q : PackState = c.then_beside-state.result in
+    let step = passed _ _ _ _ _ _ at c.then_beside-state.ensures.value in
+    let r : Room c.args.mode c.args.number q shape (shape.size + (c.room-known.result - q.used)) = record {
+      first = first_of_run _ _ _ _ _ _ at c.shape-shape.ensures.small step;
+      into = c.if-state-number-2.true;
+      is = ap (λ k. shape.size + (k - q.used)) c.room-known.ensures.value;
+    } in
+    let put = c.put_run-count.ensures shape at in
+    let e : Position = record { index = c.entries.position.index + 1; state = q } in
+    let d : Position = record {
+      index = c.entries.position.index + c.put_run-count.result;
+      state = record { fib = q.fib; used = q.used + (c.put_run-count.result - 1) * shape.size; head = q.head };
+    } in
+    let entered : Entered c.args.mode (g.L.EntryList.entries c.args.list.now) c.args.number c.args.fib.now c.entries.position e = record {
+      step = step;
+      at = refl;
+      into = c.if-state-number-2.true;
+      used = c.then_beside-state.ensures.used;
+      near = c.then_beside-state.ensures.to;
+      inside = omega arith;
+      room = c.requires.room;
+    } in
+    let done =
+    all_in _ _ _ _ _ _ c.put_run-count.new.fib c.entries.position e d _ _ _ at entered c.entries.invariant c.fig_for-fig.ensures _ _ r put
+    (record { index = refl; fib = refl; used = refl; head = refl }) in
+    done.place
+
+pub lengthen_fig-requires-clause-fits : goal.lengthen_fig-requires-clause-fits
+lengthen_fig-requires-clause-fits g c =
+    let shape = c.shape-shape.result in
+    let at : IsShapeAt (g.L.EntryList.entries c.args.list.now) c.entries.position.index shape = c.shape-shape.ensures.value in
+    let q : PackState = c.then_beside-state.result in
+    let step = passed _ _ _ _ _ _ at c.then_beside-state.ensures.value in
+    let r : Room c.args.mode c.args.number q shape (shape.size + (c.room-known.result - q.used)) = record {
+      first = first_of_run _ _ _ _ _ _ at c.shape-shape.ensures.small step;
+      into = c.if-state-number-2.true;
+      is = ap (λ k. shape.size + (k - q.used)) c.room-known.ensures.value;
+    } in
+    let put = c.put_run-count.ensures shape at in
+    let e : Position = record { index = c.entries.position.index + 1; state = q } in
+    let d : Position = record {
+      index = c.entries.position.index + c.put_run-count.result;
+      state = record { fib = q.fib; used = q.used + (c.put_run-count.result - 1) * shape.size; head = q.head };
+    } in
+    let entered : Entered c.args.mode (g.L.EntryList.entries c.args.list.now) c.args.number c.args.fib.now c.entries.position e = record {
+      step = step;
+      at = refl;
+      into = c.if-state-number-2.true;
+      used = c.then_beside-state.ensures.used;
+      near = c.then_beside-state.ensures.to;
+      inside = omega arith;
+      room = c.requires.room;
+    } in
+    let done =
+    all_in _ _ _ _ _ _ c.put_run-count.new.fib c.entries.position e d _ _ _ at entered c.entries.invariant c.fig_for-fig.ensures _ _ r put
+    (record { index = refl; fib = refl; used = refl; head = refl }) in
+    done.byte
+
+pub overflow_add-position : goal.overflow_add-position
+overflow_add-position g c =
+    let shape = c.shape-shape.result in
+    let at : IsShapeAt (g.L.EntryList.entries c.args.list.now) c.entries.position.index shape = c.shape-shape.ensures.value in
+    let q : PackState = c.then_beside-state.result in
+    let step = passed _ _ _ _ _ _ at c.then_beside-state.ensures.value in
+    let r : Room c.args.mode c.args.number q shape (shape.size + (c.room-known.result - q.used)) = record {
+      first = first_of_run _ _ _ _ _ _ at c.shape-shape.ensures.small step;
+      into = c.if-state-number-2.true;
+      is = ap (λ k. shape.size + (k - q.used)) c.room-known.ensures.value;
+    } in
+    let put = c.put_run-count.ensures shape at in
+    omega (arith, put.run.inside, c.requires.count, c.from.ensures)
+
+pub overflow_add-position-then-state-number-2 : goal.overflow_add-position-then-state-number-2
+overflow_add-position-then-state-number-2 g c =
+    let shape = c.shape-shape.result in
+    let at : IsShapeAt (g.L.EntryList.entries c.args.list.now) c.entries.position.index shape = c.shape-shape.ensures.value in
+    let q : PackState = c.then_beside-state.result in
+    let step = passed _ _ _ _ _ _ at c.then_beside-state.ensures.value in
+    let r : Room c.args.mode c.args.number q shape (shape.size + (c.room-known.result - q.used)) = record {
+      first = first_of_run _ _ _ _ _ _ at c.shape-shape.ensures.small step;
+      into = c.if-state-number-2.true;
+      is = ap (λ k. shape.size + (k - q.used)) c.room-known.ensures.value;
+    } in
+    let put = c.put_run-count.ensures shape at in
+    let many = counted _ _ _ _ _ _ _ _ _ _ r put in
+    omega (arith, many.fits, room_high c.args.mode c.args.number)
+
+pub entries-smaller-then-state-number-2 : goal.entries-smaller-then-state-number-2
+entries-smaller-then-state-number-2 g c =
+    let shape = c.shape-shape.result in
+    let at : IsShapeAt (g.L.EntryList.entries c.args.list.now) c.entries.position.index shape = c.shape-shape.ensures.value in
+    let q : PackState = c.then_beside-state.result in
+    let step = passed _ _ _ _ _ _ at c.then_beside-state.ensures.value in
+    let r : Room c.args.mode c.args.number q shape (shape.size + (c.room-known.result - q.used)) = record {
+      first = first_of_run _ _ _ _ _ _ at c.shape-shape.ensures.small step;
+      into = c.if-state-number-2.true;
+      is = ap (λ k. shape.size + (k - q.used)) c.room-known.ensures.value;
+    } in
+    let put = c.put_run-count.ensures shape at in
+    omega (arith, put.some, put.run.inside, c.requires.count, c.from.ensures)
+
+pub entries-preserved-then-state-number-2 : goal.entries-preserved-then-state-number-2
+entries-preserved-then-state-number-2 g c =
+    let shape = c.shape-shape.result in
+    let at : IsShapeAt (g.L.EntryList.entries c.args.list.now) c.entries.position.index shape = c.shape-shape.ensures.value in
+    let q : PackState = c.then_beside-state.result in
+    let step = passed _ _ _ _ _ _ at c.then_beside-state.ensures.value in
+    let r : Room c.args.mode c.args.number q shape (shape.size + (c.room-known.result - q.used)) = record {
+      first = first_of_run _ _ _ _ _ _ at c.shape-shape.ensures.small step;
+      into = c.if-state-number-2.true;
+      is = ap (λ k. shape.size + (k - q.used)) c.room-known.ensures.value;
+    } in
+    let put = c.put_run-count.ensures shape at in
+    let e : Position = record { index = c.entries.position.index + 1; state = q } in
+    let d : Position = record {
+      index = c.entries.position.index + c.put_run-count.result;
+      state = record { fib = q.fib; used = q.used + (c.put_run-count.result - 1) * shape.size; head = q.head };
+    } in
+    let entered : Entered c.args.mode (g.L.EntryList.entries c.args.list.now) c.args.number c.args.fib.now c.entries.position e = record {
+      step = step;
+      at = refl;
+      into = c.if-state-number-2.true;
+      used = c.then_beside-state.ensures.used;
+      near = c.then_beside-state.ensures.to;
+      inside = omega arith;
+      room = c.requires.room;
+    } in
+    let done =
+    all_in _ _ _ _ _ _ c.put_run-count.new.fib c.entries.position e d _ _ _ at entered c.entries.invariant c.fig_for-fig.ensures _ _ r put
+    (record { index = refl; fib = refl; used = refl; head = refl }) in
+    let after : List ℕ = slice_set c.put_run-count.new.fib c.fig_for-fig.result.place (slice_index_or c.put_run-count.new.fib c.fig_for-fig.result.place 0 + (c.put_run-count.result - 1) * shape.size) in
+    let same : d.index ≡ c.entries.position.index + c.from.result = ap (λ n. c.entries.position.index + n) (sym c.from.ensures) in
+    subst (λ (bs : List ℕ). FilledTo c.args.mode (g.L.EntryList.entries c.args.list.now) c.args.number c.args.fib.now (record { index = c.entries.position.index + c.from.result; state = d.state }) (Some c.fig_for-fig.result) bs) (sym c.lengthen_fig.ensures)
+    (subst (λ n. FilledTo c.args.mode (g.L.EntryList.entries c.args.list.now) c.args.number c.args.fib.now (record { index = n; state = d.state }) (Some c.fig_for-fig.result) after) same done.filled)
+
+pub entries-preserved : goal.entries-preserved
+entries-preserved g c =
+    let d : Position = record { index = c.entries.position.index + 1; state = c.then_beside-state.result } in
+    let step = passed _ _ _ _ _ _ c.shape-shape.ensures.value c.then_beside-state.ensures.value in
+    filled_before _ _ _ _ _ c.entries.position d _ step refl
+    (omega (arith, c.if-state-number.false, c.if-state-number-2.false)) c.then_beside-state.ensures.used c.then_beside-state.ensures.to (omega arith) c.entries.invariant

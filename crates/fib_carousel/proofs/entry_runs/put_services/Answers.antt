@@ -1,0 +1,77 @@
+use Rattle.std.proofs.Common.{◌≡◌, ◌+◌, ◌-◌, ◌*◌, ◌≤◌, ◌++◌, length, take, drop, map, arith, ap, sym, ◌∙◌, append-nil}
+use Rattle.mux_entries.specs.Facts.{marked, service_entry}
+use Rattle.fib_codec.specs.Spelling.{entries_bytes}
+use Rattle.fib_carousel.specs.Runs.{shape_of}
+use Rattle.fib_carousel.proofs.Sections.{one_more, service_formed, service_shaped, services_put, next_service, first_service}
+use Rattle.fib_carousel.proofs.entry_runs.put_services.Goals as goal
+
+pub put_service-requires-clause-room : goal.put_service-requires-clause-room
+put_service-requires-clause-room g c =
+    let sh = c.service_shape-shape.ensures in
+    let first =
+    first_service _ c.args.next c.args.from c.args.room c.service_at-first.result.now _ _ c.service_at-first.ensures.value
+    (service_shaped c.args.next _ _ sh.next sh.ours sh.long sh.ext sh.size) c.requires.first c.requires.room in
+    omega (arith, first.0.room, sh.size)
+
+pub overflow_sub-left : goal.overflow_sub-left
+overflow_sub-left g c =
+    let sh = c.service_shape-shape.ensures in
+    (first_service _ c.args.next c.args.from c.args.room c.service_at-first.result.now _ _ c.service_at-first.ensures.value
+    (service_shaped c.args.next _ _ sh.next sh.ours sh.long sh.ext sh.size) c.requires.first c.requires.room).1
+
+pub services-init : goal.services-init
+services-init g c =
+    let sh = c.service_shape-shape.ensures in
+    let first =
+    first_service _ c.args.next c.args.from c.args.room c.service_at-first.result.now _ _ c.service_at-first.ensures.value
+    (service_shaped c.args.next _ _ sh.next sh.ours sh.long sh.ext sh.size) c.requires.first c.requires.room in
+    let none : c.args.from - c.args.from ≡ 0 = omega arith in
+    let zero_times : (c.args.from - c.args.from) * c.service_shape-shape.result.size ≡ 0 = ap (λ k. k * c.service_shape-shape.result.size) none ∙ omega arith in
+    record {
+      low = omega arith;
+      high = omega (arith, c.requires.there);
+      room = omega (arith, first.0.times, zero_times, first.1);
+      alike = first.0.alike;
+      bytes =
+          one_more service_entry _ c.args.from c.args.from c.service_at-first.result.now _ _ _ (omega arith) c.service_at-first.ensures.value
+          (sym (append-nil _) ∙ ap (λ k. c.args.fib.now ++ entries_bytes (map service_entry (take k (drop c.args.from (g.S.Store.content c.args.store.now).services)))) (sym none)) c.put_service.ensures;
+    }
+
+pub service_shape-requires : goal.service_shape-requires
+service_shape-requires g c = service_formed _ c.services.place _ c.service_at-service.ensures.configuration c.service_at-service.ensures.value
+
+pub put_service-requires-in-services-clause-service : goal.put_service-requires-in-services-clause-service
+put_service-requires-in-services-clause-service g c = service_formed _ c.services.place _ c.service_at-service.ensures.configuration c.service_at-service.ensures.value
+
+pub put_service-requires-in-services-clause-room : goal.put_service-requires-in-services-clause-room
+put_service-requires-in-services-clause-room g c =
+    let sh = c.service_shape.ensures in
+    let own : shape_of (marked c.args.next (service_entry c.service_at-service.result.now)) ≡ c.service_shape.result = service_shaped c.args.next _ _ sh.next sh.ours sh.long sh.ext sh.size in
+    let same : c.service_shape.result ≡ c.service_shape-shape.result = c.is_same_shape.ensures.0 c.if-not-is_same_shape.false in
+    let i = c.services.invariant in
+    let next =
+    next_service _ c.args.next c.args.from c.services.place c.args.room c.services.left c.service_at-service.result.now c.service_shape-shape.result _ _
+    (omega (arith, i.low)) c.service_at-service.ensures.value (own ∙ same) i.alike i.bytes i.room c.if-left-shape.false c.requires.room in
+    omega (arith, next.room, sh.size, ap (λ t. t.size) same)
+
+pub services-preserved : goal.services-preserved
+services-preserved g c =
+    let sh = c.service_shape.ensures in
+    let own : shape_of (marked c.args.next (service_entry c.service_at-service.result.now)) ≡ c.service_shape.result = service_shaped c.args.next _ _ sh.next sh.ours sh.long sh.ext sh.size in
+    let same : c.service_shape.result ≡ c.service_shape-shape.result = c.is_same_shape.ensures.0 c.if-not-is_same_shape.false in
+    let i = c.services.invariant in
+    let next =
+    next_service _ c.args.next c.args.from c.services.place c.args.room c.services.left c.service_at-service.result.now c.service_shape-shape.result _ _
+    (omega (arith, i.low)) c.service_at-service.ensures.value (own ∙ same) i.alike i.bytes i.room c.if-left-shape.false c.requires.room in
+    record {
+      low = omega (arith, i.low);
+      high = omega (arith, c.services-test.true, c.service_count.ensures.value);
+      room = omega (arith, next.times, i.room, c.if-left-shape.false);
+      alike = next.alike;
+      bytes = one_more service_entry _ c.args.from c.services.place c.service_at-service.result.now _ _ _ (omega (arith, i.low)) c.service_at-service.ensures.value i.bytes c.put_service-in-services.ensures;
+    }
+
+pub returns-clause-puts : goal.returns-clause-puts
+returns-clause-puts g c =
+    let i = c.services.invariant in
+    services_put _ c.args.next c.args.from (c.services.place - c.args.from) c.args.room _ _ c.service_shape-shape.result (omega (arith, i.low, i.high)) i.alike (omega (arith, i.low)) (omega (arith, i.room)) i.bytes
