@@ -359,25 +359,6 @@ put_step mode ms n old bytes mid c d last fig shape s e w g =
     put_next old bytes mid (take (c.index - w.from) (drop w.from ms)) e.step.entry shape last fig w.filled (s.head ∙ ap head_of same) (s.size ∙ ap size_of same)
     (room_next mode ms n w.from (length old) c d.state e.step e.into w.walked e.room) g
 
-pub put_fits : (mode : Mode) (ms : List Marked) (n : ℕ) (old bytes mid : List ℕ) (c d : Position) (last : Option OpenFig) (fig : OpenFig) (shape : EntryShape) (s : IsShapeAt ms c.index shape) (e : Entered mode ms n old c d)
-    → FilledTo mode ms n old c last bytes → Grows last shape bytes fig mid → (m : Marked) → slice_get ms c.index ≡ Some m → length mid + size_of m ≤ 30
-put_fits mode ms n old bytes mid c d last fig shape s e w g m here =
-    subst (λ (x : Marked). length mid + size_of x ≤ 30) (same_there ms c.index e.step.entry m e.step.here here) (put_step mode ms n old bytes mid c d last fig shape s e w g).room
-
-pub filled_in : (mode : Mode) (ms : List Marked) (n : ℕ) (old bytes mid after : List ℕ) (c d : Position) (last : Option OpenFig) (fig : OpenFig) (shape : EntryShape) (s : IsShapeAt ms c.index shape) (e : Entered mode ms n old c d)
-    → FilledTo mode ms n old c last bytes → Grows last shape bytes fig mid → (m : Marked) → slice_get ms c.index ≡ Some m → after ≡ mid ++ entry_bytes m.entry → FilledTo mode ms n old d (Some fig) after
-filled_in mode ms n old bytes mid after c d last fig shape s e w g m here put =
-    let same : m ≡ e.step.entry = same_there ms c.index m e.step.entry here e.step.here in
-    let piece = take (c.index - w.from) (drop w.from ms) in
-    let grown : take (d.index - w.from) (drop w.from ms) ≡ piece ++ e.step.entry ∷ [] =
-    ap (λ i. take (i - w.from) (drop w.from ms)) e.at ∙ take_here ms w.from c.index e.step.entry w.walked.order e.step.here in
-    record {
-      from = w.from;
-      walked = walked_in mode ms n w.from c d e.step e.at e.into e.used e.near e.inside w.walked;
-      filled = subst (λ (xs : List Marked). IsFilled old xs (Some fig) after) (sym grown)
-          ((put_step mode ms n old bytes mid c d last fig shape s e w g).filled after (put ∙ ap (λ (x : Marked). mid ++ entry_bytes x.entry) same));
-    }
-
 -- the end of the walk
 pub filled_all : (mode : Mode) (ms : List Marked) (n : ℕ) (old bytes : List ℕ) (c : Position) (last : Option OpenFig) (w : FilledTo mode ms n old c last bytes) → take (c.index - w.from) (drop w.from ms) ≡ fib_entries mode n ms
     → bytes ≡ old ++ figs_bytes (figs_of (fib_entries mode n ms))

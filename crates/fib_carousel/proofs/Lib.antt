@@ -17,3 +17,4 @@ pub mod Most
 pub mod Runs
 pub mod Together
 pub mod Sections
+pub mod Vectors

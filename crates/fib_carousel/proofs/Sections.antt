@@ -248,8 +248,7 @@ pub subs_room : (c : Configuration) (next : Bool) (index i room : ℕ) (old : Li
 subs_room c next index i room old at there first takes =
     let first' : (m : Marked) → slice_get (facts_of c next) i ≡ Some m → size_of m ≤ room = λ m h. first m (ap (λ j. slice_get (facts_of c next) j) (sym at) ∙ h) in
     let takes' : TakesRuns (facts_of c next) i room old = subst (λ j. TakesRuns (facts_of c next) j room old) (sym at) takes in
-    let d : Marked = some_of (facts_of c next) (omega (arith, there, facts_length c next)) in
-    (
+    let d : Marked = some_of (facts_of c next) (omega (arith, there, facts_length c next)) in (
       first_size (facts_of c next) i 1 (sub_shape next) room d (subs_run c next i 1 (omega (arith, there))) (omega arith) first',
       λ n h fits.
           let all : length old + n * 4 ≤ 30 = takes' n (sub_shape next) (subs_run c next i n h) fits in
@@ -262,8 +261,7 @@ packets_room c next index i room old at there first takes =
     let place : ℕ = length c.subs + (length c.services + i) in
     let first' : (m : Marked) → slice_get (facts_of c next) place ≡ Some m → size_of m ≤ room = λ m h. first m (ap (λ j. slice_get (facts_of c next) j) at ∙ h) in
     let takes' : TakesRuns (facts_of c next) place room old = subst (λ j. TakesRuns (facts_of c next) j room old) at takes in
-    let d : Marked = some_of (facts_of c next) (omega (arith, there, facts_length c next)) in
-    (
+    let d : Marked = some_of (facts_of c next) (omega (arith, there, facts_length c next)) in (
       first_size (facts_of c next) place 1 (packet_shape next) room d (packets_run c next i 1 (omega (arith, there))) (omega arith) first',
       λ n h fits.
           let all : length old + n * 5 ≤ 30 = takes' n (packet_shape next) (packets_run c next i n h) fits in

@@ -35,19 +35,6 @@ behind_get xs ys i x le h =
     slice_get_read (xs ++ ys) (length (xs ++ ys)) i x refl (omega (arith, within, both, le))
     (sym (get_or-append_right xs ys i x le ∙ get_or_from_slice_get ys (i - length xs) x x h))
 
-pub in_current : (c : Configuration) (next : Option Configuration) (place : ℕ) (e : Entry) → slice_get (config_entries c) place ≡ Some e
-    → slice_get (page_set c next) place ≡ Some (marked false e)
-in_current c None place e h = marked_at c false place e h
-in_current c (Some d) place e h = front_get (facts_of c false) (facts_of d true) place (marked false e) (marked_at c false place e h)
-
-pub in_next : (c d : Configuration) (count place : ℕ) (e : Entry) → count ≡ length (config_entries c) → count ≤ place
-    → slice_get (config_entries d) (place - count) ≡ Some e → slice_get (page_set c (Some d)) place ≡ Some (marked true e)
-in_next c d count place e same le h =
-    let long : length (facts_of c false) ≡ count = length-map (config_entries c) (marked false) ∙ sym same in
-    let there : slice_get (facts_of d true) (place - length (facts_of c false)) ≡ Some (marked true e) =
-    ap (λ n. slice_get (facts_of d true) (place - n)) long ∙ marked_at d true (place - count) e h in
-    behind_get (facts_of c false) (facts_of d true) place (marked true e) (omega (arith, le, long)) there
-
 -- ---- runs of the entries of one side
 run_front : (xs ys : List Marked) (i n : ℕ) (s : EntryShape) → IsRun xs i n s → IsRun (xs ++ ys) i n s
 run_front xs ys i n s r = record {

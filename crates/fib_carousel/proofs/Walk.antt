@@ -50,6 +50,9 @@ passed mode ms at shape p q s t = record {
   next = t s.entry s.head s.size;
 }
 
+pub passed_entry : (mode : Mode) (ms : List Marked) (at : ℕ) (shape : EntryShape) (p : PackState) (s : IsShapeAt ms at shape) → Passed mode ms at p (placed mode s.entry p)
+passed_entry mode ms at shape p s = record { entry = s.entry; here = s.here; row = drop_here ms at s.entry s.here; next = refl }
+
 pub passed_above : (mode : Mode) (ms : List Marked) (at : ℕ) (p q : PackState) → Passed mode ms at p q → p.fib ≤ q.fib
 passed_above mode ms at p q s = subst (λ (r : PackState). p.fib ≤ r.fib) (sym s.next) (placed_above mode s.entry p)
 

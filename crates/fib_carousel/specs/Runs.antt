@@ -1,6 +1,6 @@
 -- Entries placed one after another, and runs of entries of one head and size. No public contract needs this to be
 -- believed.
-use Rattle.std.specs.Prelude.{ℕ, zero, suc, ◌+◌, Bool, false, List, [], ◌∷◌, Option, Some, None, if◌then◌else◌, nat_le}
+use Rattle.std.specs.Prelude.{◌≡◌, ℕ, zero, suc, ◌+◌, ◌<◌, ◌≤◌, Bool, false, List, [], ◌∷◌, Option, Some, None, if◌then◌else◌, nat_le}
 use Rattle.mux_entries.specs.Facts.{Marked}
 use Rattle.fib_codec.specs.Spelling.{head_of}
 use Rattle.fib_codec.specs.declared.head.Head.{Head}
@@ -42,3 +42,14 @@ steps mode s (suc n) p = steps mode s n (step mode s p)
 abbrev pub all_placed : Mode → List Marked → PackState → PackState
 all_placed mode [] p = p
 all_placed mode (e ∷ es) p = all_placed mode es (placed mode e p)
+
+-- the state with an entry of this shape placed, in the FIB of a number or one before it
+pub record IsThenWithin (mode : Mode) (s : EntryShape) (number : ℕ) (p q : PackState) : Type 0 where
+  pub is : (m : Marked) → s.head ≡ head_of m → s.size ≡ size_of m → q ≡ placed mode m p
+  pub used : q.used ≤ 30
+  pub low : q.fib ≤ number
+  pub near : q.fib ≤ p.fib + 2
+
+-- an entry of this shape goes into a FIB behind that of a number
+abbrev pub GoesBehind : Mode → EntryShape → ℕ → PackState → Type 0
+GoesBehind mode s number p = (m : Marked) → s.head ≡ head_of m → s.size ≡ size_of m → number < (placed mode m p).fib

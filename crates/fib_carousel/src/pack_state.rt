@@ -1,11 +1,11 @@
 //! How far the packing has come.
 
-ghost use Rattle.std.specs.Prelude.{◌≡◌, ◌↔◌, ◌+◌, ◌*◌, ◌<◌, ◌≤◌, ◌^◌, IsTrue};
+ghost use Rattle.std.specs.Prelude.{◌≡◌, ◌↔◌, ◌+◌, ◌*◌, ◌<◌, ◌≤◌, ◌^◌, IsTrue, IfSome, None};
 ghost use Rattle.mux_entries.specs.Facts.{Marked};
 ghost use Rattle.fib_codec.specs.Spelling.{head_of};
 ghost use Rattle.fib_carousel.specs.Packing.{cost, room, same_head, size_of};
 ghost use Rattle.fib_carousel.specs.Greedy.{start, placed};
-ghost use Rattle.fib_carousel.specs.Runs.{shape_cost, step, steps};
+ghost use Rattle.fib_carousel.specs.Runs.{shape_cost, step, steps, IsThenWithin, GoesBehind};
 
 use fib_codec::{Head, Mode};
 
@@ -132,36 +132,38 @@ impl PackState {
         }
     }
 
-    /// The state with the next entry placed, as [`PackState::then`] gives it. The room of the FIB of a number is known,
-    /// so that it is not computed anew where the entry goes into that one behind another.
-    pub(crate) fn then_beside(
+    /// The state with the next entry placed, as [`PackState::then`] gives it; None where that is behind the FIB of this
+    /// number. The room of that FIB is known, so that it is not computed anew for each of its entries.
+    pub(crate) fn then_within(
         self,
         mode: Mode,
         shape: EntryShape,
         number: usize,
         known: u8,
-    ) -> PackState
+    ) -> Option<PackState>
         requires small { shape.size ≤ 28 }
         requires used { self.used ≤ 30 }
         requires fib { self.fib < 2 ^ 32 }
         requires known { known ≡ room mode number }
-        ensures value { (m : Marked)
-            → shape.head ≡ head_of m → shape.size ≡ size_of m → result ≡ placed mode m self }
-        ensures used { result.used ≤ 30 }
-        ensures from { self.fib ≤ result.fib }
-        ensures to { result.fib ≤ self.fib + 2 }
+        ensures within { IfSome result (λ q. IsThenWithin mode shape number self q) }
+        ensures behind { result ≡ None → GoesBehind mode shape number self }
     {
         if self.fib == number {
             let used = self.used + self.cost(shape);
-            if used <= known {
-                return PackState {
-                    fib: number,
-                    used,
-                    head: Some(shape.head),
-                };
+            if used > known {
+                return None;
             }
+            return Some(PackState {
+                fib: number,
+                used,
+                head: Some(shape.head),
+            });
         }
-        self.then(mode, shape)
+        let state = self.then(mode, shape);
+        if state.fib > number {
+            return None;
+        }
+        Some(state)
     }
 
     /// The state with this many entries of one shape placed, of which each FIB takes as many as fit. Such an

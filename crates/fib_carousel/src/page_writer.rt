@@ -82,10 +82,10 @@ fn put_figs<L: EntryList>(
     let mut last = None;
     'entries: while position.index < len {
         let shape = list.shape(position.index);
-        let state = position.state.then_beside(mode, shape, number, known);
-        if state.fib > number {
-            return;
-        }
+        let state = match position.state.then_within(mode, shape, number, known) {
+            Some(state) => state,
+            None => return,
+        };
         if state.fib == number {
             let fig = fig_for(fib, last, shape);
             let left = known - state.used;

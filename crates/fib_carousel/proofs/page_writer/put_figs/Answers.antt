@@ -6,7 +6,7 @@ use Rattle.fib_carousel.specs.declared.page_writer.OpenFig.{OpenFig}
 use Rattle.fib_carousel.specs.Packing.{room}
 use Rattle.fib_carousel.specs.Walk.{IsShapeAt}
 use Rattle.fib_carousel.proofs.Least.{room_high}
-use Rattle.fib_carousel.proofs.Walk.{passed, walked_over, walked_end, passed_by}
+use Rattle.fib_carousel.proofs.Walk.{passed, passed_entry, walked_over, walked_end, passed_by}
 use Rattle.fib_carousel.proofs.Filling.{FilledTo, Entered, filled_start, filled_all, filled_fits, filled_before}
 use Rattle.fib_carousel.proofs.Together.{Room, first_of_run, counted, takes, all_in}
 use Rattle.fib_carousel.proofs.page_writer.put_figs.Goals as goal
@@ -14,46 +14,48 @@ use Rattle.fib_carousel.proofs.page_writer.put_figs.Goals as goal
 pub entries-init : goal.entries-init
 entries-init g c = filled_start _ _ _ _ _ c.requires.stands
 
-pub returns-then-state-number-clause-bytes : goal.returns-then-state-number-clause-bytes
-returns-then-state-number-clause-bytes g c =
+pub returns-in-None-clause-bytes : goal.returns-in-None-clause-bytes
+returns-in-None-clause-bytes g c =
+    let at : IsShapeAt (g.L.EntryList.entries c.args.list.now) c.entries.position.index c.shape-shape.result = c.shape-shape.ensures.value in
     filled_all _ _ _ _ _ _ _ c.entries.invariant
-    (walked_over _ _ _ _ _ _ (passed _ _ _ _ _ _ c.shape-shape.ensures.value c.then_beside-state.ensures.value) c.if-state-number.true c.entries.invariant.walked)
+    (walked_over _ _ _ _ _ _ (passed_entry c.args.mode _ _ _ c.entries.position.state at) (c.then_within.ensures.behind c.in-None.is at.entry at.head at.size) c.entries.invariant.walked)
 
-pub returns-then-state-number-clause-passed : goal.returns-then-state-number-clause-passed
-returns-then-state-number-clause-passed g c =
-    passed_by _ _ _ _ _ _ (passed _ _ _ _ _ _ c.shape-shape.ensures.value c.then_beside-state.ensures.value) c.if-state-number.true c.entries.invariant.walked
+pub returns-in-None-clause-passed : goal.returns-in-None-clause-passed
+returns-in-None-clause-passed g c =
+    let at : IsShapeAt (g.L.EntryList.entries c.args.list.now) c.entries.position.index c.shape-shape.result = c.shape-shape.ensures.value in
+    passed_by _ _ _ _ _ _ (passed_entry c.args.mode _ _ _ c.entries.position.state at) (c.then_within.ensures.behind c.in-None.is at.entry at.head at.size) c.entries.invariant.walked
 
 pub fig_for-fig-requires-clause-room : goal.fig_for-fig-requires-clause-room
 fig_for-fig-requires-clause-room g c =
-    let d : Position = record { index = c.entries.position.index + 1; state = c.then_beside-state.result } in
+    let d : Position = record { index = c.entries.position.index + 1; state = c.in-Some.state } in
     filled_fits _ _ _ _ _ c.entries.position d _ _ c.shape-shape.ensures.value
     (record {
-      step = passed _ _ _ _ _ _ c.shape-shape.ensures.value c.then_beside-state.ensures.value;
+      step = passed _ _ _ _ _ _ c.shape-shape.ensures.value c.in-Some.ensures.within.is;
       at = refl;
-      into = c.if-state-number-2.true;
-      used = c.then_beside-state.ensures.used;
-      near = c.then_beside-state.ensures.to;
+      into = c.if-state-number.true;
+      used = c.in-Some.ensures.within.used;
+      near = c.in-Some.ensures.within.near;
       inside = omega arith;
       room = c.requires.room;
     }) c.entries.invariant
 
 pub put_run-count-requires-clause-room : goal.put_run-count-requires-clause-room
 put_run-count-requires-clause-room g c =
-    let e : Position = record { index = c.entries.position.index + 1; state = c.then_beside-state.result } in
-    let step = passed _ _ _ _ _ _ c.shape-shape.ensures.value c.then_beside-state.ensures.value in
+    let e : Position = record { index = c.entries.position.index + 1; state = c.in-Some.state } in
+    let step = passed _ _ _ _ _ _ c.shape-shape.ensures.value c.in-Some.ensures.within.is in
     let known : c.room-known.result ≡ room c.args.mode c.args.number = c.room-known.ensures.value in
-    let r : Room c.args.mode c.args.number c.then_beside-state.result c.shape-shape.result _ = record {
+    let r : Room c.args.mode c.args.number c.in-Some.state c.shape-shape.result _ = record {
       first = first_of_run _ _ _ _ _ _ c.shape-shape.ensures.value c.shape-shape.ensures.small step;
-      into = c.if-state-number-2.true;
-      is = ap (λ k. c.shape-shape.result.size + (k - c.then_beside-state.result.used)) known;
+      into = c.if-state-number.true;
+      is = ap (λ k. c.shape-shape.result.size + (k - c.in-Some.state.used)) known;
     } in
     takes _ _ _ _ _ _ c.entries.position e _ _ _ c.shape-shape.ensures.value
     (record {
       step = step;
       at = refl;
-      into = c.if-state-number-2.true;
-      used = c.then_beside-state.ensures.used;
-      near = c.then_beside-state.ensures.to;
+      into = c.if-state-number.true;
+      used = c.in-Some.ensures.within.used;
+      near = c.in-Some.ensures.within.near;
       inside = omega arith;
       room = c.requires.room;
     }) c.entries.invariant c.fig_for-fig.ensures _ r
@@ -65,11 +67,11 @@ pub overflow_sub-more : goal.overflow_sub-more
 overflow_sub-more g c =
     let shape = c.shape-shape.result in
     let at : IsShapeAt (g.L.EntryList.entries c.args.list.now) c.entries.position.index shape = c.shape-shape.ensures.value in
-    let q : PackState = c.then_beside-state.result in
-    let step = passed _ _ _ _ _ _ at c.then_beside-state.ensures.value in
+    let q : PackState = c.in-Some.state in
+    let step = passed _ _ _ _ _ _ at c.in-Some.ensures.within.is in
     let r : Room c.args.mode c.args.number q shape (shape.size + (c.room-known.result - q.used)) = record {
       first = first_of_run _ _ _ _ _ _ at c.shape-shape.ensures.small step;
-      into = c.if-state-number-2.true;
+      into = c.if-state-number.true;
       is = ap (λ k. shape.size + (k - q.used)) c.room-known.ensures.value;
     } in
     let put = c.put_run-count.ensures shape at in
@@ -79,11 +81,11 @@ pub overflow_mul-more : goal.overflow_mul-more
 overflow_mul-more g c =
     let shape = c.shape-shape.result in
     let at : IsShapeAt (g.L.EntryList.entries c.args.list.now) c.entries.position.index shape = c.shape-shape.ensures.value in
-    let q : PackState = c.then_beside-state.result in
-    let step = passed _ _ _ _ _ _ at c.then_beside-state.ensures.value in
+    let q : PackState = c.in-Some.state in
+    let step = passed _ _ _ _ _ _ at c.in-Some.ensures.within.is in
     let r : Room c.args.mode c.args.number q shape (shape.size + (c.room-known.result - q.used)) = record {
       first = first_of_run _ _ _ _ _ _ at c.shape-shape.ensures.small step;
-      into = c.if-state-number-2.true;
+      into = c.if-state-number.true;
       is = ap (λ k. shape.size + (k - q.used)) c.room-known.ensures.value;
     } in
     let put = c.put_run-count.ensures shape at in
@@ -94,11 +96,11 @@ pub lengthen_fig-requires-clause-place : goal.lengthen_fig-requires-clause-place
 lengthen_fig-requires-clause-place g c =
     let shape = c.shape-shape.result in
     let at : IsShapeAt (g.L.EntryList.entries c.args.list.now) c.entries.position.index shape = c.shape-shape.ensures.value in
-    let q : PackState = c.then_beside-state.result in
-    let step = passed _ _ _ _ _ _ at c.then_beside-state.ensures.value in
+    let q : PackState = c.in-Some.state in
+    let step = passed _ _ _ _ _ _ at c.in-Some.ensures.within.is in
     let r : Room c.args.mode c.args.number q shape (shape.size + (c.room-known.result - q.used)) = record {
       first = first_of_run _ _ _ _ _ _ at c.shape-shape.ensures.small step;
-      into = c.if-state-number-2.true;
+      into = c.if-state-number.true;
       is = ap (λ k. shape.size + (k - q.used)) c.room-known.ensures.value;
     } in
     let put = c.put_run-count.ensures shape at in
@@ -110,9 +112,9 @@ lengthen_fig-requires-clause-place g c =
     let entered : Entered c.args.mode (g.L.EntryList.entries c.args.list.now) c.args.number c.args.fib.now c.entries.position e = record {
       step = step;
       at = refl;
-      into = c.if-state-number-2.true;
-      used = c.then_beside-state.ensures.used;
-      near = c.then_beside-state.ensures.to;
+      into = c.if-state-number.true;
+      used = c.in-Some.ensures.within.used;
+      near = c.in-Some.ensures.within.near;
       inside = omega arith;
       room = c.requires.room;
     } in
@@ -125,11 +127,11 @@ pub lengthen_fig-requires-clause-fits : goal.lengthen_fig-requires-clause-fits
 lengthen_fig-requires-clause-fits g c =
     let shape = c.shape-shape.result in
     let at : IsShapeAt (g.L.EntryList.entries c.args.list.now) c.entries.position.index shape = c.shape-shape.ensures.value in
-    let q : PackState = c.then_beside-state.result in
-    let step = passed _ _ _ _ _ _ at c.then_beside-state.ensures.value in
+    let q : PackState = c.in-Some.state in
+    let step = passed _ _ _ _ _ _ at c.in-Some.ensures.within.is in
     let r : Room c.args.mode c.args.number q shape (shape.size + (c.room-known.result - q.used)) = record {
       first = first_of_run _ _ _ _ _ _ at c.shape-shape.ensures.small step;
-      into = c.if-state-number-2.true;
+      into = c.if-state-number.true;
       is = ap (λ k. shape.size + (k - q.used)) c.room-known.ensures.value;
     } in
     let put = c.put_run-count.ensures shape at in
@@ -141,9 +143,9 @@ lengthen_fig-requires-clause-fits g c =
     let entered : Entered c.args.mode (g.L.EntryList.entries c.args.list.now) c.args.number c.args.fib.now c.entries.position e = record {
       step = step;
       at = refl;
-      into = c.if-state-number-2.true;
-      used = c.then_beside-state.ensures.used;
-      near = c.then_beside-state.ensures.to;
+      into = c.if-state-number.true;
+      used = c.in-Some.ensures.within.used;
+      near = c.in-Some.ensures.within.near;
       inside = omega arith;
       room = c.requires.room;
     } in
@@ -156,54 +158,54 @@ pub overflow_add-position : goal.overflow_add-position
 overflow_add-position g c =
     let shape = c.shape-shape.result in
     let at : IsShapeAt (g.L.EntryList.entries c.args.list.now) c.entries.position.index shape = c.shape-shape.ensures.value in
-    let q : PackState = c.then_beside-state.result in
-    let step = passed _ _ _ _ _ _ at c.then_beside-state.ensures.value in
+    let q : PackState = c.in-Some.state in
+    let step = passed _ _ _ _ _ _ at c.in-Some.ensures.within.is in
     let r : Room c.args.mode c.args.number q shape (shape.size + (c.room-known.result - q.used)) = record {
       first = first_of_run _ _ _ _ _ _ at c.shape-shape.ensures.small step;
-      into = c.if-state-number-2.true;
+      into = c.if-state-number.true;
       is = ap (λ k. shape.size + (k - q.used)) c.room-known.ensures.value;
     } in
     let put = c.put_run-count.ensures shape at in
     omega (arith, put.run.inside, c.requires.count, c.from.ensures)
 
-pub overflow_add-position-then-state-number-2 : goal.overflow_add-position-then-state-number-2
-overflow_add-position-then-state-number-2 g c =
+pub overflow_add-position-then-state-number : goal.overflow_add-position-then-state-number
+overflow_add-position-then-state-number g c =
     let shape = c.shape-shape.result in
     let at : IsShapeAt (g.L.EntryList.entries c.args.list.now) c.entries.position.index shape = c.shape-shape.ensures.value in
-    let q : PackState = c.then_beside-state.result in
-    let step = passed _ _ _ _ _ _ at c.then_beside-state.ensures.value in
+    let q : PackState = c.in-Some.state in
+    let step = passed _ _ _ _ _ _ at c.in-Some.ensures.within.is in
     let r : Room c.args.mode c.args.number q shape (shape.size + (c.room-known.result - q.used)) = record {
       first = first_of_run _ _ _ _ _ _ at c.shape-shape.ensures.small step;
-      into = c.if-state-number-2.true;
+      into = c.if-state-number.true;
       is = ap (λ k. shape.size + (k - q.used)) c.room-known.ensures.value;
     } in
     let put = c.put_run-count.ensures shape at in
     let many = counted _ _ _ _ _ _ _ _ _ _ r put in
     omega (arith, many.fits, room_high c.args.mode c.args.number)
 
-pub entries-smaller-then-state-number-2 : goal.entries-smaller-then-state-number-2
-entries-smaller-then-state-number-2 g c =
+pub entries-smaller-then-state-number : goal.entries-smaller-then-state-number
+entries-smaller-then-state-number g c =
     let shape = c.shape-shape.result in
     let at : IsShapeAt (g.L.EntryList.entries c.args.list.now) c.entries.position.index shape = c.shape-shape.ensures.value in
-    let q : PackState = c.then_beside-state.result in
-    let step = passed _ _ _ _ _ _ at c.then_beside-state.ensures.value in
+    let q : PackState = c.in-Some.state in
+    let step = passed _ _ _ _ _ _ at c.in-Some.ensures.within.is in
     let r : Room c.args.mode c.args.number q shape (shape.size + (c.room-known.result - q.used)) = record {
       first = first_of_run _ _ _ _ _ _ at c.shape-shape.ensures.small step;
-      into = c.if-state-number-2.true;
+      into = c.if-state-number.true;
       is = ap (λ k. shape.size + (k - q.used)) c.room-known.ensures.value;
     } in
     let put = c.put_run-count.ensures shape at in
     omega (arith, put.some, put.run.inside, c.requires.count, c.from.ensures)
 
-pub entries-preserved-then-state-number-2 : goal.entries-preserved-then-state-number-2
-entries-preserved-then-state-number-2 g c =
+pub entries-preserved-then-state-number : goal.entries-preserved-then-state-number
+entries-preserved-then-state-number g c =
     let shape = c.shape-shape.result in
     let at : IsShapeAt (g.L.EntryList.entries c.args.list.now) c.entries.position.index shape = c.shape-shape.ensures.value in
-    let q : PackState = c.then_beside-state.result in
-    let step = passed _ _ _ _ _ _ at c.then_beside-state.ensures.value in
+    let q : PackState = c.in-Some.state in
+    let step = passed _ _ _ _ _ _ at c.in-Some.ensures.within.is in
     let r : Room c.args.mode c.args.number q shape (shape.size + (c.room-known.result - q.used)) = record {
       first = first_of_run _ _ _ _ _ _ at c.shape-shape.ensures.small step;
-      into = c.if-state-number-2.true;
+      into = c.if-state-number.true;
       is = ap (λ k. shape.size + (k - q.used)) c.room-known.ensures.value;
     } in
     let put = c.put_run-count.ensures shape at in
@@ -215,9 +217,9 @@ entries-preserved-then-state-number-2 g c =
     let entered : Entered c.args.mode (g.L.EntryList.entries c.args.list.now) c.args.number c.args.fib.now c.entries.position e = record {
       step = step;
       at = refl;
-      into = c.if-state-number-2.true;
-      used = c.then_beside-state.ensures.used;
-      near = c.then_beside-state.ensures.to;
+      into = c.if-state-number.true;
+      used = c.in-Some.ensures.within.used;
+      near = c.in-Some.ensures.within.near;
       inside = omega arith;
       room = c.requires.room;
     } in
@@ -231,7 +233,7 @@ entries-preserved-then-state-number-2 g c =
 
 pub entries-preserved : goal.entries-preserved
 entries-preserved g c =
-    let d : Position = record { index = c.entries.position.index + 1; state = c.then_beside-state.result } in
-    let step = passed _ _ _ _ _ _ c.shape-shape.ensures.value c.then_beside-state.ensures.value in
+    let d : Position = record { index = c.entries.position.index + 1; state = c.in-Some.state } in
+    let step = passed _ _ _ _ _ _ c.shape-shape.ensures.value c.in-Some.ensures.within.is in
     filled_before _ _ _ _ _ c.entries.position d _ step refl
-    (omega (arith, c.if-state-number.false, c.if-state-number-2.false)) c.then_beside-state.ensures.used c.then_beside-state.ensures.to (omega arith) c.entries.invariant
+    (omega (arith, c.in-Some.ensures.within.low, c.if-state-number.false)) c.in-Some.ensures.within.used c.in-Some.ensures.within.near (omega arith) c.entries.invariant
