@@ -19,7 +19,7 @@ use Rattle.fib_carousel.specs.Bytes.{joined, figs_of}
 use Rattle.fib_carousel.specs.Walk.{IsShapeAt, StandsBefore}
 use Rattle.fib_carousel.specs.Filling.{Begins, Lengthens, GrowsBy, Grows, FitsBy, TakesEntry}
 use Rattle.fib_carousel.proofs.Sharing.{same_head_is, figs_cost, written_of}
-use Rattle.fib_carousel.proofs.Walk.{Passed, Walked, walked_start, walked_in, walked_before, passed_above, take_here, rest_in, rest_takes}
+use Rattle.fib_carousel.proofs.Walk.{Passed, Walked, walked_start, walked_before, passed_above, rest_in, rest_takes}
 
 -- one entry more at the end of those of some FIGs
 abbrev pub added : List Written → Marked → List Written

@@ -1,5 +1,5 @@
 -- The three sets of a configuration in the list of its entries, and runs of entries in them.
-use Rattle.std.proofs.Common.{◌≡◌, ℕ, suc, ◌+◌, ◌-◌, ◌*◌, ◌<◌, ◌≤◌, Bool, true, false, List, [], ◌∷◌, ◌++◌, length, map, take, drop, slice_get, Option, Some, None, refl, sym, ◌∙◌, ap, subst, arith, append_assoc, append-nil}
+use Rattle.std.proofs.Common.{◌≡◌, ℕ, suc, ◌+◌, ◌-◌, ◌*◌, ◌<◌, ◌≤◌, Bool, false, List, [], ◌∷◌, ◌++◌, length, map, take, drop, slice_get, Some, refl, sym, ◌∙◌, ap, subst, arith, append_assoc, append-nil}
 use Rattle.std.proofs.lemmas.List.{length-append, length-map, length-drop, take-map, drop-map, take-append-le, drop-append-le, length-take-le}
 use Rattle.std.proofs.Math.Seq.{drop-append-add}
 use Rattle.mux_types.specs.declared.parts.Sub.{Sub}
@@ -14,7 +14,6 @@ use Rattle.fib_codec.proofs.Lengths.{AllByRecursion-at}
 use Rattle.fib_carousel.proofs.Sharing.{same_fields}
 use Rattle.fib_carousel.specs.declared.pack_state.EntryShape.{EntryShape}
 use Rattle.fib_carousel.specs.Packing.{size_of}
-use Rattle.fib_carousel.specs.Pages.{page_set}
 use Rattle.fib_carousel.specs.Items.{config_entries}
 use Rattle.fib_carousel.specs.Runs.{shape_of, sub_shape, packet_shape}
 use Rattle.fib_carousel.specs.Walk.{IsShapeAt}

@@ -3,7 +3,6 @@ use Rattle.std.proofs.Common.{◌≡◌, ℕ, zero, suc, ◌+◌, ◌-◌, ◌*�
 use Rattle.std.proofs.lemmas.List.{length-append, length-set, length-drop, length-take-le, get_or-take, get_or-drop, drop-drop}
 use Rattle.std.proofs.lemmas.Option.{slice_get-get_or}
 use Rattle.std.proofs.Math.Seq.{get_or-append_seam, set-append_seam, take-add}
-use Rattle.std.specs.List.{AllByRecursion}
 use Rattle.mux_entries.specs.Facts.{Marked}
 use Rattle.mux_entries.specs.declared.entry.Entry.{Entry}
 use Rattle.fib_codec.specs.declared.head.Head.{Head}
@@ -19,15 +18,15 @@ use Rattle.fib_carousel.specs.Greedy.{placed}
 use Rattle.fib_carousel.specs.Pages.{fib_entries}
 use Rattle.fib_carousel.specs.Bytes.{figs_of}
 use Rattle.fib_carousel.specs.Walk.{IsShapeAt}
-use Rattle.fib_carousel.specs.Filling.{Grows, GrowsBy, Begins, Lengthens}
+use Rattle.fib_carousel.specs.Filling.{Grows, GrowsBy}
 use Rattle.fib_carousel.specs.Runs.{shape_of, state_at, step}
 use Rattle.fib_carousel.specs.Shapes.{piece, AreAlike, IsRun, marked_bytes, PutsRun, TakesRuns}
 use Rattle.fib_carousel.proofs.Least.{placed_cases, room_high}
 use Rattle.fib_carousel.proofs.Sharing.{same_head_is, figs_cost, written_of}
 use Rattle.fib_carousel.proofs.Sent.{same_head_own}
 use Rattle.fib_carousel.proofs.Runs.{placed_step, step_stays}
-use Rattle.fib_carousel.proofs.Walk.{Passed, Walked, walked_in, drop_here, take_here, rest_in}
-use Rattle.fib_carousel.proofs.Filling.{IsFilled, IsLast, HasLast, FilledTo, Entered, Put, figs_added, added, added_same, figs_bytes_last, put_step, same_there, figs_size_part}
+use Rattle.fib_carousel.proofs.Walk.{Passed, Walked, walked_in, drop_here, rest_in}
+use Rattle.fib_carousel.proofs.Filling.{IsFilled, FilledTo, Entered, figs_added, added, added_same, figs_bytes_last, put_step, same_there, figs_size_part}
 
 -- ---- an entry of a run
 pub same_shape : (s t : EntryShape) → s.head ≡ t.head → s.size ≡ t.size → s ≡ t

@@ -1,4 +1,4 @@
-use Rattle.std.proofs.Common.{◌≡◌, ◌+◌, ◌-◌, ◌<◌, arith, sym, subst, length}
+use Rattle.std.proofs.Common.{◌-◌, ◌<◌, arith, sym, subst, length}
 use Rattle.std.proofs.lemmas.List.{length-map}
 use Rattle.mux_entries.specs.Facts.{facts_of, marked}
 use Rattle.fib_carousel.specs.declared.pack_state.EntryShape.{EntryShape}

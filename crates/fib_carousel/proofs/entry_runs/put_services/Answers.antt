@@ -1,4 +1,4 @@
-use Rattle.std.proofs.Common.{◌≡◌, ◌+◌, ◌-◌, ◌*◌, ◌≤◌, ◌++◌, length, take, drop, map, arith, ap, sym, ◌∙◌, append-nil}
+use Rattle.std.proofs.Common.{◌≡◌, ◌-◌, ◌*◌, ◌++◌, take, drop, map, arith, ap, sym, ◌∙◌, append-nil}
 use Rattle.mux_entries.specs.Facts.{marked, service_entry}
 use Rattle.fib_codec.specs.Spelling.{entries_bytes}
 use Rattle.fib_carousel.specs.Runs.{shape_of}
