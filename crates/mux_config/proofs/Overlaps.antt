@@ -1,8 +1,11 @@
 -- The walks over sub-channels and packet components that look for the first overlap, and for an address used twice.
 
-use Rattle.std.proofs.Common.{◌≡◌, ℕ, ◌+◌, Bool, true, false, cond, ◌||◌, List, drop, Option, Some, None, is_some, refl, sym, ap, ◌∙◌, subst, slice_get}
+use Rattle.std.proofs.Common.{◌≡◌, ℕ, zero, suc, ◌+◌, ◌==◌, ◌&&◌, Bool, true, false, cond, ◌||◌, List, [], ◌∷◌, drop, Option, Some, None, is_some, refl, sym, ap, ◌∙◌, slice_get, slice_index_or, slice_set, replicate, length, ◌<◌, inl, inr, arith}
 use Rattle.std.specs.List.{list_any}
 use Rattle.std.proofs.lemmas.Bool.{false≢true}
+use Rattle.std.proofs.lemmas.Bool.Decides.{eqb_tells}
+use Rattle.std.proofs.lemmas.List.{get_or-replicate, get_or-set_other}
+use Rattle.std.proofs.lemmas.Grind.{get_or-set_at}
 use Rattle.mux_types.specs.declared.parts.Sub.{Sub}
 use Rattle.mux_types.specs.declared.parts.Packet.{Packet}
 use Rattle.mux_config.specs.declared.fault.ConfigFault.{ConfigFault}
@@ -44,11 +47,62 @@ first_more xs i a fault all left e is none =
 
 -- ---- and one that looks for an address used twice
 
-twice_step : (xs : List Packet) (i : ℕ) (p : Packet) (all : Bool) → has_address_twice (drop i xs) ≡ all → slice_get xs i ≡ Some p → (list_any (has_same_address p) (drop (i + 1) xs) || has_address_twice (drop (i + 1) xs)) ≡ all
-twice_step xs i p all left e = subst (λ (ys : List Packet). has_address_twice ys ≡ all) (cut xs i p e) left
+-- a packet component of this sub-channel is among these
+abbrev pub is_named : ℕ → List Packet → Bool
+is_named s ps = list_any (λ (q : Packet). s == q.sub) ps
 
-pub twice_found : (xs : List Packet) (i : ℕ) (p : Packet) (all : Bool) → has_address_twice (drop i xs) ≡ all → slice_get xs i ≡ Some p → list_any (has_same_address p) (drop (i + 1) xs) ≡ true → true ≡ all
-twice_found xs i p all left e here = ap (λ (t : Bool). t || has_address_twice (drop (i + 1) xs)) (sym here) ∙ twice_step xs i p all left e
+-- a packet component whose sub-channel no other names shares its address with none
+shares_none : (a b : Bool) → a ≡ false → (a && b) ≡ false
+shares_none true b e = absurd (false≢true (sym e))
+shares_none false b e = refl
 
-pub twice_more : (xs : List Packet) (i : ℕ) (p : Packet) (all : Bool) → has_address_twice (drop i xs) ≡ all → slice_get xs i ≡ Some p → list_any (has_same_address p) (drop (i + 1) xs) ≡ false → has_address_twice (drop (i + 1) xs) ≡ all
-twice_more xs i p all left e here = ap (λ (t : Bool). t || has_address_twice (drop (i + 1) xs)) (sym here) ∙ twice_step xs i p all left e
+none_of_two : (a b : Bool) → (a || b) ≡ false → (a ≡ false) × (b ≡ false)
+none_of_two true b e = absurd (false≢true (sym e))
+none_of_two false b e = (refl, e)
+
+none_alike : (p : Packet) (ps : List Packet) → is_named p.sub ps ≡ false → list_any (has_same_address p) ps ≡ false
+none_alike p [] e = refl
+none_alike p (q ∷ qs) e =
+    let two = none_of_two (p.sub == q.sub) (is_named p.sub qs) e in
+    let first : has_same_address p q ≡ false = shares_none (p.sub == q.sub) (p.address == q.address) two.0 in
+    ap (λ (t : Bool). t || list_any (has_same_address p) qs) first ∙ none_alike p qs two.1
+
+-- what two of the last share, two of all do
+either_later : (a b : Bool) → b ≡ true → (a || b) ≡ true
+either_later true b e = refl
+either_later false b e = e
+
+twice_later : (xs : List Packet) (i : ℕ) → has_address_twice (drop i xs) ≡ true → has_address_twice xs ≡ true
+twice_later xs zero e = e
+twice_later [] (suc i) e = e
+twice_later (x ∷ xs) (suc i) e = either_later (list_any (has_same_address x) xs) (has_address_twice xs) (twice_later xs i e)
+
+twice_step : (xs : List Packet) (i : ℕ) (p : Packet) → slice_get xs i ≡ Some p → has_address_twice (drop i xs) ≡ (list_any (has_same_address p) (drop (i + 1) xs) || has_address_twice (drop (i + 1) xs))
+twice_step xs i p e = rw (cut xs i p e) refl
+
+pub twice_found : (xs : List Packet) (i : ℕ) (p : Packet) → slice_get xs i ≡ Some p → list_any (has_same_address p) (drop (i + 1) xs) ≡ true → true ≡ has_address_twice xs
+twice_found xs i p e here =
+    sym (twice_later xs i (twice_step xs i p e ∙ ap (λ (t : Bool). t || has_address_twice (drop (i + 1) xs)) here))
+
+pub twice_not : (xs : List Packet) (i : ℕ) (p : Packet) → slice_get xs i ≡ Some p → list_any (has_same_address p) (drop (i + 1) xs) ≡ false → has_address_twice (drop (i + 1) xs) ≡ false
+    → has_address_twice (drop i xs) ≡ false
+twice_not xs i p e here later = twice_step xs i p e ∙ ap (λ (t : Bool). t || has_address_twice (drop (i + 1) xs)) here ∙ later
+
+pub twice_unnamed : (xs : List Packet) (i : ℕ) (p : Packet) → slice_get xs i ≡ Some p → is_named p.sub (drop (i + 1) xs) ≡ false → has_address_twice (drop (i + 1) xs) ≡ false
+    → has_address_twice (drop i xs) ≡ false
+twice_unnamed xs i p e unnamed later = twice_not xs i p e (none_alike p (drop (i + 1) xs) unnamed) later
+
+-- which sub-channels are named, each at its number
+abbrev pub Marks : List Bool → List Packet → Type 0
+Marks named ps = (s : ℕ) → s < 64 → slice_index_or named s false ≡ is_named s ps
+
+pub marks_none : (named : List Bool) (ps : List Packet) → named ≡ replicate 64 false → ps ≡ [] → Marks named ps
+marks_none named ps e f s lt = rw (e, f) (get_or-replicate 64 s false false lt)
+
+pub marks_one : (named : List Bool) (xs : List Packet) (i : ℕ) (p : Packet) → slice_get xs i ≡ Some p → length named ≡ 64 → p.sub < 64 → Marks named (drop (i + 1) xs)
+    → Marks (slice_set named p.sub true) (drop i xs)
+marks_one named xs i p e len lt marks s within = rw (cut xs i p e) (
+    elim (eqb_tells s p.sub) [
+      | inl same ↦ get_or-set_at named p.sub s true false same.1 (omega (arith, len, lt)) ∙ ap (λ (t : Bool). t || is_named s (drop (i + 1) xs)) (sym same.0)
+      | inr other ↦ get_or-set_other named p.sub s true false other.1 ∙ marks s within ∙ ap (λ (t : Bool). t || is_named s (drop (i + 1) xs)) (sym other.0)
+    ])

@@ -3,13 +3,14 @@
 ghost use Rattle.std.specs.Prelude.{◌≡◌, ℕ, ◌++◌, List, Ok, OnOk, IfOk};
 ghost use Rattle.std.specs.List.{flat_map};
 ghost use Rattle.mux_types.specs.Configuration.{IsConfiguration};
-ghost use Rattle.byte_fields.specs.FieldSpelling.{component_bytes};
+ghost use Rattle.byte_fields.specs.FieldSpelling.{set_byte, component_bytes};
 ghost use Rattle.mux_config.specs.Spelling.{sub_record, service_record, packet_record, config_bytes};
 ghost use Rattle.mux_config.specs.Reading.{config_at};
 
 use crate::config::Config;
-use byte_fields::{put_component, put_protection, put_sid, put_u16};
-use mux_types::{Component, Packet, Service, Sub};
+use byte_fields::put_component;
+use mux_eep::EepSet;
+use mux_types::{Component, Packet, Service, Sid, Sub};
 use std::alloc::{AllocError, Global};
 
 /// What has bytes of its own in a record.
@@ -23,14 +24,25 @@ trait Spelled {
         ensures { OnOk result (out.new.items ≡ out.old.items ++ text self.now) };
 }
 
+/// The number of a protection set: 0 for A and 1 for B.
+fn set_byte(set: EepSet) -> u8
+    ensures { result ≡ set_byte set }
+{
+    match set {
+        EepSet::A => 0,
+        EepSet::B => 1,
+    }
+}
+
 impl Spelled for Sub {
     ghost text = { sub_record };
 
     fn put(&self, out: &mut Vec<u8>) -> Result<(), AllocError> {
-        out.push(self.id.get())?;
-        put_u16(out, self.start)?;
-        put_protection(out, self.protection)?;
-        put_u16(out, self.kbits)
+        let [start, start_low] = self.start.to_be_bytes();
+        let [rate, rate_low] = self.kbits.to_be_bytes();
+        let set = set_byte(self.protection.set());
+        let level = self.protection.level();
+        out.extend_from_slice(&[self.id.get(), start, start_low, set, level, rate, rate_low])
     }
 }
 
@@ -46,8 +58,17 @@ impl Spelled for Service {
     ghost text = { service_record };
 
     fn put(&self, out: &mut Vec<u8>) -> Result<(), AllocError> {
-        put_sid(out, self.sid)?;
-        out.push(self.components.len() as u8)?;
+        let count = self.components.len() as u8;
+        match self.sid {
+            Sid::Short(sid) => {
+                let [high, low] = sid.to_be_bytes();
+                out.extend_from_slice(&[0, high, low, count])?;
+            }
+            Sid::Long(sid) => {
+                let [first, second, third, fourth] = sid.to_be_bytes();
+                out.extend_from_slice(&[1, first, second, third, fourth, count])?;
+            }
+        }
         put_all(out, self.components.as_slice())
     }
 }
@@ -56,9 +77,17 @@ impl Spelled for Packet {
     ghost text = { packet_record };
 
     fn put(&self, out: &mut Vec<u8>) -> Result<(), AllocError> {
-        put_u16(out, self.scid.get())?;
-        out.extend_from_slice(&[u8::from(self.dg), self.ty.get(), self.sub.get()])?;
-        put_u16(out, self.address)
+        let [id, id_low] = self.scid.get().to_be_bytes();
+        let [address, address_low] = self.address.to_be_bytes();
+        out.extend_from_slice(&[
+            id,
+            id_low,
+            u8::from(self.dg),
+            self.ty.get(),
+            self.sub.get(),
+            address,
+            address_low,
+        ])
     }
 }
 

@@ -143,14 +143,21 @@ fn is_missing<S: Store>(store: &S, carrier: Carrier) -> bool
     }
 }
 
-/// Whether two packet components of one sub-channel have one address.
+/// Whether two packet components of one sub-channel have one address. They are gone through from the last to the first;
+/// only one whose sub-channel a later one has too is compared with the later ones.
 fn has_address_twice<S: Store>(store: &S) -> bool
     ensures { let c = S.content store.now in result ≡ has_address_twice c.packets }
 {
-    for place in 0..store.packet_count() {
-        if has_same_address_from(store, &store.packet_at(place), place + 1) {
+    let mut named = [false; 64];
+    let count = store.packet_count();
+    for gone in 0..count {
+        let place = count - 1 - gone;
+        let packet = store.packet_at(place);
+        let sub = usize::from(packet.sub.get());
+        if named[sub] && has_same_address_from(store, &packet, place + 1) {
             return true;
         }
+        named[sub] = true;
     }
     false
 }

@@ -1,13 +1,10 @@
 -- A test of the code answers what the test of the walk does, where both decide the same.
 
 use Rattle.std.proofs.Common.{◌≡◌, ℕ, ◌↔◌, Bool, true, false, IsTrue, refl, sym, ap, ◌∙◌, ◌&&◌, length, Option, Some, None, IfSome}
-use Rattle.mux_config.specs.Configuration.{Configuration}
 use Rattle.plan_code.specs.declared.label.Label.{Label}
 use Rattle.plan_code.specs.declared.label.Swap.{Swap}
 use Rattle.plan_code.specs.declared.label.Swap.TheVariants.{Idle, Within, Perhaps}
 use Rattle.plan_code.specs.Program.{Program, IsProgram, IsLabel, label_at}
-use Rattle.plan_flow.specs.Flows.{known_at, flow_of}
-use Rattle.plan_flow.proofs.Finding.{swap_alone}
 use Rattle.plan_verifier.specs.Typing.{Known, FitsSwap}
 use Rattle.plan_verifier.specs.Walking.{includes, fits_swap, is_fit, may_have_swapped}
 use Rattle.plan_verifier.proofs.Deciding.{Decides, is_false, decides_fits}
@@ -45,27 +42,25 @@ current_there (Perhaps hi) Idle t declared h no_swap = absurd h
 current_there (Perhaps hi) (Within low high) t declared h no_swap = absurd h
 current_there (Perhaps hi) (Perhaps high) t declared h no_swap = h.0.0
 
+swapped_there : (p q : Swap) (t declared : Known) → FitsSwap p q t declared → may_have_swapped p q ≡ true → t.current ≡ declared.next
+swapped_there Idle Idle t declared h swap = absurd (let e : false ≡ true = swap in cc)
+swapped_there Idle (Within low high) t declared h swap = absurd h
+swapped_there Idle (Perhaps high) t declared h swap = h.0
+swapped_there (Within lo hi) q t declared h swap = absurd (let e : false ≡ true = swap in cc)
+swapped_there (Perhaps hi) q t declared h swap = absurd (let e : false ≡ true = swap in cc)
+
+pub swapped_fits : (t declared : Known) → is_fit t declared ≡ true → may_have_swapped t.pending declared.pending ≡ true → t.current ≡ declared.next
+swapped_fits t declared e swap = swapped_there t.pending declared.pending t declared ((decides_fits t declared).told e).swap swap
+
 pub next_fits : (t declared : Known) → is_fit t declared ≡ true → t.next ≡ declared.next
 next_fits t declared e = next_there t.pending declared.pending t declared ((decides_fits t declared).told e).swap
 
 pub current_fits : (t declared : Known) → is_fit t declared ≡ true → may_have_swapped t.pending declared.pending ≡ false → t.current ≡ declared.current
 current_fits t declared e no_swap = current_there t.pending declared.pending t declared ((decides_fits t declared).told e).swap no_swap
 
--- what the flow says of a label whose configurations these are, and then the counters
-pub fit_counters : (a b : Bool) (t declared : Known) (current next : Configuration) → a ≡ includes t.counters declared.counters → a ≡ true → current ≡ declared.current → next ≡ declared.next
-    → b ≡ fits_swap t.pending declared.pending (known_at (flow_of t)) (known_at (record { current = current; next = next; pending = declared.pending }))
-    → b ≡ is_fit t declared
-fit_counters a b t declared current next e true_here same_current same_next f =
-    let p = t.pending in
-    let q = declared.pending in
-    let first : fits_swap p q (known_at (flow_of t)) (known_at (record { current = current; next = next; pending = q }))
-    ≡ fits_swap p q (known_at (flow_of t)) (known_at (record { current = declared.current; next = next; pending = q })) =
-    ap (λ (c : Configuration). fits_swap p q (known_at (flow_of t)) (known_at (record { current = c; next = next; pending = q }))) same_current in
-    let second : fits_swap p q (known_at (flow_of t)) (known_at (record { current = declared.current; next = next; pending = q }))
-    ≡ fits_swap p q (known_at (flow_of t)) (known_at (flow_of declared)) =
-    ap (λ (c : Configuration). fits_swap p q (known_at (flow_of t)) (known_at (record { current = declared.current; next = c; pending = q }))) same_next in
-    let whole : fits_swap p q t declared ≡ is_fit t declared = sym (ap (λ (x : Bool). x && fits_swap p q t declared) (sym e ∙ true_here)) in
-    f ∙ first ∙ second ∙ swap_alone p q t declared ∙ whole
+-- the configurations and the swap fit a label, and then the counters
+pub fit_counters : (a b : Bool) (t declared : Known) → a ≡ includes t.counters declared.counters → a ≡ true → b ≡ fits_swap t.pending declared.pending t declared → b ≡ is_fit t declared
+fit_counters a b t declared e true_here f = f ∙ sym (ap (λ (x : Bool). x && fits_swap t.pending declared.pending t declared) (sym e ∙ true_here))
 
 pub fit_no_counters : (a : Bool) (t declared : Known) → a ≡ includes t.counters declared.counters → a ≡ false → a ≡ is_fit t declared
 fit_no_counters a t declared e false_here =

@@ -27,6 +27,10 @@ is_fit t declared = includes t.counters declared.counters && fits_swap t.pending
 abbrev pub may_have_swapped : Swap → Swap → Bool
 may_have_swapped pending declared = is_idle pending && not (is_idle declared)
 
+-- the swap that was pending, or may have been, has been made
+abbrev pub has_swapped : Swap → Swap → Bool
+has_swapped before after = not (is_idle before) && is_idle after
+
 abbrev pub is_initial : Known → Bool
 is_initial t = is_idle t.pending && (t.counters.0 == 0) && is_same t.current t.next
 

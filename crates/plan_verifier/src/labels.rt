@@ -1,15 +1,16 @@
 //! What is known where the machine comes to a label.
 
-ghost use Rattle.std.specs.Prelude.{◌≡◌, ℕ, ◌<◌, length, slice_get, true, IfSome};
+ghost use Rattle.std.specs.Prelude.{◌≡◌, ℕ, ◌<◌, ◌↔◌, ◌&&◌, length, slice_get, true, Some, IsTrue, IfSome};
 ghost use Rattle.plan_code.specs.Program.{IsProgram, IsLabel, label_at};
-ghost use Rattle.plan_verifier.specs.Held.{known_of};
-ghost use Rattle.plan_verifier.specs.Walking.{unless, is_fit, declared_by, or_nothing, may_have_swapped, refitted, entry_cause, label_cause};
+ghost use Rattle.plan_verifier.specs.Typing.{Known};
+ghost use Rattle.plan_verifier.specs.Held.{known_of, StandsAt, ArePlaced, KnowsPlaces, places_of};
+ghost use Rattle.plan_verifier.specs.Walking.{unless, is_same, fits_swap, is_fit, declared_by, or_nothing, may_have_swapped, refitted, entry_cause, label_cause};
 
-use crate::known::{KnownState, includes};
+use crate::known::{KnownState, Places, includes};
 use mux_config::{Config, Store};
 use plan_code::{Code, Label, Swap};
 use plan_flow::Cause;
-use plan_flow::flow::is_idle;
+use plan_flow::flow::{is_idle, is_same};
 
 /// The label at an instruction. Its fields are within their limits.
 pub(crate) fn label_at(code: &Code, pc: u16) -> Option<Label>
@@ -28,33 +29,119 @@ fn config_at(code: &Code, place: u16) -> &Config
     &code.configs()[usize::from(place)]
 }
 
+/// Whether this is the place that is known.
+fn is_at(known: Option<u16>, place: u16) -> bool
+    ensures { IsTrue result ↔ (known ≡ Some place) }
+{
+    known == Some(place)
+}
+
+/// Whether a store holds the configuration of a place, where it is known at which one its own stands, if at any.
+fn holds<S: Store>(code: &Code, store: &S, known: Option<u16>, place: u16) -> bool
+    requires within { place < length code.now.configurations }
+    requires known { StandsAt code.now.configurations known (S.content store.now) }
+    ensures { result ≡ is_same (S.content store.now) (or_nothing
+        (slice_get code.now.configurations place)) }
+{
+    is_at(known, place) || is_same(store, config_at(code, place))
+}
+
+/// Whether what is known has the configurations of these places.
+fn has<S: Store>(code: &Code, current: u16, next: u16, state: &KnownState<S>) -> bool
+    requires current_within { current < length code.now.configurations }
+    requires next_within { next < length code.now.configurations }
+    requires placed { KnowsPlaces S.content code.now.configurations state.now }
+    ensures { result ≡ (is_same (S.content state.now.flow.current) (or_nothing
+        (slice_get code.now.configurations current))
+        && is_same (S.content state.now.flow.next) (or_nothing
+        (slice_get code.now.configurations next))) }
+{
+    holds(code, &state.flow.current, state.places.current, current)
+        && holds(code, &state.flow.next, state.places.next, next)
+}
+
+/// Whether the configurations and the swap that are known fit those of a label, whatever the allowance is.
+fn fits<S: Store>(code: &Code, label: &Label, state: &KnownState<S>) -> bool
+    requires within { IsLabel (length code.now.configurations) label.now }
+    requires placed { KnowsPlaces S.content code.now.configurations state.now }
+    ensures { (allowance : ℕ) → result ≡ fits_swap state.now.flow.pending label.now.pending (record
+        (known_of S.content state.now) { allowance = allowance })
+        (declared_by code.now label.now) }
+{
+    match (state.flow.pending, label.pending) {
+        (Swap::Idle, Swap::Idle) => has(code, label.cur, label.next, state),
+        (Swap::Idle, Swap::Within(_, _)) => false,
+        (Swap::Idle, Swap::Perhaps(_)) => has(code, label.next, label.next, state),
+        (Swap::Within(low, high), Swap::Within(least, most)) => {
+            least <= low && high <= most && has(code, label.cur, label.next, state)
+        }
+        (Swap::Within(_, high), Swap::Perhaps(most)) => high <= most
+            && has(code, label.cur, label.next, state),
+        (Swap::Within(_, _), Swap::Idle) => false,
+        (Swap::Perhaps(high), Swap::Perhaps(most)) => high <= most
+            && has(code, label.cur, label.next, state),
+        (Swap::Perhaps(_), Swap::Idle) => false,
+        (Swap::Perhaps(_), Swap::Within(_, _)) => false,
+    }
+}
+
 /// Whether what is known fits what a label declares, whatever the allowance is.
 fn is_fit<S: Store>(code: &Code, label: &Label, state: &KnownState<S>) -> bool
-    requires { IsLabel (length code.now.configurations) label.now }
+    requires within { IsLabel (length code.now.configurations) label.now }
+    requires placed { KnowsPlaces S.content code.now.configurations state.now }
     ensures { (allowance : ℕ) → result ≡ is_fit (record (known_of S.content state.now) {
       allowance = allowance;
     }) (declared_by code.now label.now) }
 {
-    let current = config_at(code, label.cur);
-    let next = config_at(code, label.next);
-    includes(state.counters, label.counters) && state.flow.fits(current, next, label.pending)
+    includes(state.counters, label.counters) && fits(code, label, state)
 }
 
-/// Whether what is known fits what a label declares. Refused are `Mismatch`, where it does not, and `Cost`,
-/// where this allowance is below the label's cost.
+/// Whether no swap is pending any more where a label says that one may be.
+fn may_have_swapped(pending: Swap, declared: Swap) -> bool
+    ensures { result ≡ may_have_swapped pending declared }
+{
+    is_idle(pending) && !is_idle(declared)
+}
+
+/// Where the configurations of what fits a label stand: where the label's do, but for the current one where the swap may
+/// have been made.
+fn fit_places(code: &Code, label: &Label, pending: Swap) -> Places
+    ensures { (t : Known) → pending ≡ t.pending
+        → is_fit t (declared_by code.now label.now) ≡ true
+        → ArePlaced code.now.configurations result t }
+{
+    if may_have_swapped(pending, label.pending) {
+        return Places {
+            current: Some(label.next),
+            next: Some(label.next),
+        };
+    }
+    Places {
+        current: Some(label.cur),
+        next: Some(label.next),
+    }
+}
+
+/// Whether what is known fits what a label declares; then it is known where its configurations stand. Refused are
+/// `Mismatch`, where it does not, and `Cost`, where this allowance is below the label's cost.
 pub(crate) fn test_entry<S: Store>(
     code: &Code,
     label: &Label,
     allowance: u8,
-    state: &KnownState<S>,
+    state: &mut KnownState<S>,
 ) -> Result<(), Cause>
-    requires { IsLabel (length code.now.configurations) label.now }
-    ensures { result ≡ unless (entry_cause code.now label.now (record
-        (known_of S.content state.now) { allowance = allowance })) }
+    requires within { IsLabel (length code.now.configurations) label.now }
+    requires placed { KnowsPlaces S.content code.now.configurations state.old }
+    ensures cause { result ≡ unless (entry_cause code.now label.now (record
+        (known_of S.content state.old) { allowance = allowance })) }
+    ensures kept { known_of S.content state.new ≡ known_of S.content state.old }
+    ensures allowance { state.new.allowance ≡ state.old.allowance }
+    ensures placed { KnowsPlaces S.content code.now.configurations state.new }
 {
     if !is_fit(code, label, state) {
         return Err(Cause::Mismatch);
     }
+    state.places = fit_places(code, label, state.flow.pending);
     if allowance < label.cost {
         return Err(Cause::Cost);
     }
@@ -71,41 +158,65 @@ pub(crate) fn test_cost(code: &Code, label: &Label) -> Result<(), Cause>
     Ok(())
 }
 
-/// Takes what a label declares, but for its configurations.
+/// Takes what a label declares, but for its configurations, and notes where these stand.
 fn take_rest<S: Store>(label: &Label, state: &mut KnownState<S>)
-    ensures { known_of S.content state.new ≡ refitted label.now (known_of S.content state.old) }
+    ensures value { known_of S.content state.new ≡ refitted label.now
+        (known_of S.content state.old) }
+    ensures places { state.new.places ≡ places_of label.now }
 {
     state.flow.pending = label.pending;
     state.counters = label.counters;
     state.allowance = label.cost;
+    state.places = Places {
+        current: Some(label.cur),
+        next: Some(label.next),
+    };
+}
+
+/// Takes the configuration of a place into a store, where it is known at which one its own stands, if at any.
+fn put<S: Store>(code: &Code, place: u16, known: Option<u16>, store: &mut S)
+    requires within { place < length code.now.configurations }
+    requires known { StandsAt code.now.configurations known (S.content store.old) }
+    ensures { S.content store.new ≡ or_nothing (slice_get code.now.configurations place) }
+{
+    if !is_at(known, place) {
+        store.copy_from_config(config_at(code, place));
+    }
 }
 
 /// Takes what a label declares.
 pub(crate) fn take<S: Store>(code: &Code, label: &Label, state: &mut KnownState<S>)
-    requires { IsLabel (length code.now.configurations) label.now }
-    ensures { known_of S.content state.new ≡ declared_by code.now label.now }
+    requires within { IsLabel (length code.now.configurations) label.now }
+    requires placed { KnowsPlaces S.content code.now.configurations state.old }
+    ensures value { known_of S.content state.new ≡ declared_by code.now label.now }
+    ensures placed { KnowsPlaces S.content code.now.configurations state.new }
 {
-    state.flow.current = S::from_config(config_at(code, label.cur));
-    state.flow.next = S::from_config(config_at(code, label.next));
+    put(
+        code,
+        label.cur,
+        state.places.current,
+        &mut state.flow.current,
+    );
+    put(code, label.next, state.places.next, &mut state.flow.next);
     take_rest(label, state);
-}
-
-/// Whether no swap is pending any more where a label says that one may be.
-fn may_have_swapped(pending: Swap, declared: Swap) -> bool
-    ensures { result ≡ may_have_swapped pending declared }
-{
-    is_idle(pending) && !is_idle(declared)
 }
 
 /// Takes what a label declares, where what is known fits it: then the configurations stand there already, but
 /// for the current one of a label at which the swap may have been made.
 pub(crate) fn refit<S: Store>(code: &Code, label: &Label, state: &mut KnownState<S>)
     requires within { IsLabel (length code.now.configurations) label.now }
+    requires placed { KnowsPlaces S.content code.now.configurations state.old }
     requires fit { is_fit (known_of S.content state.old) (declared_by code.now label.now) ≡ true }
-    ensures { known_of S.content state.new ≡ declared_by code.now label.now }
+    ensures value { known_of S.content state.new ≡ declared_by code.now label.now }
+    ensures placed { KnowsPlaces S.content code.now.configurations state.new }
 {
     if may_have_swapped(state.flow.pending, label.pending) {
-        state.flow.current = S::from_config(config_at(code, label.cur));
+        put(
+            code,
+            label.cur,
+            state.places.current,
+            &mut state.flow.current,
+        );
         take_rest(label, state);
     } else {
         take_rest(label, state);

@@ -3,11 +3,11 @@
 ghost use Rattle.std.specs.Prelude.{◌≡◌, ◌≤◌, ◌+◌, ◌==◌, ◌&&◌, OnOk, length};
 ghost use Rattle.plan_code.specs.Program.{instr_at, label_at};
 ghost use Rattle.plan_flow.specs.Flows.{flow_of, known_with, moved, set_after, left_over};
-ghost use Rattle.plan_verifier.specs.Held.{known_of};
+ghost use Rattle.plan_verifier.specs.Held.{known_of, KnowsPlaces};
 ghost use Rattle.plan_verifier.specs.Typing.{leaves, spent, continues};
 ghost use Rattle.plan_verifier.specs.Walking.{unless, flow_cause, target_cause, instr_cause, known_cause, jump_cause, instr_or_end};
 
-use crate::known::KnownState;
+use crate::known::{KnownState, note_places};
 use crate::labels::{label_at, test_entry};
 use mux_config::Store;
 use plan_code::{Code, Instr, Plan};
@@ -15,10 +15,14 @@ use plan_flow::Cause;
 use plan_flow::ways::continues;
 
 /// Jumps to the label at the target: refused are `Target`, where none stands there, `Mismatch` and `Cost`.
-fn test_jump<S: Store>(code: &Code, target: u16, state: &KnownState<S>) -> Result<(), Cause>
-    requires { 1 ≤ state.now.allowance }
-    ensures { result ≡ unless (jump_cause code.now (label_at code.now target) (spent
-        (known_of S.content state.now))) }
+fn test_jump<S: Store>(code: &Code, target: u16, state: &mut KnownState<S>) -> Result<(), Cause>
+    requires allowance { 1 ≤ state.old.allowance }
+    requires placed { KnowsPlaces S.content code.now.configurations state.old }
+    ensures cause { result ≡ unless (jump_cause code.now (label_at code.now target) (spent
+        (known_of S.content state.old))) }
+    ensures kept { known_of S.content state.new ≡ known_of S.content state.old }
+    ensures allowance { state.new.allowance ≡ state.old.allowance }
+    ensures placed { KnowsPlaces S.content code.now.configurations state.new }
 {
     match label_at(code, target) {
         None => Err(Cause::Target),
@@ -28,9 +32,14 @@ fn test_jump<S: Store>(code: &Code, target: u16, state: &KnownState<S>) -> Resul
 
 /// Whether an instruction can jump where it does, if it jumps: refused are `CounterUnset`, where a loop's counter may not
 /// be set, `Target`, `Mismatch` and `Cost`.
-fn test_target<S: Store>(code: &Code, instr: Instr, state: &KnownState<S>) -> Result<(), Cause>
-    requires { 1 ≤ state.now.allowance }
-    ensures { result ≡ unless (target_cause code.now instr (known_of S.content state.now)) }
+fn test_target<S: Store>(code: &Code, instr: Instr, state: &mut KnownState<S>) -> Result<(), Cause>
+    requires allowance { 1 ≤ state.old.allowance }
+    requires placed { KnowsPlaces S.content code.now.configurations state.old }
+    ensures cause { result ≡ unless (target_cause code.now instr
+        (known_of S.content state.old)) }
+    ensures kept { known_of S.content state.new ≡ known_of S.content state.old }
+    ensures allowance { state.new.allowance ≡ state.old.allowance }
+    ensures placed { KnowsPlaces S.content code.now.configurations state.new }
 {
     match instr {
         Instr::Test { target, .. } => test_jump(code, target, state),
@@ -60,6 +69,7 @@ fn advance<S: Store>(plan: &Plan, instr: Instr, state: &mut KnownState<S>) -> Re
     ensures left { OnOk result (known_of S.content state.new ≡ known_with (moved plan.now instr
         (flow_of (known_of S.content state.old))) state.old.counters state.old.allowance) }
     ensures allowance { state.new.allowance ≡ state.old.allowance }
+    ensures places { state.new.places ≡ state.old.places }
 {
     state.flow.apply(plan, instr)
 }
@@ -68,9 +78,10 @@ fn advance<S: Store>(plan: &Plan, instr: Instr, state: &mut KnownState<S>) -> Re
 /// frame of the next one.
 fn account<S: Store>(plan: &Plan, instr: Instr, state: &mut KnownState<S>)
     requires { 1 ≤ state.old.allowance }
-    ensures { known_of S.content state.new ≡ known_with (flow_of
+    ensures value { known_of S.content state.new ≡ known_with (flow_of
         (known_of S.content state.old)) (set_after instr state.old.counters)
         (left_over plan.now instr state.old.allowance) }
+    ensures places { state.new.places ≡ state.old.places }
 {
     match instr {
         Instr::Wait(_) => state.allowance = plan.budget,
@@ -97,15 +108,19 @@ fn account<S: Store>(plan: &Plan, instr: Instr, state: &mut KnownState<S>)
 
 /// An instruction that has an allowance: why it is refused, or what it leaves.
 fn step<S: Store>(code: &Code, instr: &Instr, state: &mut KnownState<S>) -> Result<(), Cause>
-    requires { 1 ≤ state.old.allowance }
+    requires allowance { 1 ≤ state.old.allowance }
+    requires placed { KnowsPlaces S.content code.now.configurations state.old }
     ensures cause { result ≡ unless (instr_cause code.now instr.now
         (known_of S.content state.old)) }
     ensures left { OnOk result (known_of S.content state.new ≡ leaves code.now.plan instr.now
         (known_of S.content state.old)) }
+    ensures placed { OnOk result (KnowsPlaces S.content code.now.configurations state.new) }
 {
     let plan = code.plan();
     test_target(code, *instr, state)?;
+    let before = state.flow.pending;
     advance(&plan, *instr, state)?;
+    note_places(*instr, before, state);
     account(&plan, *instr, state);
     Ok(())
 }
@@ -130,10 +145,12 @@ fn falls_off(code: &Code, pc: u16) -> bool
 
 /// An instruction of which it is known what holds: why it is refused, from the allowance on, or what it leaves.
 pub(crate) fn judge<S: Store>(code: &Code, pc: u16, state: &mut KnownState<S>) -> Result<(), Cause>
+    requires { KnowsPlaces S.content code.now.configurations state.old }
     ensures cause { result ≡ unless (known_cause code.now pc (instr_or_end (instr_at code.now pc))
         (known_of S.content state.old)) }
     ensures left { OnOk result (known_of S.content state.new ≡ leaves code.now.plan (instr_or_end
         (instr_at code.now pc)) (known_of S.content state.old)) }
+    ensures placed { OnOk result (KnowsPlaces S.content code.now.configurations state.new) }
 {
     if state.allowance == 0 {
         return Err(Cause::Cost);

@@ -2,12 +2,12 @@
 
 ghost use Rattle.std.specs.Prelude.{◌≡◌, IfErr, OnOk, Ok, Err, Some, None, length};
 ghost use Rattle.plan_code.specs.Program.{IsProgram, instr_at, label_at};
-ghost use Rattle.plan_verifier.specs.Held.{known_of};
+ghost use Rattle.plan_verifier.specs.Held.{known_of, KnowsPlaces};
 ghost use Rattle.plan_verifier.specs.Typing.{leaves, continues};
 ghost use Rattle.plan_verifier.specs.Walking.{whole_cause, opening_known, place_of, entered, came_of, known_cause, past_end, walk, refusal_of, opening_cause, is_initial, unless, PassesInstr, instr_or_end};
 
 use crate::cause::Refusal;
-use crate::known::KnownState;
+use crate::known::{KnownState, Places};
 use crate::labels::{label_at, refit, take, test_cost, test_entry};
 use crate::step::{instr_at, judge};
 use mux_config::Store;
@@ -39,10 +39,12 @@ fn test_first<S: Store>(code: &Code, label: &Label, state: &KnownState<S>) -> Re
 
 /// What is known at the first instruction, or why the code is refused there.
 fn open<S: Store>(code: &Code, state: &mut KnownState<S>) -> Result<(), Cause>
+    requires { KnowsPlaces S.content code.now.configurations state.old }
     ensures refused { IfErr result (λ cause. opening_known code.now (label_at code.now 0) ≡
         Err cause) }
     ensures known { OnOk result (opening_known code.now (label_at code.now 0) ≡ Ok
         (known_of S.content state.new)) }
+    ensures placed { OnOk result (KnowsPlaces S.content code.now.configurations state.new) }
 {
     match label_at(code, 0) {
         None => Err(Cause::Table),
@@ -61,10 +63,12 @@ fn enter<S: Store>(
     comes: bool,
     state: &mut KnownState<S>,
 ) -> Result<(), Cause>
+    requires { KnowsPlaces S.content code.now.configurations state.old }
     ensures refused { IfErr result (λ cause. place_of code.now (label_at code.now pc)
         (came_of comes (known_of S.content state.old)) ≡ Err cause) }
     ensures known { OnOk result (place_of code.now (label_at code.now pc) (came_of comes
         (known_of S.content state.old)) ≡ Ok (known_of S.content state.new)) }
+    ensures placed { OnOk result (KnowsPlaces S.content code.now.configurations state.new) }
 {
     match label_at(code, pc) {
         None => { if comes { Ok(()) } else { Err(Cause::Table) } }
@@ -90,10 +94,12 @@ fn enter_at<S: Store>(
     comes: bool,
     state: &mut KnownState<S>,
 ) -> Result<(), Cause>
+    requires { KnowsPlaces S.content code.now.configurations state.old }
     ensures refused { IfErr result (λ cause. entered code.now pc (came_of comes
         (known_of S.content state.old)) ≡ Err cause) }
     ensures known { OnOk result (entered code.now pc (came_of comes
         (known_of S.content state.old)) ≡ Ok (known_of S.content state.new)) }
+    ensures placed { OnOk result (KnowsPlaces S.content code.now.configurations state.new) }
 {
     if pc == 0 {
         return open(code, state);
@@ -108,11 +114,13 @@ fn visit<S: Store>(
     comes: bool,
     state: &mut KnownState<S>,
 ) -> Result<(), Cause>
+    requires { KnowsPlaces S.content code.now.configurations state.old }
     ensures refused { IfErr result (λ cause. whole_cause (entered code.now pc (came_of comes
         (known_of S.content state.old))) (known_cause code.now pc (instr_or_end
         (instr_at code.now pc))) ≡ Some cause) }
     ensures passed { OnOk result (PassesInstr code.now pc (instr_or_end (instr_at code.now pc))
         (came_of comes (known_of S.content state.old)) (known_of S.content state.new)) }
+    ensures placed { OnOk result (KnowsPlaces S.content code.now.configurations state.new) }
 {
     match enter_at(code, pc, comes, state) {
         Err(cause) => Err(cause),
@@ -158,6 +166,10 @@ pub(crate) fn refusal<S: Store>(code: &Code) -> Option<Refusal>
         },
         counters: Counters(0),
         allowance: 0,
+        places: Places {
+            current: None,
+            next: None,
+        },
     };
     let mut comes = false;
     for pc in 0..count(code) {

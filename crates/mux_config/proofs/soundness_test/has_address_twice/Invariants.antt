@@ -1,8 +1,14 @@
-use Rattle.std.proofs.Common.{◌≡◌, drop}
+use Rattle.std.proofs.Common.{◌≡◌, ◌-◌, false, length, drop}
 use Rattle.mux_config.specs.Sound.{has_address_twice}
+use Rattle.mux_config.proofs.Overlaps.{Marks}
 use Rattle.mux_config.proofs.soundness_test.has_address_twice.Given as goal
 
-abbrev pub invariant-loop-place : goal.invariant-loop-place
-invariant-loop-place g l =
+abbrev pub invariant-loop-gone : goal.invariant-loop-gone
+invariant-loop-gone g l =
     let k = g.S.Store.content l.store in
-    has_address_twice (drop l.place k.packets) ≡ has_address_twice k.packets
+    record {
+      count : l.count ≡ length k.packets;
+      each : length l.named ≡ 64;
+      marks : Marks l.named (drop (l.count - l.gone) k.packets);
+      none : has_address_twice (drop (l.count - l.gone) k.packets) ≡ false;
+    }

@@ -7,7 +7,7 @@ use Rattle.plan_verifier.proofs.labels.is_fit.Goals as goal
 pub returns-then-includes : goal.returns-then-includes
 returns-then-includes g c = λ allowance.
     let t : Known = record (known_of g.S.Store.content c.args.state.now) { allowance = allowance } in
-    fit_counters _ _ t (declared_by c.args.code.now c.args.label.now) _ _ c.includes.ensures c.if-includes.true c.config_at-current.ensures c.config_at-next.ensures c.fits.ensures.value
+    fit_counters _ _ t (declared_by c.args.code.now c.args.label.now) c.includes.ensures c.if-includes.true (c.fits.ensures allowance)
 
 pub returns-else-includes : goal.returns-else-includes
 returns-else-includes g c = λ allowance.
