@@ -17,4 +17,6 @@ pub mod Loops
 pub mod FrameEnd
 pub mod Framing
 pub mod Followed
+pub mod Waiting
+pub mod FrameSeen
 mod Vectors

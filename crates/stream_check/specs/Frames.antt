@@ -64,7 +64,6 @@ holds_ensemble fib = is_there (first_in fib)
 pub record IsSeen (sight : Sight) (fib : Fib) : Type 0 where
   pub damaged : sight.is_damaged ≡ is_damaged fib
   pub begins : sight.opening ≡ opening fib
-  pub holds : sight.first ≡ first_in fib
 
 -- ---- frames
 
@@ -117,3 +116,9 @@ first_opening (fib ∷ fibs) = opening fib
 abbrev pub lacks_opening : List Fib → Bool
 lacks_opening [] = false
 lacks_opening (fib ∷ fibs) = not (is_damaged fib) && not (begins_with_ensemble fib)
+
+-- what is seen of the FIBs of a frame: how many are damaged, and how the first of them begins
+pub record AreSeen (damaged : ℕ) (begins : Option EnsembleInformation) (lacks : Bool) (frame : List Fib) : Type 0 where
+  pub damaged_is : damaged ≡ damaged_in frame
+  pub begins_is : begins ≡ first_opening frame
+  pub lacks_is : lacks ≡ lacks_opening frame

@@ -2,10 +2,9 @@
 
 ghost use Rattle.fib_codec.specs.Modes.{fib_count};
 
-use crate::frame::{Sight, damaged_of, sight_of};
+use crate::frame::{FrameFibs, Sight, first_of, sight_of};
 use crate::memory::Memory;
 use crate::telling::Report;
-use arrayvec::ArrayVec;
 use fib_codec::Mode;
 use std::marker::Model;
 use thiserror::Error;
@@ -42,7 +41,7 @@ pub struct Summary {
 pub struct Checker {
     size: usize,
     memory: Memory,
-    held: ArrayVec<[u8; 32], 4>,
+    held: FrameFibs,
     skipped: u64,
     damaged: u64,
 }
@@ -55,7 +54,7 @@ impl Model for Checker {
     ghost view = { λ c. record {
       size = c.size;
       memory = c.memory;
-      held = c.held.items;
+      held = c.held;
       skipped = c.skipped;
       damaged = c.damaged;
     } };
@@ -63,7 +62,7 @@ impl Model for Checker {
     ghost invariant = { λ c. IsChecking (record {
       size = c.size;
       memory = c.memory;
-      held = c.held.items;
+      held = c.held;
       skipped = c.skipped;
       damaged = c.damaged;
     }) };
@@ -75,7 +74,7 @@ impl Checker {
     ghost use Rattle.fib_codec.specs.declared.modes.Mode as modes;
     ghost use Rattle.stream_check.specs.declared.finding.Finding as findings;
     ghost use Rattle.stream_check.specs.declared.checker.CheckFault.TheVariants as faults;
-    ghost use Rattle.stream_check.specs.Frames.{Fib, Reading, damaged_in, is_there};
+    ghost use Rattle.stream_check.specs.Frames.{Fib, Reading, IsSeen, damaged_in, holds_ensemble, is_there};
     ghost use Rattle.stream_check.specs.Memory.{most};
     ghost use Rattle.stream_check.specs.Hearing.{HearsFrame};
     ghost use Rattle.stream_check.specs.Following.{Follows, EndsFull, IsAtLimit, IsSummary, is_begun, is_empty, with_skip, with_fib};
@@ -89,7 +88,7 @@ impl Checker {
         Checker {
             size: mode.fibs(),
             memory: Memory::new(mode, period),
-            held: ArrayVec::new(),
+            held: FrameFibs::new(),
             skipped: 0,
             damaged: 0,
         }
@@ -102,11 +101,12 @@ impl Checker {
         self.memory.frames() > 0 || !self.held.is_empty()
     }
 
-    /// Whether a FIB that is seen so is skipped: no FIG 0/0 was heard before, and it holds none.
-    fn is_skipped(&self, sight: &Sight) -> bool
-        ensures { result ≡ (not (is_begun self.now) && not (is_there sight.now.first)) }
+    /// Whether a FIB is skipped: no FIG 0/0 was heard before, and it holds none.
+    fn is_skipped(&self, fib: &[u8; 32]) -> bool
+        ensures { (r : Reading)
+            → result ≡ (not (is_begun self.now) && not (holds_ensemble (r.read fib.now))) }
     {
-        !self.has_begun() && sight.first.is_none()
+        !self.has_begun() && first_of(fib).is_none()
     }
 
     /// Whether a FIB that is seen so ends a frame that is held, as it begins with a FIG 0/0.
@@ -143,16 +143,18 @@ impl Checker {
     }
 
     /// Holds a FIB of the frame at hand, which is not whole with it.
-    fn hold(&mut self, fib: &[u8; 32])
+    fn hold(&mut self, fib: &[u8; 32], sight: &Sight)
         requires space { length self.old.held + 1 < self.old.size }
+        requires seen { (r : Reading) → IsSeen sight.now (r.read fib.now) }
         ensures { self.new ≡ with_fib fib.now self.old }
     {
-        self.held.push(*fib);
+        self.held.push(fib, sight);
     }
 
     /// Hears the FIBs that are held, which are a frame, and holds this one, which begins another. The answer is false where
     /// a picture had no room for an entry.
-    fn hear_cut<R: Report>(&mut self, fib: &[u8; 32], report: &mut R) -> bool
+    fn hear_cut<R: Report>(&mut self, fib: &[u8; 32], sight: &Sight, report: &mut R) -> bool
+        requires seen { (r : Reading) → IsSeen sight.now (r.read fib.now) }
         requires frames { self.old.memory.frames < most }
         requires damaged { self.old.damaged < most }
         ensures heard { (r : Reading) → HearsFrame self.old.size (map r.read self.old.held)
@@ -163,18 +165,17 @@ impl Checker {
         ensures size { self.new.size ≡ self.old.size }
         ensures skipped { self.new.skipped ≡ self.old.skipped }
     {
-        let is_heard = self
-            .memory
-            .hear_frame(self.size, self.held.as_slice(), report);
-        self.damaged += damaged_of(self.held.as_slice());
-        self.held.clear();
-        self.held.push(*fib);
+        let is_heard = self.memory.hear_frame(self.size, &self.held, report);
+        self.damaged += self.held.damaged();
+        self.held = FrameFibs::new();
+        self.held.push(fib, sight);
         is_heard
     }
 
     /// Hears the FIBs that are held and this one, which are a frame, and holds none. The answer is false where a picture
     /// had no room for an entry.
-    fn hear_last<R: Report>(&mut self, fib: &[u8; 32], report: &mut R) -> bool
+    fn hear_last<R: Report>(&mut self, fib: &[u8; 32], sight: &Sight, report: &mut R) -> bool
+        requires seen { (r : Reading) → IsSeen sight.now (r.read fib.now) }
         requires frames { self.old.memory.frames < most }
         requires damaged { self.old.damaged < most }
         ensures heard { (r : Reading)
@@ -186,12 +187,10 @@ impl Checker {
         ensures size { self.new.size ≡ self.old.size }
         ensures skipped { self.new.skipped ≡ self.old.skipped }
     {
-        self.held.push(*fib);
-        let is_heard = self
-            .memory
-            .hear_frame(self.size, self.held.as_slice(), report);
-        self.damaged += damaged_of(self.held.as_slice());
-        self.held.clear();
+        self.held.push(fib, sight);
+        let is_heard = self.memory.hear_frame(self.size, &self.held, report);
+        self.damaged += self.held.damaged();
+        self.held = FrameFibs::new();
         is_heard
     }
 
@@ -220,22 +219,22 @@ impl Checker {
         if self.is_at_limit() {
             return Err(CheckFault::TooLong);
         }
-        let sight = sight_of(fib);
-        if self.is_skipped(&sight) {
+        if self.is_skipped(fib) {
             self.skip();
             return Ok(());
         }
+        let sight = sight_of(fib);
         if self.is_cut(&sight) {
-            if !self.hear_cut(fib, report) {
+            if !self.hear_cut(fib, &sight, report) {
                 return Err(CheckFault::Full);
             }
             return Ok(());
         }
         if self.has_space() {
-            self.hold(fib);
+            self.hold(fib, &sight);
             return Ok(());
         }
-        if !self.hear_last(fib, report) {
+        if !self.hear_last(fib, &sight, report) {
             return Err(CheckFault::Full);
         }
         Ok(())

@@ -1,21 +1,12 @@
 //! What is seen of FIBs before they are heard.
 
-ghost use Rattle.std.specs.Prelude.{◌≡◌, ◌≤◌, ◌+◌, map, length};
-ghost use Rattle.stream_check.specs.Frames.{Reading, IsSeen, first_raw, first_in_figs, opening_in_figs, damaged_in, first_of_frame, first_opening, lacks_opening};
+ghost use Rattle.std.specs.Prelude.{◌≡◌, if◌then◌else◌, map};
+ghost use Rattle.stream_check.specs.Frames.{Reading, IsSeen, first_raw, first_in, first_in_figs, opening_in_figs, first_of_frame};
 
+use arrayvec::ArrayVec;
 use fib_reader::{Entries, Figs, check};
 use mux_config::Ensemble;
-
-/// What is seen of one FIB.
-#[derive(Clone, Copy)]
-pub(crate) struct Sight {
-    /// Whether it is damaged.
-    pub(crate) is_damaged: bool,
-    /// The FIG 0/0 that it begins with.
-    pub(crate) opening: Option<Ensemble>,
-    /// The first FIG 0/0 that it holds.
-    pub(crate) first: Option<Ensemble>,
-}
+use std::marker::Model;
 
 /// The FIGs of a FIB; None where it is damaged.
 pub(crate) fn read(fib: &[u8; 32]) -> Option<Figs<'_>>
@@ -61,6 +52,27 @@ fn opening_of_figs(mut figs: Figs<'_>) -> Option<Ensemble>
     }
 }
 
+/// What is seen of one FIB.
+#[derive(Clone, Copy)]
+pub(crate) struct Sight {
+    /// Whether it is damaged.
+    pub(crate) is_damaged: bool,
+    /// The FIG 0/0 that it begins with.
+    pub(crate) opening: Option<Ensemble>,
+}
+
+impl Sight {
+    ghost use Rattle.std.specs.Prelude.{◌≡◌, ◌&&◌, not};
+    ghost use Rattle.stream_check.specs.Frames.{is_there};
+
+    /// Whether the FIB is undamaged, and does not begin with a FIG 0/0.
+    fn is_unopened(&self) -> bool
+        ensures { result ≡ (not self.now.is_damaged && not (is_there self.now.opening)) }
+    {
+        !self.is_damaged && self.opening.is_none()
+    }
+}
+
 /// What is seen of a FIB.
 pub(crate) fn sight_of(fib: &[u8; 32]) -> Sight
     ensures { (r : Reading) → IsSeen result (r.read fib.now) }
@@ -68,40 +80,32 @@ pub(crate) fn sight_of(fib: &[u8; 32]) -> Sight
     match read(fib) {
         Some(figs) => Sight {
             is_damaged: false,
-            opening: opening_of_figs(figs.again()),
-            first: first_of_figs(figs),
+            opening: opening_of_figs(figs),
         },
         None => Sight {
             is_damaged: true,
             opening: None,
-            first: None,
         },
     }
 }
 
-/// How many of these FIBs are damaged.
-pub(crate) fn damaged_of(fibs: &[[u8; 32]]) -> u64
-    ensures value { (r : Reading) → result ≡ damaged_in (map r.read fibs.now) }
-    ensures bound { result ≤ length fibs.now }
+/// The first FIG 0/0 of a FIB.
+pub(crate) fn first_of(fib: &[u8; 32]) -> Option<Ensemble>
+    ensures { (r : Reading) → result ≡ first_in (r.read fib.now) }
 {
-    let mut damaged = 0;
-    let mut rest = fibs;
-    while let Some((fib, after)) = rest.split_first() {
-        if read(fib).is_none() {
-            damaged += 1;
-        }
-        rest = after;
+    match read(fib) {
+        Some(figs) => first_of_figs(figs),
+        None => None,
     }
-    damaged
 }
 
 /// The first FIG 0/0 of these FIBs.
-pub(crate) fn first_of_fibs(fibs: &[[u8; 32]]) -> Option<Ensemble>
+fn first_of_fibs(fibs: &[[u8; 32]]) -> Option<Ensemble>
     ensures { (r : Reading) → result ≡ first_of_frame (map r.read fibs.now) }
 {
     let mut rest = fibs;
     while let Some((fib, after)) = rest.split_first() {
-        if let Some(ensemble) = sight_of(fib).first {
+        if let Some(ensemble) = first_of(fib) {
             return Some(ensemble);
         }
         rest = after;
@@ -109,25 +113,113 @@ pub(crate) fn first_of_fibs(fibs: &[[u8; 32]]) -> Option<Ensemble>
     None
 }
 
-/// The FIG 0/0 that the first of these FIBs begins with.
-pub(crate) fn opening_of(fibs: &[[u8; 32]]) -> Option<Ensemble>
-    ensures { (r : Reading) → result ≡ first_opening (map r.read fibs.now) }
+/// One of two values.
+fn choose<T: Copy>(first: bool, one: T, other: T) -> T
+    ensures { result ≡ (if first then one else other) }
 {
-    match fibs.split_first() {
-        Some((fib, _)) => sight_of(fib).opening,
-        None => None,
-    }
+    if first { one } else { other }
 }
 
-/// Whether the first of these FIBs is undamaged, and does not begin with a FIG 0/0.
-pub(crate) fn is_unopened(fibs: &[[u8; 32]]) -> bool
-    ensures { (r : Reading) → result ≡ lacks_opening (map r.read fibs.now) }
-{
-    match fibs.split_first() {
-        Some((fib, _)) => {
-            let sight = sight_of(fib);
-            !sight.is_damaged && sight.opening.is_none()
+/// The FIBs of a frame, with what is seen of them before they are heard. Contracts see it as the FIBs.
+#[derive(Drop)]
+pub struct FrameFibs {
+    fibs: ArrayVec<[u8; 32], 4>,
+    damaged: u64,
+    opening: Option<Ensemble>,
+    is_unopened: bool,
+}
+
+impl Model for FrameFibs {
+    ghost use Rattle.std.specs.Prelude.{◌≤◌, ℕ, List, length, map};
+    ghost use Rattle.stream_check.specs.Frames.{Reading, AreSeen};
+
+    ghost Value = { List (List ℕ) };
+
+    ghost view = { λ f. f.fibs.items };
+
+    ghost invariant = { λ f. ((r : Reading)
+        → AreSeen f.damaged f.opening f.is_unopened (map r.read f.fibs.items))
+        × (f.damaged ≤ length f.fibs.items) };
+}
+
+impl FrameFibs {
+    ghost use Rattle.std.specs.Prelude.{◌≡◌, ◌≤◌, ◌<◌, ◌++◌, ◌∷◌, [], length, map};
+    ghost use Rattle.stream_check.specs.Frames.{Reading, IsSeen, damaged_in, first_of_frame, first_opening, lacks_opening};
+    ghost use Rattle.stream_check.specs.Following.{is_empty};
+
+    /// No FIBs.
+    pub(crate) fn new() -> FrameFibs
+        ensures { result ≡ [] }
+    {
+        FrameFibs {
+            fibs: ArrayVec::new(),
+            damaged: 0,
+            opening: None,
+            is_unopened: false,
         }
-        None => false,
+    }
+
+    /// How many there are.
+    pub(crate) fn len(&self) -> usize
+        ensures value { result ≡ length self.now }
+        ensures bound { result ≤ 4 }
+    {
+        self.fibs.len()
+    }
+
+    /// Whether there are none.
+    pub(crate) fn is_empty(&self) -> bool
+        ensures { result ≡ is_empty self.now }
+    {
+        self.fibs.is_empty()
+    }
+
+    /// All of them, in order.
+    pub(crate) fn as_slice(&self) -> &[[u8; 32]]
+        ensures { result.now ≡ self.now }
+    {
+        self.fibs.as_slice()
+    }
+
+    /// One FIB more, of which this is seen. There must be room for it.
+    pub(crate) fn push(&mut self, fib: &[u8; 32], sight: &Sight)
+        requires room { length self.old < 4 }
+        requires seen { (r : Reading) → IsSeen sight.now (r.read fib.now) }
+        ensures { self.new ≡ self.old ++ fib.now ∷ [] }
+    {
+        let is_first = self.is_empty();
+        self.opening = choose(is_first, sight.opening, self.opening);
+        self.is_unopened = choose(is_first, sight.is_unopened(), self.is_unopened);
+        self.damaged += choose(sight.is_damaged, 1, 0);
+        self.fibs.push(*fib);
+    }
+
+    /// How many of them are damaged.
+    pub(crate) fn damaged(&self) -> u64
+        ensures value { (r : Reading) → result ≡ damaged_in (map r.read self.now) }
+        ensures bound { result ≤ length self.now }
+    {
+        self.damaged
+    }
+
+    /// The first FIG 0/0 in them.
+    pub(crate) fn first(&self) -> Option<Ensemble>
+        ensures { (r : Reading) → result ≡ first_of_frame (map r.read self.now) }
+    {
+        first_of_fibs(self.fibs.as_slice())
+    }
+
+    /// The FIG 0/0 that the first of them begins with.
+    pub(crate) fn opening(&self) -> Option<Ensemble>
+        ensures { (r : Reading) → result ≡ first_opening (map r.read self.now) }
+    {
+        self.opening
+    }
+
+    /// Whether the first of them is undamaged, and does not begin with a FIG 0/0.
+    pub(crate) fn is_unopened(&self) -> bool
+        ensures { (r : Reading) → result ≡ lacks_opening (map r.read self.now) }
+    {
+        self.is_unopened
     }
 }

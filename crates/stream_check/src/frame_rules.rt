@@ -4,8 +4,9 @@ ghost use Rattle.std.specs.Prelude.{◌≡◌};
 ghost use Rattle.stream_check.specs.Memory.{later};
 
 use crate::finding::{Event, Fault, What};
-use crate::frame::{damaged_of, first_of_fibs, is_unopened, opening_of};
+use crate::frame::FrameFibs;
 use crate::heard_entry::HeardEntry;
+use crate::heard_table::HeardTable;
 use crate::member_rules::name_of;
 use crate::memory::Memory;
 use crate::telling::{FrameAt, Report, tell, tell_if};
@@ -18,16 +19,16 @@ fn later(one: u64, other: u64) -> u64
 }
 
 impl Memory {
-    ghost use Rattle.std.specs.Prelude.{◌≡◌, ◌<◌, ◌≤◌, ◌==◌, ◌&&◌, map, not, true, false};
+    ghost use Rattle.std.specs.Prelude.{◌≡◌, ◌<◌, ◌≤◌, ◌+◌, ◌==◌, ◌&&◌, map, not, true, false};
     ghost use Rattle.stream_check.specs.Telling.{with_more, in_frame};
     ghost use Rattle.stream_check.specs.Frames.{Reading};
     ghost use Rattle.stream_check.specs.History.{frame_items};
     ghost use Rattle.stream_check.specs.Stream.{count_due, count_of_frame, first_line, frame_findings};
-    ghost use Rattle.stream_check.specs.Memory.{IsSane, most, is_quiet, quiet_findings, silent_in};
+    ghost use Rattle.stream_check.specs.Memory.{IsSane, most, later, is_quiet, quiet_findings, silent_in};
     ghost use Rattle.stream_check.specs.Hearing.{IsLater, HearsFrame};
 
     /// The count that is due in a frame, in the first frame that of its first FIG 0/0.
-    fn count_due(&self, fibs: &[[u8; 32]]) -> u16
+    fn count_due(&self, fibs: &FrameFibs) -> u16
         requires sane { IsSane self.now }
         ensures value { (r : Reading) → result ≡ count_due self.now.due (map r.read fibs.now) }
         ensures in_range { result < 5000 }
@@ -35,21 +36,21 @@ impl Memory {
         if let Some(due) = self.due {
             return due;
         }
-        match first_of_fibs(fibs) {
+        match fibs.first() {
             Some(ensemble) => ensemble.count(),
             None => 0,
         }
     }
 
     /// The count of a frame: that of the FIG 0/0 in place, else the one due.
-    fn count_of(&self, fibs: &[[u8; 32]]) -> u16
+    fn count_of(&self, fibs: &FrameFibs) -> u16
         requires sane { IsSane self.now }
         ensures value { (r : Reading)
             → result ≡ count_of_frame self.now.step self.now.due (map r.read fibs.now) }
         ensures in_range { result < 5000 }
     {
         let due = self.count_due(fibs);
-        match opening_of(fibs) {
+        match fibs.opening() {
             Some(ensemble) => {
                 if ensemble.count() % self.step == 0 {
                     ensemble.count()
@@ -62,14 +63,14 @@ impl Memory {
     }
 
     /// Tells the ensemble of the first frame.
-    fn tell_first_line<R: Report>(&self, at: FrameAt, fibs: &[[u8; 32]], report: &mut R)
+    fn tell_first_line<R: Report>(&self, at: FrameAt, fibs: &FrameFibs, report: &mut R)
         ensures { (r : Reading) → R.told report.new ≡ with_more (R.told report.old)
             (map (in_frame at) (first_line self.now.due (map r.read fibs.now))) }
     {
         if self.due.is_some() {
             return;
         }
-        let eid = match first_of_fibs(fibs) {
+        let eid = match fibs.first() {
             Some(ensemble) => ensemble.eid(),
             None => 0,
         };
@@ -77,7 +78,7 @@ impl Memory {
     }
 
     /// Tells what is found at a frame as a whole.
-    fn tell_frame<R: Report>(&self, at: FrameAt, size: usize, fibs: &[[u8; 32]], report: &mut R)
+    fn tell_frame<R: Report>(&self, at: FrameAt, size: usize, fibs: &FrameFibs, report: &mut R)
         requires sane { IsSane self.now }
         ensures { (r : Reading) → R.told report.new ≡ with_more (R.told report.old)
             (map (in_frame at)
@@ -86,9 +87,9 @@ impl Memory {
         self.tell_first_line(at, fibs, report);
         let count = fibs.len() as u64;
         tell_if(fibs.len() < size, at, Fault::ShortFrame(count), report);
-        let damaged = damaged_of(fibs);
+        let damaged = fibs.damaged();
         tell_if(damaged > 0, at, Fault::Damaged(damaged), report);
-        let is_missing = self.count_due(fibs) % self.step == 0 && is_unopened(fibs);
+        let is_missing = self.count_due(fibs) % self.step == 0 && fibs.is_unopened();
         tell_if(is_missing, at, Fault::NoEnsemble, report);
     }
 
@@ -107,13 +108,27 @@ impl Memory {
         now - last == self.period
     }
 
+    /// Whether it is too soon for any entry to be silent, none of which was heard for the last time before this.
+    fn is_too_soon(&self, oldest: u64) -> bool
+        requires frames { self.now.frames < most }
+        ensures { result ≡ true
+            → self.now.frames + 1 < later oldest self.now.swapped + self.now.period }
+    {
+        let last = later(oldest, self.swapped);
+        let now = self.frames + 1;
+        last > now || now - last < self.period
+    }
+
     /// Tells which of these entries of the current configuration are silent.
-    fn tell_quiet<R: Report>(&self, at: FrameAt, entries: &[HeardEntry], report: &mut R)
+    fn tell_quiet<R: Report>(&self, at: FrameAt, table: &HeardTable, report: &mut R)
         requires frames { self.now.frames < most }
         ensures { R.told report.new ≡ with_more (R.told report.old) (map (in_frame at)
-            (quiet_findings self.now.swapped self.now.period self.now.frames entries.now)) }
+            (quiet_findings self.now.swapped self.now.period self.now.frames table.now)) }
     {
-        let mut rest = entries;
+        if self.is_too_soon(table.oldest()) {
+            return;
+        }
+        let mut rest = table.as_slice();
         while let Some((entry, after)) = rest.split_first() {
             let is_quiet = self.is_quiet(entry);
             tell_if(is_quiet, at, Fault::Silent(name_of(&entry.lent())), report);
@@ -127,9 +142,20 @@ impl Memory {
         ensures { R.told report.new ≡ with_more (R.told report.old)
             (map (in_frame at) (silent_in self.now)) }
     {
-        self.tell_quiet(at, self.current.subs().as_slice(), report);
-        self.tell_quiet(at, self.current.services().as_slice(), report);
-        self.tell_quiet(at, self.current.packets().as_slice(), report);
+        self.tell_quiet(at, self.current.subs(), report);
+        self.tell_quiet(at, self.current.services(), report);
+        self.tell_quiet(at, self.current.packets(), report);
+    }
+
+    /// Looks for the oldest entries of the current configuration, now and then. What is heard of it stays the same.
+    fn look_for_oldest(&mut self)
+        requires frames { self.old.frames < most }
+        ensures { self.new ≡ self.old }
+    {
+        if self.frames % 8 == 0 {
+            let before = (self.frames + 1).saturating_sub(self.period);
+            self.current.look_for_oldest(before);
+        }
     }
 
     /// Hears a frame of FIBs, and tells what is found in it. The answer is false where a picture had no room for an
@@ -137,7 +163,7 @@ impl Memory {
     pub(crate) fn hear_frame<R: Report>(
         &mut self,
         size: usize,
-        fibs: &[[u8; 32]],
+        fibs: &FrameFibs,
         report: &mut R,
     ) -> bool
         requires sane { IsSane self.old }
@@ -155,10 +181,11 @@ impl Memory {
             count,
         };
         self.tell_frame(at, size, fibs, report);
-        if !self.hear_fibs(at, fibs, report) {
+        if !self.hear_fibs(at, fibs.as_slice(), report) {
             return false;
         }
         self.tell_silent(at, report);
+        self.look_for_oldest();
         self.end_frame(count);
         true
     }

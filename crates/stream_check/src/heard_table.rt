@@ -1,8 +1,8 @@
 //! The entries of one extension that were heard of a configuration, each with when it was last heard.
 
-ghost use Rattle.std.specs.Prelude.{◌≡◌, nat_lt};
-ghost use Rattle.std.specs.List.{list_all};
-ghost use Rattle.stream_check.specs.Pictures.{raws};
+ghost use Rattle.std.specs.Prelude.{◌≡◌, ◌≤◌, ℕ, nat_lt};
+ghost use Rattle.std.specs.List.{list_all, AllByRecursion};
+ghost use Rattle.stream_check.specs.Pictures.{Heard, raws};
 ghost use Rattle.stream_check.specs.Rules.{are_same};
 
 use crate::heard_entry::HeardEntry;
@@ -27,22 +27,29 @@ pub enum Standing {
 #[derive(Drop)]
 pub struct HeardTable {
     table: SortedTable<HeardEntry, 64>,
+    /// No entry was heard for the last time before this.
+    oldest: u64,
 }
 
 impl Model for HeardTable {
-    ghost use Rattle.std.specs.Prelude.{List};
+    ghost use Rattle.std.specs.Prelude.{◌≤◌, List};
+    ghost use Rattle.std.specs.List.{AllByRecursion};
     ghost use Rattle.stream_check.specs.Pictures.{Heard};
 
     ghost Value = { List Heard };
 
     ghost view = { λ t. t.table };
+
+    ghost invariant = { λ t. AllByRecursion (λ (h : Heard). t.oldest ≤ h.at) t.table };
 }
 
 impl HeardTable {
-    ghost use Rattle.std.specs.Prelude.{◌≡◌, ◌≢◌, ◌≤◌, [], length, nat_lt};
-    ghost use Rattle.std.specs.List.{list_all};
+    ghost use Rattle.std.specs.Prelude.{◌≡◌, ◌≢◌, ◌≤◌, [], length, nat_lt, None};
+    ghost use Rattle.std.specs.List.{list_all, AllByRecursion};
+    ghost use Rattle.mux_config.specs.Tables.{entry_at};
+    ghost use Rattle.fib_reader.specs.Listening.{identifier_of};
     ghost use Rattle.stream_check.specs.Rules.{are_same};
-    ghost use Rattle.stream_check.specs.Pictures.{heard_kept, raws};
+    ghost use Rattle.stream_check.specs.Pictures.{Heard, heard_key, heard_kept, raws};
     ghost use Rattle.stream_check.specs.Standing.{standing};
     ghost use Rattle.stream_check.specs.declared.heard_table.Standing.TheVariants as standings;
 
@@ -52,6 +59,7 @@ impl HeardTable {
     {
         HeardTable {
             table: SortedTable::new(),
+            oldest: u64::MAX,
         }
     }
 
@@ -63,36 +71,57 @@ impl HeardTable {
         self.table.as_slice()
     }
 
-    /// How an entry stands to those that are here.
-    pub(crate) fn standing(&self, entry: &RawEntry<'_>) -> Standing
-        ensures { result ≡ standing entry.now (raws self.now) }
+    /// A time before which no entry was heard for the last time.
+    pub(crate) fn oldest(&self) -> u64
+        ensures { AllByRecursion (λ (h : Heard). result ≤ h.at) self.now }
     {
-        let Some(known) = self.table.get(entry.identifier()) else {
-            return if self.table.len() < 64 {
-                Standing::Absent
-            } else {
-                Standing::Full
-            };
-        };
-        if known.is(entry) {
-            Standing::Same
-        } else {
-            Standing::Other
+        self.oldest
+    }
+
+    /// Looks for the oldest entry, where one may have been heard for the last time before this, or then. The entries stay
+    /// the same.
+    pub(crate) fn look_for_oldest(&mut self, before: u64)
+        ensures { self.new ≡ self.old }
+    {
+        if self.oldest <= before {
+            self.oldest = oldest_of(self.table.as_slice());
         }
     }
 
-    /// Puts an entry in place of the one with the same identifier, or beside the others, as heard now. There must be
-    /// room for it.
-    pub(crate) fn keep(&mut self, entry: &RawEntry<'_>, at: u64)
-        requires room { standing entry.now (raws self.old) ≢ standings.Full }
-        ensures { self.new ≡ heard_kept (record { raw = entry.now; at = at }) self.old }
+    /// Takes in an entry whose identifier no other has, where there is room.
+    fn take_in(&mut self, entry: &RawEntry<'_>, at: u64) -> Standing
+        requires absent { None ≡ entry_at heard_key (identifier_of entry.now) self.old }
+        ensures standing { result ≡ standing entry.now (raws self.old) }
+        ensures kept { result ≢ standings.Full
+            → self.new ≡ heard_kept (record { raw = entry.now; at = at }) self.old }
+        ensures full { result ≡ standings.Full → self.new ≡ self.old }
     {
-        if self.table.get(entry.identifier()).is_some() {
-            self.table.replace(HeardEntry::of(entry, at));
-            return;
+        if self.table.is_full() {
+            return Standing::Full;
         }
-        if !self.table.is_full() {
-            self.table.insert(HeardEntry::of(entry, at));
+        self.table.insert(HeardEntry::of(entry, at));
+        self.oldest = earlier(self.oldest, at);
+        Standing::Absent
+    }
+
+    /// Puts an entry in place of the one with the same identifier, or beside the others, as heard now. The answer is how
+    /// it stood to them before; where there is no room for it, nothing changes.
+    pub(crate) fn hear(&mut self, entry: &RawEntry<'_>, at: u64) -> Standing
+        ensures standing { result ≡ standing entry.now (raws self.old) }
+        ensures kept { result ≢ standings.Full
+            → self.new ≡ heard_kept (record { raw = entry.now; at = at }) self.old }
+        ensures full { result ≡ standings.Full → self.new ≡ self.old }
+    {
+        let Some(known) = self.table.get(entry.identifier()) else {
+            return self.take_in(entry, at);
+        };
+        let is_same = known.is(entry);
+        self.table.replace(HeardEntry::of(entry, at));
+        self.oldest = earlier(self.oldest, at);
+        if is_same {
+            Standing::Same
+        } else {
+            Standing::Other
         }
     }
 
@@ -109,6 +138,28 @@ impl HeardTable {
     {
         have_same_entries(self.table.as_slice(), other.table.as_slice())
     }
+}
+
+/// The earlier of two times.
+fn earlier(one: u64, other: u64) -> u64
+    ensures first { result ≤ one }
+    ensures second { result ≤ other }
+    ensures latest { (n : ℕ) → n ≤ one → n ≤ other → n ≤ result }
+{
+    if one < other { one } else { other }
+}
+
+/// A time before which none of these entries was heard for the last time, the latest that is one.
+fn oldest_of(entries: &[HeardEntry]) -> u64
+    ensures { AllByRecursion (λ (h : Heard). result ≤ h.at) entries.now }
+{
+    let mut oldest = u64::MAX;
+    let mut rest = entries;
+    while let Some((entry, after)) = rest.split_first() {
+        oldest = earlier(oldest, entry.at());
+        rest = after;
+    }
+    oldest
 }
 
 /// Whether each of these entries was heard after this number.

@@ -3,10 +3,10 @@
 ghost use Rattle.std.specs.Prelude.{◌≡◌, ◌≢◌};
 ghost use Rattle.stream_check.specs.Rules.{name_of};
 
-use crate::finding::{EntryName, Fault};
+use crate::finding::{EntryName, Fault, What};
 use crate::heard_table::Standing;
 use crate::memory::Memory;
-use crate::telling::{FrameAt, Report, tell_if};
+use crate::telling::{FrameAt, Report, tell, tell_if};
 use fib_reader::RawEntry;
 
 /// The name of an entry of FIG 0/1 to 0/3.
@@ -55,20 +55,17 @@ impl Memory {
         ensures nothing { result ≡ false → R.told report.new ≡ R.told report.old }
         ensures unchanged { result ≡ false → self.new ≡ self.old }
     {
-        let standing = self.current.standing(entry);
-        if standing == Standing::Full {
-            return false;
+        match self.current.hear(entry, self.frames + 1) {
+            Standing::Full => return false,
+            Standing::Same => {}
+            Standing::Other => {
+                tell(at, What::Fault(Fault::Changed(name_of(entry))), report);
+            }
+            Standing::Absent => {
+                let is_settled = self.settles_at <= self.frames;
+                tell_if(is_settled, at, Fault::Appeared(name_of(entry)), report);
+            }
         }
-        let name = name_of(entry);
-        tell_if(
-            standing == Standing::Other,
-            at,
-            Fault::Changed(name),
-            report,
-        );
-        let is_new = standing == Standing::Absent && self.settles_at <= self.frames;
-        tell_if(is_new, at, Fault::Appeared(name), report);
-        self.current.keep(entry, self.frames + 1);
         true
     }
 
@@ -106,16 +103,16 @@ impl Memory {
         ensures nothing { result ≡ false → R.told report.new ≡ R.told report.old }
         ensures unchanged { result ≡ false → self.new ≡ self.old }
     {
-        let standing = self.next.standing(entry);
+        let standing = self.next.hear(entry, self.rows + 1);
         if standing == Standing::Full {
             return false;
         }
         let is_bare = !self.has_begun && self.has_ensemble;
         tell_if(is_bare, at, Fault::NextUnannounced, report);
-        let other = Fault::NextChanged(name_of(entry));
-        tell_if(standing == Standing::Other, at, other, report);
+        if standing == Standing::Other {
+            tell(at, What::Fault(Fault::NextChanged(name_of(entry))), report);
+        }
         self.note_next(standing == Standing::Absent);
-        self.next.keep(entry, self.rows + 1);
         true
     }
 }

@@ -61,28 +61,29 @@ impl Picture {
         &self.packets
     }
 
-    /// How an entry of FIG 0/1 to 0/3 stands to those that are here.
-    pub(crate) fn standing(&self, entry: &RawEntry<'_>) -> Standing
-        ensures { result ≡ standing_in entry.now (shown self.now) }
+    /// Puts an entry of FIG 0/1 to 0/3 in place of the one with the same identifier, or beside the others, as heard
+    /// now. The answer is how it stood to them before; where there is no room for it, nothing changes.
+    pub(crate) fn hear(&mut self, entry: &RawEntry<'_>, at: u64) -> Standing
+        ensures standing { result ≡ standing_in entry.now (shown self.old) }
+        ensures kept { result ≢ standings.Full
+            → self.new ≡ picture_kept (record { raw = entry.now; at = at }) self.old }
+        ensures full { result ≡ standings.Full → self.new ≡ self.old }
     {
         match entry.ext() {
-            1 => self.subs.standing(entry),
-            2 => self.services.standing(entry),
-            _ => self.packets.standing(entry),
+            1 => self.subs.hear(entry, at),
+            2 => self.services.hear(entry, at),
+            _ => self.packets.hear(entry, at),
         }
     }
 
-    /// Puts an entry of FIG 0/1 to 0/3 in place of the one with the same identifier, or beside the others, as heard
-    /// now. There must be room for it.
-    pub(crate) fn keep(&mut self, entry: &RawEntry<'_>, at: u64)
-        requires room { standing_in entry.now (shown self.old) ≢ standings.Full }
-        ensures { self.new ≡ picture_kept (record { raw = entry.now; at = at }) self.old }
+    /// Looks for the oldest entries, where one may have been heard for the last time before this, or then. The entries
+    /// stay the same.
+    pub(crate) fn look_for_oldest(&mut self, before: u64)
+        ensures { self.new ≡ self.old }
     {
-        match entry.ext() {
-            1 => self.subs.keep(entry, at),
-            2 => self.services.keep(entry, at),
-            _ => self.packets.keep(entry, at),
-        }
+        self.subs.look_for_oldest(before);
+        self.services.look_for_oldest(before);
+        self.packets.look_for_oldest(before);
     }
 
     /// Whether each entry was heard after this number.

@@ -1,6 +1,6 @@
-use Rattle.std.proofs.Common.{◌∷◌, ◌++◌, ◌∙◌, [], List, ℕ, Bool, not, map, sym, subst}
+use Rattle.std.proofs.Common.{refl, ◌∷◌, ◌++◌, ◌∙◌, [], List, ℕ, Bool, not, map, sym, subst}
 use Rattle.fib_codec.specs.Modes.{fib_count}
-use Rattle.stream_check.specs.Frames.{IsFramed}
+use Rattle.stream_check.specs.Frames.{IsFramed, first_in}
 use Rattle.stream_check.specs.Hearing.{HearsFrame}
 use Rattle.stream_check.specs.Following.{Checking, Follows}
 use Rattle.stream_check.proofs.Followed.{two_fibs, skipped_where, next_where, cut_where, later_where, follows_skip, follows_hold, follows_frame, ends_frame, cut_before, cut_after}
@@ -8,7 +8,7 @@ use Rattle.stream_check.proofs.checker.Checker.hear.Goals as goal
 
 pub returns-then-is_skipped-clause-heard : goal.returns-then-is_skipped-clause-heard
 returns-then-is_skipped-clause-heard g c = λ r mode period stream start f.
-    let w = skipped_where r c.args.self.now c.args.fib.now c.sight_of-sight.result.first (c.sight_of-sight.ensures r).holds (sym c.is_skipped.ensures ∙ c.if-is_skipped.true) in
+    let w = skipped_where r c.args.self.now c.args.fib.now (first_in (r.read c.args.fib.now)) refl (sym (c.is_skipped.ensures r) ∙ c.if-is_skipped.true) in
     subst (λ (n : Checking). Follows r mode period (stream ++ r.read c.args.fib.now ∷ []) start (g.R.Report.told c.args.report.now) n) (sym c.skip.ensures)
     (follows_skip r mode period stream start (g.R.Report.told c.args.report.now) c.args.self.now c.args.fib.now w.0.none w.0.empty w.1 f)
 
@@ -30,14 +30,14 @@ returns-then-not-hear_cut-clause-full g c = λ same r mode period stream start f
 
 pub returns-then-has_space-clause-heard : goal.returns-then-has_space-clause-heard
 returns-then-has_space-clause-heard g c = λ r mode period stream start f.
-    let next = next_where r c.args.self.now c.args.fib.now c.sight_of-sight.result.first (c.sight_of-sight.ensures r).holds (sym c.is_skipped.ensures ∙ c.if-is_skipped.false) in
+    let next = next_where r c.args.self.now c.args.fib.now (first_in (r.read c.args.fib.now)) refl (sym (c.is_skipped.ensures r) ∙ c.if-is_skipped.false) in
     let later = later_where r c.args.self.now c.args.fib.now c.sight_of-sight.result.opening (c.sight_of-sight.ensures r).begins (sym c.is_cut.ensures.value ∙ c.if-is_cut.false) in
     subst (λ (n : Checking). Follows r mode period (stream ++ r.read c.args.fib.now ∷ []) start (g.R.Report.told c.args.report.now) n) (sym c.hold.ensures)
     (follows_hold r mode period stream start (g.R.Report.told c.args.report.now) c.args.self.now c.args.fib.now next later (c.has_space.ensures.space c.if-has_space.true) f)
 
 pub returns-clause-heard : goal.returns-clause-heard
 returns-clause-heard g c = λ r mode period stream start f.
-    let next = next_where r c.args.self.now c.args.fib.now c.sight_of-sight.result.first (c.sight_of-sight.ensures r).holds (sym c.is_skipped.ensures ∙ c.if-is_skipped.false) in
+    let next = next_where r c.args.self.now c.args.fib.now (first_in (r.read c.args.fib.now)) refl (sym (c.is_skipped.ensures r) ∙ c.if-is_skipped.false) in
     let later = later_where r c.args.self.now c.args.fib.now c.sight_of-sight.result.opening (c.sight_of-sight.ensures r).begins (sym c.is_cut.ensures.value ∙ c.if-is_cut.false) in
     let framed = cut_after r mode period stream start (g.R.Report.told c.args.report.now) c.args.self.now c.args.fib.now next later (c.has_space.ensures.last c.if-has_space.false) f in
     follows_frame r mode period stream start (g.R.Report.told c.args.report.now) (g.R.Report.told c.hear_last.new.report) c.args.self.now c.hear_last.new.self (map r.read (c.args.self.now.held ++ c.args.fib.now ∷ [])) c.args.fib.now f
@@ -47,7 +47,7 @@ returns-clause-heard g c = λ r mode period stream start f.
 
 pub returns-then-not-hear_last-clause-full : goal.returns-then-not-hear_last-clause-full
 returns-then-not-hear_last-clause-full g c = λ same r mode period stream start f.
-    let next = next_where r c.args.self.now c.args.fib.now c.sight_of-sight.result.first (c.sight_of-sight.ensures r).holds (sym c.is_skipped.ensures ∙ c.if-is_skipped.false) in
+    let next = next_where r c.args.self.now c.args.fib.now (first_in (r.read c.args.fib.now)) refl (sym (c.is_skipped.ensures r) ∙ c.if-is_skipped.false) in
     let later = later_where r c.args.self.now c.args.fib.now c.sight_of-sight.result.opening (c.sight_of-sight.ensures r).begins (sym c.is_cut.ensures.value ∙ c.if-is_cut.false) in
     let framed = cut_after r mode period stream start (g.R.Report.told c.args.report.now) c.args.self.now c.args.fib.now next later (c.has_space.ensures.last c.if-has_space.false) f in
     ends_frame r mode period stream start (g.R.Report.told c.args.report.now) (g.R.Report.told c.hear_last.new.report) c.args.self.now c.hear_last.new.self.memory (map r.read (c.args.self.now.held ++ c.args.fib.now ∷ [])) [] c.args.fib.now f framed

@@ -6,7 +6,7 @@ use Rattle.stream_check.proofs.memory.Memory.tell_quiet.Given as goal
 abbrev pub invariant-loop-entry : goal.invariant-loop-entry
 invariant-loop-entry g l =
     with_more (g.R.Report.told l.report) (map (in_frame l.at) (quiet_findings l.self.swapped l.self.period l.self.frames l.rest))
-    ≡ with_more (g.R.Report.told l.initial.report) (map (in_frame l.at) (quiet_findings l.self.swapped l.self.period l.self.frames l.entries))
+    ≡ with_more (g.R.Report.told l.initial.report) (map (in_frame l.at) (quiet_findings l.self.swapped l.self.period l.self.frames l.table))
 
 abbrev pub decreases-loop-entry : goal.decreases-loop-entry
 decreases-loop-entry g l = length l.rest
