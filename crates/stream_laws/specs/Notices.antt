@@ -1,0 +1,29 @@
+-- The frames of a notice, as the bytes of their FIBs.
+use Rattle.std.specs.Prelude.{◌≡◌, ℕ, ◌-◌, List, length, map, flat_map, take, drop}
+use Rattle.std.specs.List.{AllByRecursion}
+use Rattle.fib_codec.specs.Laws.{IsByte}
+use Rattle.stream_check.specs.Frames.{Fib, Reading}
+use Rattle.stream_check.specs.History.{Moment, frames_ended, rows}
+
+-- a FIB: 32 bytes
+abbrev pub IsFibBytes : List ℕ → Type 0
+IsFibBytes fib = (length fib ≡ 32) × AllByRecursion IsByte fib
+
+abbrev pub AreFibBytes : List (List ℕ) → Type 0
+AreFibBytes fibs = AllByRecursion IsFibBytes fibs
+
+-- frames, each as its FIBs, and what is read of them
+abbrev pub read_frames : Reading → List (List (List ℕ)) → List (List Fib)
+read_frames r frames = map (map r.read) frames
+
+-- the bytes of a frame's FIBs in a row
+abbrev pub row_of : List (List ℕ) → List ℕ
+row_of fibs = flat_map (λ fib. fib) fibs
+
+-- the last frames of these
+abbrev pub last_of : {X : Type 0} → ℕ → List X → List X
+last_of n frames = drop (length frames - n) frames
+
+-- the frames of the notice at hand, which ended before: the last ones of all that ended, as many as the notice has
+abbrev pub notice_frames : List Moment → List (List (List ℕ)) → List (List ℕ)
+notice_frames past frames = map row_of (last_of (length (rows past)) (take (frames_ended past) frames))
