@@ -11,4 +11,6 @@ pub mod Headers
 pub mod Swapping
 pub mod PictureKinds
 pub mod Shown
+pub mod Announced
+pub mod Framing
 mod Vectors

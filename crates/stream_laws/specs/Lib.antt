@@ -1,3 +1,5 @@
 pub mod Faultless
 pub mod Keeping
 pub mod Notices
+pub mod Announcing
+pub mod Framing

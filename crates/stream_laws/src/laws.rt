@@ -1,5 +1,7 @@
 //! What holds of all streams without a fault. Each law is a function that does nothing; its contract is the law.
 
+ghost use Rattle.stream_laws.specs.Announcing.{SwapsAreAnnounced};
+ghost use Rattle.stream_laws.specs.Framing.{RunsAreFramed};
 ghost use Rattle.stream_laws.specs.Keeping.{CurrentIsKept};
 
 /// The law of the current configuration: in a stream without a fault each entry with C/N 0 agrees with the one of its
@@ -8,3 +10,29 @@ ghost use Rattle.stream_laws.specs.Keeping.{CurrentIsKept};
 pub fn current()
     ensures { CurrentIsKept }
 {}
+
+/// The law of swaps: in a stream without a fault, at each swap but that of a notice whose beginning was not heard, where
+/// the pictures before it show two configurations, the bytes of the notice's frames announce the change from one to the
+/// other for the low part of the swap's count. They are three successive parts, each of which has the whole next
+/// configuration, and FIG 0/0 is in three of them or more and always gives the flags of the change and that low part.
+pub fn swaps()
+    ensures { SwapsAreAnnounced }
+{
+    fib_codec::laws::one_list();
+    fib_codec::laws::fib_length();
+    fib_codec::laws::spelling();
+    fib_reader::laws::ensemble();
+    mux_config::laws::changes();
+    stream_check::laws::parts();
+}
+
+/// The law of frames: of the FIBs of a run of a typed code those before the first FIG 0/0 are skipped, and the check of
+/// a stream cuts the others into just the frames of the run, with none left over.
+pub fn frames()
+    ensures { RunsAreFramed }
+{
+    fib_codec::laws::one_list();
+    fib_reader::laws::ensemble();
+    plan_runs::laws::headline();
+    plan_runs::laws::runs();
+}
