@@ -13,4 +13,5 @@ pub mod PictureKinds
 pub mod Shown
 pub mod Announced
 pub mod Framing
+pub mod InPlace
 mod Vectors

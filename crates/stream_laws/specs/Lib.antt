@@ -3,3 +3,4 @@ pub mod Keeping
 pub mod Notices
 pub mod Announcing
 pub mod Framing
+pub mod InPlace

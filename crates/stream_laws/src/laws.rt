@@ -2,6 +2,7 @@
 
 ghost use Rattle.stream_laws.specs.Announcing.{SwapsAreAnnounced};
 ghost use Rattle.stream_laws.specs.Framing.{RunsAreFramed};
+ghost use Rattle.stream_laws.specs.InPlace.{RunsAreInPlace};
 ghost use Rattle.stream_laws.specs.Keeping.{CurrentIsKept};
 
 /// The law of the current configuration: in a stream without a fault each entry with C/N 0 agrees with the one of its
@@ -35,4 +36,15 @@ pub fn frames()
     fib_reader::laws::ensemble();
     plan_runs::laws::headline();
     plan_runs::laws::runs();
+}
+
+/// The law of places: in the frames of a run of a typed code, from one with a FIG 0/0 on, the check of a stream finds no
+/// frame that is short or damaged, and no FIG 0/0 that is missing, out of place, of another ensemble or at another count
+/// than is due.
+pub fn places()
+    ensures { RunsAreInPlace }
+{
+    fib_codec::laws::one_list();
+    fib_reader::laws::ensemble();
+    plan_runs::laws::headline();
 }
