@@ -50,13 +50,13 @@ pub record Laws : Type 0 where
   pub most : IsTheMost
 
 -- the entries of a frame
-abbrev items_in : Reading → List (List ℕ) → List Item
+abbrev pub items_in : Reading → List (List ℕ) → List Item
 items_in r fibs = frame_items (map r.read fibs)
 
 -- ---- an entry of the next configuration
 
 -- two entries of one key have one look-up
-one_found : (x y : Raw) (p : Pictured) → x.ext < 4 → y.ext < 4 → key_of x ≡ key_of y → entry_like x p ≡ Some x → entry_like y p ≡ Some y → x ≡ y
+pub one_found : (x y : Raw) (p : Pictured) → x.ext < 4 → y.ext < 4 → key_of x ≡ key_of y → entry_like x p ≡ Some x → entry_like y p ≡ Some y → x ≡ y
 one_found x y p few small keys one two =
     let ext : x.ext ≡ y.ext = omega (arith, few, small, keys) in
     let id : identifier_of x ≡ identifier_of y = omega (arith, few, small, keys) in
@@ -134,12 +134,12 @@ notice_is r step frames past i s hand =
     last_by (map r.read) (take (frames_ended past) frames) ends.earlier ends.notice (length (rows past)) (taken ∙ ends.whole) many in
     sym (map_twice frame_items (map r.read) (last_of (length (rows past)) (take (frames_ended past) frames))) ∙ ap (map frame_items) last ∙ ends.are
 
-each_take : {X : Type 0} (P : X → Type 0) (n : ℕ) (xs : List X) → AllByRecursion P xs → AllByRecursion P (take n xs)
+pub each_take : {X : Type 0} (P : X → Type 0) (n : ℕ) (xs : List X) → AllByRecursion P xs → AllByRecursion P (take n xs)
 each_take P zero xs all = tt
 each_take P (suc n) [] all = tt
 each_take P (suc n) (x ∷ xs) all = (all.0, each_take P n xs all.1)
 
-each_drop : {X : Type 0} (P : X → Type 0) (n : ℕ) (xs : List X) → AllByRecursion P xs → AllByRecursion P (drop n xs)
+pub each_drop : {X : Type 0} (P : X → Type 0) (n : ℕ) (xs : List X) → AllByRecursion P xs → AllByRecursion P (drop n xs)
 each_drop P zero xs all = all
 each_drop P (suc n) [] all = tt
 each_drop P (suc n) (x ∷ xs) all = each_drop P n xs all.1
@@ -165,7 +165,7 @@ headed laws r notice place fibs all got has =
     (row_of fibs, get_map row_of notice place fibs got,
     (found.0.next, ensemble_of found.0, header_heard laws r fibs found.0 (each_got AreFibBytes notice place fibs all got) found.2 found.1))
 
-three_headers : (laws : FibLaws) (r : Reading) (notice : List (List (List ℕ))) → AllByRecursion AreFibBytes notice → 3 ≤ flagged_rows (map (items_in r) notice) → HasThreeHeaders (map row_of notice)
+pub three_headers : (laws : FibLaws) (r : Reading) (notice : List (List (List ℕ))) → AllByRecursion AreFibBytes notice → 3 ≤ flagged_rows (map (items_in r) notice) → HasThreeHeaders (map row_of notice)
 three_headers laws r notice all three =
     let one = flagged_at (items_in r) 2 notice three in
     let two = flagged_at (items_in r) 1 (drop (suc one.place) notice) one.rest in
@@ -186,13 +186,13 @@ three_headers laws r notice all three =
 
 -- ---- all together
 
-three_parts : (notice xs ys zs : List (List (List ℕ))) → notice ≡ (xs ++ ys) ++ zs → map row_of notice ≡ (map row_of xs ++ map row_of ys) ++ map row_of zs
+pub three_parts : (notice xs ys zs : List (List (List ℕ))) → notice ≡ (xs ++ ys) ++ zs → map row_of notice ≡ (map row_of xs ++ map row_of ys) ++ map row_of zs
 three_parts notice xs ys zs e =
     let apart : map row_of ((xs ++ ys) ++ zs) ≡ map row_of (xs ++ ys) ++ map row_of zs = map-append row_of (xs ++ ys) zs in
     let more : map row_of (xs ++ ys) ≡ map row_of xs ++ map row_of ys = map-append row_of xs ys in
     ap (map row_of) e ∙ apart ∙ ap (λ rs. rs ++ map row_of zs) more
 
-formed_handed : IsHanded IsFormed
+pub formed_handed : IsHanded IsFormed
 formed_handed = record { by_entry = λ i past w. w.2; by_frame = λ count past w. w }
 
 announced : (laws : Laws) (r : Reading) (notice : List (List (List ℕ))) (past : List Moment) (count : ℕ) (now next : Configuration) → AllByRecursion AreFibBytes notice → IsNoticed past count

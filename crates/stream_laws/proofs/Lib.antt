@@ -12,6 +12,8 @@ pub mod Swapping
 pub mod PictureKinds
 pub mod Shown
 pub mod Announced
+pub mod Told
+pub mod Cutting
 pub mod Framing
 pub mod InPlace
 mod Vectors

@@ -1,9 +1,12 @@
-//! What holds of all streams without a fault. Each law is a function that does nothing; its contract is the law.
+//! What holds of all streams without a fault, and of the streams of typed codes. Each law is a function that does
+//! nothing; its contract is the law.
 
 ghost use Rattle.stream_laws.specs.Announcing.{SwapsAreAnnounced};
+ghost use Rattle.stream_laws.specs.Entries.{ChangesAreAnnounced};
 ghost use Rattle.stream_laws.specs.Framing.{RunsAreFramed};
 ghost use Rattle.stream_laws.specs.InPlace.{RunsAreInPlace};
 ghost use Rattle.stream_laws.specs.Keeping.{CurrentIsKept};
+ghost use Rattle.stream_laws.specs.Notices.{FramesAreOfBytes};
 
 /// The law of the current configuration: in a stream without a fault each entry with C/N 0 agrees with the one of its
 /// identifier in the picture of the current configuration before it, and is in that picture from the frame on from which
@@ -26,6 +29,24 @@ pub fn swaps()
     mux_config::laws::changes();
     stream_check::laws::parts();
 }
+
+/// The law of notices: the same of any pictures, entry by entry. Each entry of the next picture is sent with C/N 1 in
+/// each of three successive parts of the notice's frames, and each FIG 0/0 in them, of which there are three or more,
+/// gives the flags by which the two pictures differ and the low part of the swap's count.
+pub fn notices()
+    ensures { ChangesAreAnnounced }
+{
+    fib_codec::laws::one_list();
+    fib_codec::laws::fib_length();
+    fib_codec::laws::spelling();
+    fib_reader::laws::ensemble();
+    stream_check::laws::parts();
+}
+
+/// The law of cutting: the frames into which the check of a stream cuts FIBs are frames of their bytes.
+pub fn cutting()
+    ensures { FramesAreOfBytes }
+{}
 
 /// The law of frames: of the FIBs of a run of a typed code those before the first FIG 0/0 are skipped, and the check of
 /// a stream cuts the others into just the frames of the run, with none left over.
