@@ -16,4 +16,9 @@ pub mod Told
 pub mod Cutting
 pub mod Framing
 pub mod InPlace
+pub mod Sending
+pub mod StandingBy
+pub mod Agreeing
+pub mod AgreeingRuns
+pub mod AgreeingFrames
 mod Vectors

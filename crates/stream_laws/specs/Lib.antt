@@ -5,3 +5,4 @@ pub mod Entries
 pub mod Announcing
 pub mod Framing
 pub mod InPlace
+pub mod Agreeing

@@ -1,6 +1,7 @@
 //! What holds of all streams without a fault, and of the streams of typed codes. Each law is a function that does
 //! nothing; its contract is the law.
 
+ghost use Rattle.stream_laws.specs.Agreeing.{RunsAgree};
 ghost use Rattle.stream_laws.specs.Announcing.{SwapsAreAnnounced};
 ghost use Rattle.stream_laws.specs.Entries.{ChangesAreAnnounced};
 ghost use Rattle.stream_laws.specs.Framing.{RunsAreFramed};
@@ -68,4 +69,17 @@ pub fn places()
     fib_codec::laws::one_list();
     fib_reader::laws::ensemble();
     plan_runs::laws::headline();
+}
+
+/// The law of entries and announcements: in the frames of a run of a typed code, from one with a FIG 0/0 on, the check of
+/// a stream always has room, and finds no entry that is not as it was, no entry of the next configuration without change
+/// flags, no announcement that is not as it was or is for a count at which no swap can fall, and no swap at another count
+/// than was announced.
+pub fn agreement()
+    ensures { RunsAgree }
+{
+    fib_codec::laws::one_list();
+    fib_reader::laws::ensemble();
+    fib_carousel::laws::pages();
+    fib_carousel::laws::carried();
 }
