@@ -185,7 +185,7 @@ no_ensemble raw full (inl h) = ap (λ (k : ℕ). k == 0) h.0
 no_ensemble raw full (inr (inl h)) = ap (λ (k : ℕ). k == 0) h.0
 no_ensemble raw full (inr (inr h)) = ap (λ (k : ℕ). k == 0) h.0
 
-sent_ext : (on : Bool) (c n : Configuration) (m : Marked) → IsSentOf on c n m → ((raw_entry m.entry).ext == 0) ≡ false
+pub sent_ext : (on : Bool) (c n : Configuration) (m : Marked) → IsSentOf on c n m → ((raw_entry m.entry).ext == 0) ≡ false
 sent_ext on c n m (inl h) = no_ensemble (raw_entry m.entry) (whole_of c) (entry_is_of c m.entry h.1)
 sent_ext on c n m (inr h) = no_ensemble (raw_entry m.entry) (whole_of n) (entry_is_of n m.entry h.2)
 

@@ -133,10 +133,10 @@ no_header plan s u past h a link swaps off f = record {
 
 -- ---- a frame
 
-record FrameAgrees (period : ℕ) (p : Program) (s : State) (past : List Moment) (frame : List Fib) : Type 0 where
-  found : IsFine (findings_at_items (count_step p.plan.mode) period past (frame_items frame))
-  room : runs_full (count_step p.plan.mode) period past (frame_items frame) ≡ false
-  after : IsBetween p.plan (after_read (count_step p.plan.mode) past frame) (after_frame p s)
+pub record FrameAgrees (period : ℕ) (p : Program) (s : State) (past : List Moment) (frame : List Fib) : Type 0 where
+  pub found : IsFine (findings_at_items (count_step p.plan.mode) period past (frame_items frame))
+  pub room : runs_full (count_step p.plan.mode) period past (frame_items frame) ≡ false
+  pub after : IsBetween p.plan (after_read (count_step p.plan.mode) past frame) (after_frame p s)
 
 -- after all entries of the frame
 ends : (p : Program) (s : State) (past : List Moment) (count : ℕ) → Airs p.plan (shown p s) → (l : Listening) (f : InFrame p.plan (shown p s) Nothing Nothing l) → IsInside p.plan (shown p s) f.awaited past
@@ -158,10 +158,10 @@ ends p s past count a l f h =
       flags = λ low some. h.flags low (sym h.knows.awaits ∙ some);
     }
 
-is_sent : (plan : Plan) (u : State) → u.count % count_step plan.mode ≡ 0 → ensemble_sent plan u ≡ Some (ensemble_of plan u)
+pub is_sent : (plan : Plan) (u : State) → u.count % count_step plan.mode ≡ 0 → ensemble_sent plan u ≡ Some (ensemble_of plan u)
 is_sent plan u e = ap (λ (b : Bool). cond b (Some (ensemble_of plan u)) None) (eq-eqb (u.count % count_step plan.mode) 0 e)
 
-not_sent : (plan : Plan) (u : State) → u.count % count_step plan.mode ≢ 0 → ensemble_sent plan u ≡ None
+pub not_sent : (plan : Plan) (u : State) → u.count % count_step plan.mode ≢ 0 → ensemble_sent plan u ≡ None
 not_sent plan u apart = ap (λ (b : Bool). cond b (Some (ensemble_of plan u)) None) (ne_eqb (u.count % count_step plan.mode) 0 apart)
 
 -- with FIG 0/0
@@ -214,13 +214,13 @@ frame_found size step period past frame items =
     (either_fine (runs_full step period past (frame_items frame)) [] _ tt (silence_other _))))
 
 -- nothing was heard, and the next frame has FIG 0/0; or frames were heard
-abbrev IsBefore : Plan → List Moment → State → Type 0
+abbrev pub IsBefore : Plan → List Moment → State → Type 0
 IsBefore plan past s = ((past ≡ []) × (s.count % count_step plan.mode ≡ 0)) ⊎ IsBetween plan past s
 
 first_ok : (plan : Plan) (u : State) → IsHeadOk plan u untuned 0 false
 first_ok plan u = record { made = λ made. absurd (false≢true made); again = λ made. refl; flagged = λ early. absurd (false≢true early) }
 
-agrees_by : OneList → Laws → (r : Reading) (period : ℕ) (p : Program) (ts : List Known) → IsCode p ts → (s : State) → Holds p ts s → (past : List Moment) → IsBefore p.plan past s
+pub agrees_by : OneList → Laws → (r : Reading) (period : ℕ) (p : Program) (ts : List Known) → IsCode p ts → (s : State) → Holds p ts s → (past : List Moment) → IsBefore p.plan past s
     → FrameAgrees period p s past (read_frame r p.plan.mode (frame_bytes p s))
 agrees_by one laws r period p ts c s holds past (inl (none, on)) =
     let plan : Plan = p.plan in

@@ -89,7 +89,7 @@ long_notice III notice count long h = omega (arith, long, h)
 long_notice IV notice count long h = omega (arith, long, h)
 
 -- where a swap is due, it is awaited
-due_awaits : (plan : Plan) (left : Option ℕ) (c n : Configuration) (count : ℕ) (l : Listening) → 12 ≤ plan.notice → left ≡ Some 0 → KnowsBy plan left c n count Nothing Nothing l → l.awaited ≡ None → ⊥
+pub due_awaits : (plan : Plan) (left : Option ℕ) (c n : Configuration) (count : ℕ) (l : Listening) → 12 ≤ plan.notice → left ≡ Some 0 → KnowsBy plan left c n count Nothing Nothing l → l.awaited ≡ None → ⊥
 due_awaits plan None c n count l long is h none = absurd cc
 due_awaits plan (Some k) c n count l long is h none =
     let zero_left : k ≡ 0 = cc in
@@ -199,7 +199,7 @@ pub zero_or_some : (k : ℕ) → (k ≡ 0) ⊎ (1 ≤ k)
 zero_or_some zero = inl refl
 zero_or_some (suc k) = inr (omega arith)
 
-due_low : (count low k : ℕ) → count < 5000 → k ≡ 0 → low ≡ (count + k) % 5000 % 250 → count % 250 ≡ low
+pub due_low : (count low k : ℕ) → count < 5000 → k ≡ 0 → low ≡ (count + k) % 5000 % 250 → count % 250 ≡ low
 due_low count low k below none is = omega (arith, below, none, is)
 
 pub head_ok : (p : Program) (ts : List Known) → IsCode p ts → (s : State) → Holds p ts s → (past : List Moment) → (h : IsBetween p.plan past s) → IsHeadOk p.plan (shown p s) h.heard (last_flags past) (began_early past)

@@ -21,4 +21,5 @@ pub mod StandingBy
 pub mod Agreeing
 pub mod AgreeingRuns
 pub mod AgreeingFrames
+pub mod Named
 mod Vectors

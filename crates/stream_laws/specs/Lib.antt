@@ -6,3 +6,4 @@ pub mod Announcing
 pub mod Framing
 pub mod InPlace
 pub mod Agreeing
+pub mod Naming

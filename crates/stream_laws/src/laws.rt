@@ -7,6 +7,7 @@ ghost use Rattle.stream_laws.specs.Entries.{ChangesAreAnnounced};
 ghost use Rattle.stream_laws.specs.Framing.{RunsAreFramed};
 ghost use Rattle.stream_laws.specs.InPlace.{RunsAreInPlace};
 ghost use Rattle.stream_laws.specs.Keeping.{CurrentIsKept};
+ghost use Rattle.stream_laws.specs.Naming.{SwapsAreNamed};
 ghost use Rattle.stream_laws.specs.Notices.{FramesAreOfBytes};
 
 /// The law of the current configuration: in a stream without a fault each entry with C/N 0 agrees with the one of its
@@ -77,6 +78,17 @@ pub fn places()
 /// than was announced.
 pub fn agreement()
     ensures { RunsAgree }
+{
+    fib_codec::laws::one_list();
+    fib_reader::laws::ensemble();
+    fib_carousel::laws::pages();
+    fib_carousel::laws::carried();
+}
+
+/// The law of named swaps: in the frames of a run of a typed code, from one with a FIG 0/0 on, the check of a stream names
+/// exactly the swaps that the run makes after that frame, each in its frame.
+pub fn named_swaps()
+    ensures { SwapsAreNamed }
 {
     fib_codec::laws::one_list();
     fib_reader::laws::ensemble();
