@@ -26,7 +26,7 @@ use Rattle.stream_check.specs.Telling.{when, as_list, in_frame}
 use Rattle.stream_check.specs.Frames.{Fib, Reading, damaged_in, lacks_opening}
 use Rattle.stream_check.specs.Standing.{standing_in}
 use Rattle.stream_check.specs.History.{Item, Moment, Said, Ended, said, frame_items, is_ensemble, ensemble_of as said_ensemble, is_flagged, is_swap, listening, listener_after, due, has_ensemble, has_begun, began_early, last_flags}
-use Rattle.stream_check.specs.Rules.{Known as Knowledge, known_of, name_of, partner, overlap_or, overlap, ends_past, past_end, place_faults, is_of_other_ensemble, has_other_count, is_placed, makes_swap, notice_faults, unit_faults, swap_findings, swap_or_another, announces_another, occurrence_of, has_low, announces_first, announcement, can_fall_at, has_flags, ensemble_findings, current_findings, next_findings, member_findings, is_other_one, is_absent, is_settled, finds_no_room, has_no_room, findings_at, silence, silent_findings, awaited_low, changes}
+use Rattle.stream_check.specs.Rules.{Known as Knowledge, known_of, name_of, overlap, past_end, place_faults, is_of_other_ensemble, has_other_count, is_placed, makes_swap, notice_faults, unit_faults, swap_findings, swap_or_another, announces_another, occurrence_of, has_low, announces_first, announcement, can_fall_at, has_flags, ensemble_findings, current_findings, next_findings, member_findings, is_other_one, is_absent, is_settled, finds_no_room, has_no_room, findings_at, silence, silent_findings, awaited_low, changes}
 use Rattle.stream_check.specs.Stream.{count_due, count_of_frame, first_line, frame_findings, findings_at_items, runs_full, frame_at, last_findings, findings_in, after_frame as after_read, findings_of, frames_full}
 use Rattle.stream_check.proofs.Members.{member_heard, member_has_begun, member_began_early, member_flags, ensemble_heard, after_is}
 use Rattle.plan_code.specs.declared.plan.Plan.{Plan}
@@ -82,35 +82,15 @@ pub either_fine : (b : Bool) (xs ys : List What) → IsFine xs → IsFine ys →
 either_fine true xs ys x y = x
 either_fine false xs ys x y = y
 
-abbrev IsOtherFault : Option Fault → Type 0
-IsOtherFault None = Unit {0}
-IsOtherFault (Some fault) = is_of_word fault ≡ false
-
-listed : (o : Option Fault) → IsOtherFault o → IsFine (as_list o)
-listed None h = tt
-listed (Some fault) h = (h, tt)
-
-or_other : (o : Option ℕ) (a : Raw) (later : Option Fault) → IsOtherFault later → IsOtherFault (overlap_or o a later)
-or_other None a later h = h
-or_other (Some b) a later h = refl
-
-overlap_other : (rs : List Raw) → IsOtherFault (overlap rs)
-overlap_other [] = tt
-overlap_other (r ∷ rs) = or_other (partner r rs) r (overlap rs) (overlap_other rs)
-
-past_other : (rs : List Raw) → IsOtherFault (past_end rs)
-past_other [] = tt
-past_other (r ∷ rs) = elim (ends_past r) as (λ t. IsOtherFault (cond t (Some (faults.PastEnd (identifier_of r))) (past_end rs))) [ true ↦ refl | false ↦ past_other rs ]
-
 notice_other : (k : Knowledge) → IsFine (notice_faults k)
 notice_other k =
     all_append KeepsWord (when (not k.is_cut_off && nat_lt k.times 3) (faults.AnnouncedTimes k.times)) _ (when_other _ (faults.AnnouncedTimes k.times) refl)
     (all_append KeepsWord (when (not k.is_cut_off && nat_lt k.heard 3) (faults.NextHeard k.heard)) _ (when_other _ (faults.NextHeard k.heard) refl) (when_other _ (faults.Flags k.flags (changes k)) refl))
 
-unit_other : (k : Knowledge) → IsFine (unit_faults k)
-unit_other k =
-    all_append KeepsWord (as_list (overlap k.listener.next.subs)) (as_list (past_end k.listener.next.subs))
-    (listed (overlap k.listener.next.subs) (overlap_other k.listener.next.subs)) (listed (past_end k.listener.next.subs) (past_other k.listener.next.subs))
+unit_fine : (k : Knowledge) → (overlap k.listener.next.subs ≡ None) × (past_end k.listener.next.subs ≡ None) → IsFine (unit_faults k)
+unit_fine k none =
+    subst (λ (o : Option Fault). IsFine (as_list o ++ as_list (past_end k.listener.next.subs))) (sym none.0)
+    (subst (λ (o : Option Fault). IsFine (as_list o)) (sym none.1) tt)
 
 pub silence_other : (rs : List Raw) → IsFine (map silence rs)
 silence_other [] = tt
@@ -134,6 +114,7 @@ pub record IsHeadFine (k : Knowledge) (e : EnsembleInformation) : Type 0 where
   pub again : makes_swap k e ≡ false → announces_another k e ≡ false
   pub falls : has_flags e ≡ true → can_fall_at k.step (occurrence_of e) ≡ true
   pub early : k.began_early ≡ true → has_flags e ≡ true
+  pub units : makes_swap k e ≡ true → (overlap k.listener.next.subs ≡ None) × (past_end k.listener.next.subs ≡ None)
 
 swap_fine : (k : Knowledge) (e : EnsembleInformation) → IsHeadFine k e → (b : Bool) → makes_swap k e ≡ b
     → IsFine (cond b (swap_findings k e) (when (announces_another k e) (faults.AnnouncedAgain e.change (occurrence_of e))))
@@ -141,7 +122,7 @@ swap_fine k e h true is = (
   tt,
   all_append KeepsWord (when (not (e.count % 250 == awaited_low k)) (faults.AnnouncedFor (awaited_low k))) (notice_faults k ++ unit_faults k)
       (when_not _ (faults.AnnouncedFor (awaited_low k)) (ap not (h.made is)))
-      (all_append KeepsWord (notice_faults k) (unit_faults k) (notice_other k) (unit_other k)),
+      (all_append KeepsWord (notice_faults k) (unit_faults k) (notice_other k) (unit_fine k (h.units is))),
 )
 swap_fine k e h false is = when_not (announces_another k e) (faults.AnnouncedAgain e.change (occurrence_of e)) (h.again is)
 

@@ -15,7 +15,7 @@ use Rattle.stream_check.specs.Telling.{in_frame}
 use Rattle.stream_check.specs.Frames.{Fib, Reading}
 use Rattle.stream_check.specs.Standing.{standing_in}
 use Rattle.stream_check.specs.History.{Item, Moment, Said, Ended, said, frame_items, is_ensemble, ensemble_of as said_ensemble, is_flagged, is_swap, listening, listener_after, due, has_ensemble, has_begun, began_early, begins_notice, last_flags}
-use Rattle.stream_check.specs.Rules.{Known as Knowledge, known_of, occurrence_of, has_low, has_flags, ensemble_findings, member_findings, has_no_room, finds_no_room, findings_at}
+use Rattle.stream_check.specs.Rules.{Known as Knowledge, known_of, overlap, past_end, occurrence_of, has_low, has_flags, ensemble_findings, member_findings, has_no_room, finds_no_room, findings_at}
 use Rattle.stream_check.specs.Stream.{frame_findings, findings_at_items, runs_full, frame_at, last_findings, findings_in, after_frame as after_read, findings_of, frames_full}
 use Rattle.stream_check.proofs.Members.{ensemble_heard, after_is}
 use Rattle.plan_code.specs.declared.plan.Plan.{Plan}
@@ -64,6 +64,9 @@ rules_by period plan u a past l e same is h =
           ∙ h.again (sym (ap (λ (x : Listening). is_made x.awaited (ensemble_of plan u)) is) ∙ made);
       falls = head_falls plan u a;
       early = h.flagged;
+      units = λ made.
+          let before = h.units (sym (ap (λ (x : Listening). is_made x.awaited (ensemble_of plan u)) is) ∙ made) in
+          (ap (λ (x : Listening). overlap x.next.subs) is ∙ before.0, ap (λ (x : Listening). past_end x.next.subs) is ∙ before.1);
     })
 
 head_step : (period : ℕ) (plan : Plan) (u : State) → Airs plan u → (past : List Moment) (l : Listening) (i : Item) → listening past ≡ Some l → is_ensemble i ≡ true → said_ensemble i ≡ ensemble_of plan u
@@ -218,7 +221,7 @@ abbrev pub IsBefore : Plan → List Moment → State → Type 0
 IsBefore plan past s = ((past ≡ []) × (s.count % count_step plan.mode ≡ 0)) ⊎ IsBetween plan past s
 
 first_ok : (plan : Plan) (u : State) → IsHeadOk plan u untuned 0 false
-first_ok plan u = record { made = λ made. absurd (false≢true made); again = λ made. refl; flagged = λ early. absurd (false≢true early) }
+first_ok plan u = record { made = λ made. absurd (false≢true made); again = λ made. refl; flagged = λ early. absurd (false≢true early); units = λ made. absurd (false≢true made) }
 
 pub agrees_by : OneList → Laws → (r : Reading) (period : ℕ) (p : Program) (ts : List Known) → IsCode p ts → (s : State) → Holds p ts s → (past : List Moment) → IsBefore p.plan past s
     → FrameAgrees period p s past (read_frame r p.plan.mode (frame_bytes p s))

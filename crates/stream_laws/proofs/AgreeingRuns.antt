@@ -5,6 +5,7 @@ use Rattle.std.specs.List.{AllByRecursion}
 use Rattle.std.proofs.lemmas.Bool.{false≢true, eq-eqb, ne_eqb, eqb-true}
 use Rattle.mux_config.specs.Configuration.{Configuration}
 use Rattle.mux_config.specs.Change.{change_of, bits_of}
+use Rattle.mux_config.specs.Sound.{IsSound}
 use Rattle.mux_entries.specs.Entries.{EnsembleInformation}
 use Rattle.fib_codec.specs.Ranges.{IsEnsembleInformation}
 use Rattle.fib_codec.specs.Grammar.{OneList}
@@ -18,7 +19,7 @@ use Rattle.stream_check.specs.declared.telling.FrameAt.{FrameAt}
 use Rattle.stream_check.specs.Telling.{in_frame}
 use Rattle.stream_check.specs.Frames.{Fib, Reading}
 use Rattle.stream_check.specs.History.{Item, Moment, Said, Ended, said, frame_items, is_ensemble, ensemble_of as said_ensemble, is_flagged, is_swap, listening, listener_after, due, has_ensemble, has_begun, began_early, last_flags}
-use Rattle.stream_check.specs.Rules.{Known as Knowledge, known_of, occurrence_of, has_low, can_fall_at, has_flags, ensemble_findings, member_findings, has_no_room, findings_at, silent_findings}
+use Rattle.stream_check.specs.Rules.{Known as Knowledge, known_of, overlap, past_end, occurrence_of, has_low, can_fall_at, has_flags, ensemble_findings, member_findings, has_no_room, findings_at, silent_findings}
 use Rattle.stream_check.specs.Stream.{count_of_frame, frame_findings, findings_at_items, runs_full, frame_at, last_findings, findings_in, after_frame as after_read, findings_of, frames_full}
 use Rattle.stream_check.proofs.Members.{ensemble_heard, after_is}
 use Rattle.plan_code.specs.declared.plan.Plan.{Plan}
@@ -30,13 +31,14 @@ use Rattle.plan_runs.specs.declared.event.Event.TheVariants.{Contact, Frame}
 use Rattle.plan_runs.specs.Frames.{is_due, is_noticed, shown, shown_bytes, frame_bytes, ensemble_of, ensemble_sent, low_of_swap, after_frame}
 use Rattle.plan_runs.specs.Runs.{happens, run, run_frames}
 use Rattle.plan_runs.specs.TypedRuns.{IsPlayed}
-use Rattle.plan_runs.proofs.Knowledge.{IsAhead}
+use Rattle.plan_runs.proofs.Knowledge.{IsAhead, CommittedBy}
 use Rattle.plan_runs.proofs.Tracked.{Airs, SwapsOn, noticed, noticed_from, split_le}
 use Rattle.plan_runs.proofs.Facts.{Holds, IsCode, airs, frame_holds, happens_holds, run_holds, code_of, played_holds}
 use Rattle.plan_runs.proofs.Notice.{Links, links}
 use Rattle.plan_runs.proofs.Carries.{LeftBy}
 use Rattle.plan_runs.proofs.Right.{ensemble_right, ensemble_within}
 use Rattle.plan_runs.proofs.Announcing.{noticed_information}
+use Rattle.plan_listeners.proofs.Pictures.{whole_of, IsPartial}
 use Rattle.plan_listeners.proofs.Hearing.{headed}
 use Rattle.plan_listeners.proofs.Contents.{Laws}
 use Rattle.plan_listeners.proofs.Knowing.{Waits, KnowsBy, WaitsBy, InFrame, knows_after}
@@ -47,6 +49,7 @@ use Rattle.stream_laws.specs.Framing.{frames_of}
 use Rattle.stream_laws.specs.Agreeing.{KeepsWord, RunAgrees, RunsAgree}
 use Rattle.stream_laws.proofs.Noting.{ensemble_flags, begun_is, flags_are}
 use Rattle.stream_laws.proofs.Framing.{all_append, read_frame}
+use Rattle.stream_laws.proofs.Units.{units_fine}
 use Rattle.stream_laws.proofs.Sending.{IsHeadOf, IsFrameSaid, frame_said}
 use Rattle.stream_laws.proofs.Agreeing.{IsFine, IsHeadFine, head_fine, either_fine, frame_other, silence_other, IsInside, MembersFine, members_fine, none_or_some}
 
@@ -65,20 +68,21 @@ pub no_some : {X : Type 0} (low : ℕ) (o : Option ℕ) → o ≡ None → o ≡
 no_some low o none some = absurd cc
 
 -- where a swap is awaited
-pub record Awaits (plan : Plan) (left : Option ℕ) (count low : ℕ) : Type 0 where
+pub record Awaits (plan : Plan) (left : Option ℕ) (n : Configuration) (count low : ℕ) (l : Listening) : Type 0 where
   pub k : ℕ
   pub is : left ≡ Some k
   pub below : k < plan.notice
   pub low_is : low ≡ (count + k) % 5000 % 250
+  pub next : IsPartial (whole_of n) Nothing l.next
 
-pub awaits_by : (plan : Plan) (left : Option ℕ) (c n : Configuration) (count : ℕ) (l : Listening) (low : ℕ) → KnowsBy plan left c n count Nothing Nothing l → l.awaited ≡ Some low → Awaits plan left count low
+pub awaits_by : (plan : Plan) (left : Option ℕ) (c n : Configuration) (count : ℕ) (l : Listening) (low : ℕ) → KnowsBy plan left c n count Nothing Nothing l → l.awaited ≡ Some low → Awaits plan left n count low l
 awaits_by plan None c n count l low h e = no_some low l.awaited h.awaits e
 awaits_by plan (Some k) c n count l low h e = elim (split_le plan.notice k) [
   | inl late ↦ no_some low l.awaited (h.outside late).awaits e
   | inr below ↦ (
       let at = h.inside below in
       let same : at.awaited ≡ Some low = sym at.knows.awaits ∙ e in
-      record { k = k; is = refl; below = below; low_is = subst (λ (o : Option ℕ). Waits plan k count o) same at.waits }
+      record { k = k; is = refl; below = below; low_is = subst (λ (o : Option ℕ). Waits plan k count o) same at.waits; next = at.knows.next }
       )
 ]
 
@@ -181,6 +185,7 @@ pub record IsHeadOk (plan : Plan) (u : State) (l : Listening) (flags : ℕ) (ear
   pub made : is_made l.awaited (ensemble_of plan u) ≡ true → ((ensemble_of plan u).count % 250 == unwrap_or l.awaited 0) ≡ true
   pub again : is_made l.awaited (ensemble_of plan u) ≡ false → (has_low l.awaited && (not ((ensemble_of plan u).change == flags) || not (occurrence_of (ensemble_of plan u) == unwrap_or l.awaited 0))) ≡ false
   pub flagged : early ≡ true → has_flags (ensemble_of plan u) ≡ true
+  pub units : is_made l.awaited (ensemble_of plan u) ≡ true → (overlap l.next.subs ≡ None) × (past_end l.next.subs ≡ None)
 
 or_second : (a b : Bool) → a ≡ false → (a || b) ≡ true → b ≡ true
 or_second true b e h = absurd (false≢true (sym e))
@@ -214,6 +219,7 @@ head_ok p ts c s holds past h =
     record {
       made = λ is. made_by a link count (none_or_some h.heard.awaited) is;
       again = λ is. again_by a link count (none_or_some h.heard.awaited) is;
+      units = λ is. units_by (none_or_some h.heard.awaited) is;
       flagged = λ early.
           let there = h.early early in
           elim (zero_or_some there.1) [
@@ -244,6 +250,17 @@ head_ok p ts c s holds past h =
         flagged_zero : (b : Bool) → not b ≡ true → b ≡ false
         flagged_zero true f = absurd (false≢true f)
         flagged_zero false f = refl
+
+    committed : (left : Option ℕ) (k : ℕ) → left ≡ Some k → CommittedBy p.plan left s.current s.next → IsSound s.next
+    committed None k is at = absurd cc
+    committed (Some j) k is at = at.after.sound
+
+    units_by : (h.heard.awaited ≡ None) ⊎ ((low : ℕ) × (h.heard.awaited ≡ Some low)) → is_made h.heard.awaited (ensemble_of p.plan (shown p s)) ≡ true
+        → (overlap h.heard.next.subs ≡ None) × (past_end h.heard.next.subs ≡ None)
+    units_by (inl none) is = absurd (false≢true (sym (ap (λ o. is_made o (ensemble_of p.plan (shown p s))) none) ∙ is))
+    units_by (inr (low, some)) is =
+        let w = awaits_by p.plan s.left s.current s.next s.count h.heard low h.knows some in
+        units_fine s.next Nothing h.heard.next.subs (committed s.left w.k w.is holds.between.kept.committed) holds.tracked.next w.next.subs
 
     again_by : Airs p.plan (shown p s) → Links p.plan s (shown p s) → (ensemble_of p.plan (shown p s)).count ≡ s.count → (h.heard.awaited ≡ None) ⊎ ((low : ℕ) × (h.heard.awaited ≡ Some low))
         → is_made h.heard.awaited (ensemble_of p.plan (shown p s)) ≡ false

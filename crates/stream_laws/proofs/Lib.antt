@@ -18,6 +18,7 @@ pub mod Framing
 pub mod InPlace
 pub mod Sending
 pub mod StandingBy
+pub mod Units
 pub mod Agreeing
 pub mod AgreeingRuns
 pub mod AgreeingFrames

@@ -17,7 +17,8 @@ use Rattle.stream_laws.specs.Notices.{read_frames}
 use Rattle.stream_laws.specs.Framing.{frames_of}
 
 -- an entry that is not as it was, entries of the next configuration without change flags, an announcement that is not as
--- it was or of a count at which no swap can fall, and a swap at another count than was announced
+-- it was or of a count at which no swap can fall, a swap at another count than was announced, and one to sub-channels
+-- that share a capacity unit or end past the last one
 abbrev pub is_of_word : Fault → Bool
 is_of_word (faults.ShortFrame fibs) = false
 is_of_word (faults.Damaged fibs) = false
@@ -35,8 +36,8 @@ is_of_word (faults.AnnouncedFor low) = true
 is_of_word (faults.AnnouncedTimes times) = false
 is_of_word (faults.NextHeard times) = false
 is_of_word (faults.Flags flags changes) = false
-is_of_word (faults.Overlap a b) = false
-is_of_word (faults.PastEnd a) = false
+is_of_word (faults.Overlap a b) = true
+is_of_word (faults.PastEnd a) = true
 is_of_word (faults.Silent name) = false
 
 abbrev pub KeepsWord : What → Type 0

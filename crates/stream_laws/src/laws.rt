@@ -74,8 +74,8 @@ pub fn places()
 
 /// The law of entries and announcements: in the frames of a run of a typed code, from one with a FIG 0/0 on, the check of
 /// a stream always has room, and finds no entry that is not as it was, no entry of the next configuration without change
-/// flags, no announcement that is not as it was or is for a count at which no swap can fall, and no swap at another count
-/// than was announced.
+/// flags, no announcement that is not as it was or is for a count at which no swap can fall, no swap at another count
+/// than was announced, and none to sub-channels that share a capacity unit or end past the last one.
 pub fn agreement()
     ensures { RunsAgree }
 {
