@@ -1,65 +1,38 @@
 -- The entries and the announcements of a run are as the check of a stream asks.
-use Rattle.std.proofs.Common.{◌≡◌, ◌≢◌, ℕ, zero, suc, ◌+◌, ◌-◌, ◌<◌, ◌≤◌, ◌%◌, ◌==◌, ◌&&◌, ◌||◌, Bool, true, false, cond, not, nat_lt, List, [], ◌∷◌, ◌++◌, length, Option, Some, None, is_some, refl, sym, ap, ◌∙◌, subst, arith, inl, inr, ◌⊎◌, lt-ltb}
+use Rattle.std.proofs.Common.{◌≡◌, ℕ, ◌%◌, ◌==◌, ◌&&◌, ◌||◌, Bool, true, false, cond, not, nat_lt, List, [], ◌∷◌, ◌++◌, length, Option, Some, None, refl, sym, ap, ◌∙◌, subst, inl, inr, ◌⊎◌}
 use Rattle.std.specs.Prelude.{map, unwrap_or}
 use Rattle.std.specs.List.{AllByRecursion}
-use Rattle.std.proofs.lemmas.Bool.{false≢true, eq-eqb, ne_eqb, eqb-true}
-use Rattle.std.proofs.lemmas.Bool.Decides.{eqb_tells}
+use Rattle.std.proofs.lemmas.Bool.{false≢true}
 use Rattle.mux_config.specs.Configuration.{Configuration, IsConfiguration}
 use Rattle.mux_config.specs.Change.{change_of, bits_of}
 use Rattle.mux_entries.specs.Entries.{EnsembleInformation}
 use Rattle.mux_entries.specs.Facts.{Marked}
-use Rattle.fib_codec.specs.Ranges.{IsEnsembleInformation}
-use Rattle.fib_codec.specs.Grammar.{OneList}
-use Rattle.fib_codec.specs.declared.modes.Mode.{Mode}
-use Rattle.fib_codec.specs.declared.modes.Mode.TheVariants.{I, II, III, IV}
-use Rattle.fib_codec.specs.Modes.{fib_count, count_step}
 use Rattle.fib_reader.specs.Raw.{Raw, raw_entry}
-use Rattle.fib_reader.specs.Listening.{Pictured, Listening, untuned, identifier_of, is_made, at_ensemble, hear_entry, where_heard}
+use Rattle.fib_reader.specs.Listening.{Pictured, Listening, hear_entry, where_heard}
 use Rattle.stream_check.specs.declared.finding.Fault.{Fault}
 use Rattle.stream_check.specs.declared.finding.Fault.TheVariants as faults
 use Rattle.stream_check.specs.declared.finding.What.{What}
 use Rattle.stream_check.specs.declared.finding.What.TheVariants as whats
 use Rattle.stream_check.specs.declared.finding.Event.TheVariants as events
-use Rattle.stream_check.specs.declared.finding.Finding.{Finding}
-use Rattle.stream_check.specs.declared.telling.FrameAt.{FrameAt}
-use Rattle.stream_check.specs.Telling.{when, as_list, in_frame}
-use Rattle.stream_check.specs.Frames.{Fib, Reading, damaged_in, lacks_opening}
+use Rattle.stream_check.specs.Telling.{when, as_list}
+use Rattle.stream_check.specs.Frames.{Fib, damaged_in, lacks_opening}
 use Rattle.stream_check.specs.Standing.{standing_in}
-use Rattle.stream_check.specs.History.{Item, Moment, Said, Ended, said, frame_items, is_ensemble, ensemble_of as said_ensemble, is_flagged, is_swap, listening, listener_after, due, has_ensemble, has_begun, began_early, last_flags}
-use Rattle.stream_check.specs.Rules.{Known as Knowledge, known_of, name_of, overlap, past_end, place_faults, is_of_other_ensemble, has_other_count, is_placed, makes_swap, notice_faults, unit_faults, swap_findings, swap_or_another, announces_another, occurrence_of, has_low, announces_first, announcement, can_fall_at, has_flags, ensemble_findings, current_findings, next_findings, member_findings, is_other_one, is_absent, is_settled, finds_no_room, has_no_room, findings_at, silence, silent_findings, awaited_low, changes}
-use Rattle.stream_check.specs.Stream.{count_due, count_of_frame, first_line, frame_findings, findings_at_items, runs_full, frame_at, last_findings, findings_in, after_frame as after_read, findings_of, frames_full}
-use Rattle.stream_check.proofs.Members.{member_heard, member_has_begun, member_began_early, member_flags, ensemble_heard, after_is}
+use Rattle.stream_check.specs.History.{Item, Moment, Said, said, is_ensemble, listening, listener_after, has_ensemble, has_begun, began_early, last_flags}
+use Rattle.stream_check.specs.Rules.{Known as Knowledge, known_of, name_of, overlap, past_end, place_faults, is_of_other_ensemble, has_other_count, is_placed, makes_swap, notice_faults, unit_faults, swap_findings, swap_or_another, announces_another, occurrence_of, announces_first, announcement, can_fall_at, has_flags, ensemble_findings, current_findings, next_findings, is_other_one, is_absent, is_settled, finds_no_room, has_no_room, findings_at, silence, awaited_low, changes}
+use Rattle.stream_check.specs.Stream.{count_due, first_line, frame_findings, findings_at_items, runs_full}
+use Rattle.stream_check.proofs.Members.{member_heard, member_has_begun, member_began_early, member_flags, after_is}
 use Rattle.plan_code.specs.declared.plan.Plan.{Plan}
-use Rattle.plan_code.specs.Program.{Program}
 use Rattle.plan_code.specs.Machine.{State}
-use Rattle.plan_verifier.specs.Typing.{Known}
-use Rattle.plan_runs.specs.declared.event.Event.{Event}
-use Rattle.plan_runs.specs.declared.event.Event.TheVariants.{Contact, Frame}
-use Rattle.plan_runs.specs.Frames.{is_due, is_noticed, shown, shown_bytes, frame_bytes, ensemble_of, ensemble_sent, low_of_swap, after_frame}
-use Rattle.plan_runs.specs.Runs.{happens, run, run_frames}
-use Rattle.plan_runs.specs.TypedRuns.{IsPlayed}
-use Rattle.plan_runs.proofs.Knowledge.{IsAhead}
-use Rattle.plan_runs.proofs.Tracked.{Airs, SwapsOn, noticed, not_noticed, noticed_from, split_le}
-use Rattle.plan_runs.proofs.Facts.{Holds, IsCode, airs, frame_holds, happens_holds, run_holds, code_of, played_holds}
-use Rattle.plan_runs.proofs.Notice.{Links, links}
-use Rattle.plan_runs.proofs.Right.{ensemble_right, ensemble_within}
-use Rattle.plan_runs.proofs.Announcing.{noticed_information}
+use Rattle.plan_runs.specs.Frames.{is_noticed}
 use Rattle.plan_listeners.proofs.Pictures.{whole_of, IsOf, IsPartial, whole_is_set, entry_is_of}
-use Rattle.plan_listeners.proofs.Hearing.{hear_marked, headed}
+use Rattle.plan_listeners.proofs.Hearing.{hear_marked}
 use Rattle.plan_listeners.proofs.Tuned.{Tuned, NextBy, IsSentOf, SaidIn, Or, tuned_weaker, hears_entries}
-use Rattle.plan_listeners.proofs.Contents.{Laws}
-use Rattle.plan_listeners.proofs.Knowing.{Waits, KnowsBy, WaitsBy, InFrame, knows_after}
-use Rattle.plan_listeners.proofs.Frame.{zero_or_not, enters_untuned}
-use Rattle.plan_listeners.proofs.Waiting.{KnowsAt, Nothing, enters_known}
-use Rattle.stream_laws.specs.Notices.{read_frames}
-use Rattle.stream_laws.specs.Framing.{frames_of}
-use Rattle.stream_laws.specs.Agreeing.{is_of_word, KeepsWord, RunAgrees, RunsAgree}
-use Rattle.stream_laws.proofs.Clean.{said_twice}
+use Rattle.plan_listeners.proofs.Waiting.{Nothing}
+use Rattle.stream_laws.specs.Agreeing.{is_of_word, KeepsWord}
 use Rattle.stream_laws.proofs.Kept.{first_holds, second_holds, member_found, member_room}
-use Rattle.stream_laws.proofs.Noting.{ensemble_flags, begun_is, flags_are}
-use Rattle.stream_laws.proofs.Framing.{all_append, read_frame}
-use Rattle.stream_laws.proofs.Sending.{IsSentItem, IsHeadOf, IsFrameSaid, frame_said}
-use Rattle.stream_laws.proofs.StandingBy.{IsFineIn, fine_in}
+use Rattle.stream_laws.proofs.Framing.{all_append}
+use Rattle.stream_laws.proofs.Sending.{IsSentItem}
+use Rattle.stream_laws.proofs.StandingBy.{fine_in}
 
 -- ---- other faults
 

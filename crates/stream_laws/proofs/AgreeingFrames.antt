@@ -1,5 +1,5 @@
 -- The frames of a run, one after another, agree with what was said before.
-use Rattle.std.proofs.Common.{◌≡◌, ◌≢◌, ℕ, zero, suc, ◌+◌, ◌-◌, ◌<◌, ◌≤◌, ◌%◌, ◌==◌, ◌&&◌, ◌||◌, Bool, true, false, cond, not, List, [], ◌∷◌, ◌++◌, Option, Some, None, refl, sym, ap, ◌∙◌, subst, arith, inl, inr, ◌⊎◌}
+use Rattle.std.proofs.Common.{◌≡◌, ◌≢◌, ℕ, ◌+◌, ◌-◌, ◌≤◌, ◌%◌, ◌==◌, ◌&&◌, ◌||◌, Bool, true, false, cond, not, List, [], ◌∷◌, ◌++◌, Option, Some, None, refl, sym, ap, ◌∙◌, subst, arith, inl, inr, ◌⊎◌}
 use Rattle.std.specs.Prelude.{map, unwrap_or}
 use Rattle.std.specs.List.{AllByRecursion}
 use Rattle.std.proofs.lemmas.Bool.{false≢true, eq-eqb, ne_eqb}
@@ -16,7 +16,7 @@ use Rattle.stream_check.specs.Frames.{Fib, Reading}
 use Rattle.stream_check.specs.Standing.{standing_in}
 use Rattle.stream_check.specs.History.{Item, Moment, Said, Ended, said, frame_items, is_ensemble, ensemble_of as said_ensemble, is_flagged, is_swap, listening, listener_after, due, has_ensemble, has_begun, began_early, begins_notice, last_flags}
 use Rattle.stream_check.specs.Rules.{Known as Knowledge, known_of, overlap, past_end, occurrence_of, has_low, has_flags, ensemble_findings, member_findings, has_no_room, finds_no_room, findings_at}
-use Rattle.stream_check.specs.Stream.{frame_findings, findings_at_items, runs_full, frame_at, last_findings, findings_in, after_frame as after_read, findings_of, frames_full}
+use Rattle.stream_check.specs.Stream.{frame_findings, findings_at_items, runs_full, frame_at, findings_in, after_frame as after_read, findings_of, frames_full}
 use Rattle.stream_check.proofs.Members.{ensemble_heard, after_is}
 use Rattle.plan_code.specs.declared.plan.Plan.{Plan}
 use Rattle.plan_code.specs.Program.{Program}
@@ -24,9 +24,8 @@ use Rattle.plan_code.specs.Machine.{State}
 use Rattle.plan_verifier.specs.Typing.{Known}
 use Rattle.plan_runs.specs.declared.event.Event.{Event}
 use Rattle.plan_runs.specs.declared.event.Event.TheVariants.{Contact, Frame}
-use Rattle.plan_runs.specs.Frames.{is_noticed, shown, shown_bytes, frame_bytes, ensemble_of, ensemble_sent, left_after_frame, after_frame}
+use Rattle.plan_runs.specs.Frames.{is_noticed, shown, frame_bytes, ensemble_of, ensemble_sent, left_after_frame, after_frame}
 use Rattle.plan_runs.specs.Runs.{happens, run, run_frames}
-use Rattle.plan_runs.specs.TypedRuns.{IsPlayed}
 use Rattle.plan_runs.proofs.Tracked.{Airs, SwapsOn}
 use Rattle.plan_runs.proofs.Facts.{Holds, IsCode, airs, frame_holds, happens_holds, run_holds, code_of, played_holds}
 use Rattle.plan_runs.proofs.Notice.{Links, links}
@@ -38,12 +37,12 @@ use Rattle.plan_listeners.proofs.Frame.{zero_or_not, enters_untuned}
 use Rattle.plan_listeners.proofs.Waiting.{Nothing, enters_known}
 use Rattle.stream_laws.specs.Notices.{read_frames}
 use Rattle.stream_laws.specs.Framing.{frames_of}
-use Rattle.stream_laws.specs.Agreeing.{KeepsWord, RunAgrees, RunsAgree}
+use Rattle.stream_laws.specs.Agreeing.{KeepsWord, RunsAgree}
 use Rattle.stream_laws.proofs.Noting.{ensemble_flags, begun_is, flags_are}
 use Rattle.stream_laws.proofs.Framing.{all_append, read_frame}
 use Rattle.stream_laws.proofs.Sending.{IsHeadOf, IsFrameSaid, frame_said}
-use Rattle.stream_laws.proofs.Agreeing.{IsFine, IsHeadFine, head_fine, either_fine, frame_other, silence_other, IsInside, MembersFine, members_fine}
-use Rattle.stream_laws.proofs.AgreeingRuns.{IsBetween, IsHeadOk, head_ok, head_falls, flags_on, none_by, IsStill, still, on_by, left_of, no_some, zero_or_some, Awaits, awaits_by}
+use Rattle.stream_laws.proofs.Agreeing.{IsFine, IsHeadFine, head_fine, either_fine, frame_other, silence_other, IsInside, members_fine}
+use Rattle.stream_laws.proofs.AgreeingRuns.{IsBetween, IsHeadOk, head_ok, head_falls, flags_on, none_by, still, on_by, left_of, no_some, zero_or_some, awaits_by}
 
 -- ---- a FIG 0/0
 

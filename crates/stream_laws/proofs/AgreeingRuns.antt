@@ -1,57 +1,34 @@
 -- The entries and the announcements of a run are as the check of a stream asks, frame by frame.
-use Rattle.std.proofs.Common.{◌≡◌, ◌≢◌, ℕ, zero, suc, ◌+◌, ◌-◌, ◌<◌, ◌≤◌, ◌%◌, ◌==◌, ◌&&◌, ◌||◌, Bool, true, false, cond, not, nat_lt, List, [], ◌∷◌, ◌++◌, Option, Some, None, is_some, refl, sym, ap, ◌∙◌, subst, arith, inl, inr, ◌⊎◌, lt-ltb}
-use Rattle.std.specs.Prelude.{map, unwrap_or}
-use Rattle.std.specs.List.{AllByRecursion}
-use Rattle.std.proofs.lemmas.Bool.{false≢true, eq-eqb, ne_eqb, eqb-true}
+use Rattle.std.proofs.Common.{◌≡◌, ℕ, zero, suc, ◌+◌, ◌-◌, ◌<◌, ◌≤◌, ◌%◌, ◌==◌, ◌&&◌, ◌||◌, Bool, true, false, not, List, Option, Some, None, is_some, refl, sym, ap, ◌∙◌, subst, arith, inl, inr, ◌⊎◌, lt-ltb}
+use Rattle.std.specs.Prelude.{unwrap_or}
+use Rattle.std.proofs.lemmas.Bool.{false≢true, eq-eqb, ne_eqb}
 use Rattle.mux_config.specs.Configuration.{Configuration}
 use Rattle.mux_config.specs.Change.{change_of, bits_of}
 use Rattle.mux_config.specs.Sound.{IsSound}
 use Rattle.mux_entries.specs.Entries.{EnsembleInformation}
-use Rattle.fib_codec.specs.Ranges.{IsEnsembleInformation}
-use Rattle.fib_codec.specs.Grammar.{OneList}
 use Rattle.fib_codec.specs.declared.modes.Mode.{Mode}
 use Rattle.fib_codec.specs.declared.modes.Mode.TheVariants.{I, II, III, IV}
-use Rattle.fib_codec.specs.Modes.{fib_count, count_step}
-use Rattle.fib_reader.specs.Listening.{Listening, untuned, is_made, at_ensemble}
-use Rattle.stream_check.specs.declared.finding.What.{What}
-use Rattle.stream_check.specs.declared.finding.Finding.{Finding}
-use Rattle.stream_check.specs.declared.telling.FrameAt.{FrameAt}
-use Rattle.stream_check.specs.Telling.{in_frame}
-use Rattle.stream_check.specs.Frames.{Fib, Reading}
-use Rattle.stream_check.specs.History.{Item, Moment, Said, Ended, said, frame_items, is_ensemble, ensemble_of as said_ensemble, is_flagged, is_swap, listening, listener_after, due, has_ensemble, has_begun, began_early, last_flags}
-use Rattle.stream_check.specs.Rules.{Known as Knowledge, known_of, overlap, past_end, occurrence_of, has_low, can_fall_at, has_flags, ensemble_findings, member_findings, has_no_room, findings_at, silent_findings}
-use Rattle.stream_check.specs.Stream.{count_of_frame, frame_findings, findings_at_items, runs_full, frame_at, last_findings, findings_in, after_frame as after_read, findings_of, frames_full}
-use Rattle.stream_check.proofs.Members.{ensemble_heard, after_is}
+use Rattle.fib_codec.specs.Modes.{count_step}
+use Rattle.fib_reader.specs.Listening.{Listening, is_made}
+use Rattle.stream_check.specs.History.{Moment, listening, has_ensemble, has_begun, began_early, last_flags}
+use Rattle.stream_check.specs.Rules.{overlap, past_end, occurrence_of, has_low, can_fall_at, has_flags}
 use Rattle.plan_code.specs.declared.plan.Plan.{Plan}
 use Rattle.plan_code.specs.Program.{Program}
 use Rattle.plan_code.specs.Machine.{State}
 use Rattle.plan_verifier.specs.Typing.{Known}
-use Rattle.plan_runs.specs.declared.event.Event.{Event}
-use Rattle.plan_runs.specs.declared.event.Event.TheVariants.{Contact, Frame}
-use Rattle.plan_runs.specs.Frames.{is_due, is_noticed, shown, shown_bytes, frame_bytes, ensemble_of, ensemble_sent, low_of_swap, after_frame}
-use Rattle.plan_runs.specs.Runs.{happens, run, run_frames}
-use Rattle.plan_runs.specs.TypedRuns.{IsPlayed}
+use Rattle.plan_runs.specs.Frames.{is_due, is_noticed, shown, ensemble_of, low_of_swap}
 use Rattle.plan_runs.proofs.Knowledge.{IsAhead, CommittedBy}
 use Rattle.plan_runs.proofs.Tracked.{Airs, SwapsOn, noticed, noticed_from, split_le}
-use Rattle.plan_runs.proofs.Facts.{Holds, IsCode, airs, frame_holds, happens_holds, run_holds, code_of, played_holds}
+use Rattle.plan_runs.proofs.Facts.{Holds, IsCode, airs}
 use Rattle.plan_runs.proofs.Notice.{Links, links}
 use Rattle.plan_runs.proofs.Carries.{LeftBy}
 use Rattle.plan_runs.proofs.Right.{ensemble_right, ensemble_within}
 use Rattle.plan_runs.proofs.Announcing.{noticed_information}
 use Rattle.plan_listeners.proofs.Pictures.{whole_of, IsPartial}
-use Rattle.plan_listeners.proofs.Hearing.{headed}
-use Rattle.plan_listeners.proofs.Contents.{Laws}
-use Rattle.plan_listeners.proofs.Knowing.{Waits, KnowsBy, WaitsBy, InFrame, knows_after}
-use Rattle.plan_listeners.proofs.Frame.{zero_or_not, enters_untuned}
-use Rattle.plan_listeners.proofs.Waiting.{KnowsAt, Nothing, enters_known}
-use Rattle.stream_laws.specs.Notices.{read_frames}
-use Rattle.stream_laws.specs.Framing.{frames_of}
-use Rattle.stream_laws.specs.Agreeing.{KeepsWord, RunAgrees, RunsAgree}
-use Rattle.stream_laws.proofs.Noting.{ensemble_flags, begun_is, flags_are}
-use Rattle.stream_laws.proofs.Framing.{all_append, read_frame}
+use Rattle.plan_listeners.proofs.Knowing.{Waits, KnowsBy, WaitsBy}
+use Rattle.plan_listeners.proofs.Waiting.{KnowsAt, Nothing}
 use Rattle.stream_laws.proofs.Units.{units_fine}
-use Rattle.stream_laws.proofs.Sending.{IsHeadOf, IsFrameSaid, frame_said}
-use Rattle.stream_laws.proofs.Agreeing.{IsFine, IsHeadFine, head_fine, either_fine, frame_other, silence_other, IsInside, MembersFine, members_fine, none_or_some}
+use Rattle.stream_laws.proofs.Agreeing.{none_or_some}
 
 -- ---- between two frames
 

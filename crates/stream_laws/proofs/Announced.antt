@@ -1,34 +1,33 @@
 -- The bytes of a notice's frames announce its swap.
-use Rattle.std.proofs.Common.{◌≡◌, ℕ, zero, suc, ◌+◌, ◌-◌, ◌<◌, ◌≤◌, ◌%◌, ◌==◌, ◌||◌, Bool, true, false, cond, List, [], ◌∷◌, ◌++◌, length, take, drop, Contains, Option, Some, refl, sym, ap, ◌∙◌, subst, arith}
+use Rattle.std.proofs.Common.{◌≡◌, ℕ, zero, suc, ◌+◌, ◌-◌, ◌<◌, ◌≤◌, ◌%◌, ◌==◌, ◌||◌, true, false, cond, List, [], ◌∷◌, ◌++◌, length, take, drop, Contains, Option, Some, refl, sym, ap, ◌∙◌, subst, arith}
 use Rattle.std.specs.Prelude.{map, slice_get}
-use Rattle.std.specs.List.{AllByRecursion, list_any, concat}
-use Rattle.std.proofs.lemmas.Bool.{false≢true, eqb-true}
-use Rattle.std.proofs.lemmas.List.{append_assoc, map-append, length-map, length-append, take-map, drop-map}
+use Rattle.std.specs.List.{AllByRecursion, list_any}
+use Rattle.std.proofs.lemmas.Bool.{false≢true}
+use Rattle.std.proofs.lemmas.List.{map-append, length-map, length-append, take-map, drop-map}
 use Rattle.std.proofs.Math.Seq.{take-append_seam, drop-append_seam}
-use Rattle.mux_types.proofs.Elements.{contains_cases, contains_none, contains_first, contains_later, each_contains}
+use Rattle.mux_types.proofs.Elements.{contains_first, contains_later, each_contains}
 use Rattle.mux_config.specs.Configuration.{Configuration, IsConfiguration}
 use Rattle.mux_config.specs.Change.{ChangeTells, change_of, bits_of}
 use Rattle.mux_config.specs.Tables.{entry_at}
 use Rattle.mux_entries.specs.Entries.{EnsembleInformation}
 use Rattle.mux_entries.specs.declared.entry.Entry.{Entry}
-use Rattle.mux_entries.specs.Facts.{Marked, marked, facts_of, sub_entries, service_entries}
+use Rattle.mux_entries.specs.Facts.{marked, sub_entries, service_entries}
 use Rattle.fib_codec.specs.Heard.{IsHeardInRow, IsEnsembleHeardInRow}
-use Rattle.fib_codec.specs.Spelling.{SpellingTells, ext_of}
+use Rattle.fib_codec.specs.Spelling.{SpellingTells}
 use Rattle.fib_reader.specs.Raw.{Raw, raw_entry}
 use Rattle.fib_reader.specs.Listening.{Pictured, identifier_of, all_entries}
 use Rattle.fib_reader.specs.Picture.{Shows}
 use Rattle.fib_reader.proofs.Shown.{ShowsEach}
 use Rattle.stream_check.specs.Frames.{Fib, Reading}
 use Rattle.stream_check.specs.Pictures.{key_of}
-use Rattle.stream_check.specs.Cutting.{HasAll, IsPart, IsCutInThree}
+use Rattle.stream_check.specs.Cutting.{HasAll}
 use Rattle.stream_check.specs.Parts.{IsTheMost}
-use Rattle.stream_check.specs.History.{Item, Moment, Said, Ended, said, frame_items, frames_ended, is_ensemble, ensemble_of, is_flagged, is_swap, listener_after, last_flags, is_cut_off, rows}
-use Rattle.stream_check.specs.Rules.{wanted, change_between}
+use Rattle.stream_check.specs.History.{Item, Moment, Said, said, frame_items, frames_ended, is_ensemble, ensemble_of, is_flagged, listener_after, last_flags, rows}
 use Rattle.stream_check.specs.Stream.{after_frame, after_frames}
-use Rattle.plan_runs.specs.Announced.{IsAnnounced, IsHeardInSome, IsHeardWhole, HasHeader, IsHeaded, HasThreeHeaders, IsFlagged}
-use Rattle.stream_laws.specs.Faultless.{IsFaultless, IsSaidIn}
+use Rattle.plan_runs.specs.Announced.{IsAnnounced, IsHeardWhole, IsHeaded, HasThreeHeaders}
+use Rattle.stream_laws.specs.Faultless.{IsSaidIn}
 use Rattle.stream_laws.specs.Keeping.{entry_like}
-use Rattle.stream_laws.specs.Notices.{IsFibBytes, AreFibBytes, read_frames, row_of, last_of, notice_frames}
+use Rattle.stream_laws.specs.Notices.{AreFibBytes, read_frames, row_of, last_of}
 use Rattle.stream_laws.specs.Announcing.{SwapsAreAnnounced}
 use Rattle.stream_laws.proofs.Clean.{all_left, all_right, IsHanded, after_entry, entry_clean}
 use Rattle.stream_laws.proofs.Kept.{first_holds}
@@ -38,9 +37,9 @@ use Rattle.stream_laws.proofs.Saying.{IsSaidAmong, RowsAreSaid}
 use Rattle.stream_laws.proofs.Formed.{all_formed}
 use Rattle.stream_laws.proofs.Bytes.{map_contains, contains_map}
 use Rattle.stream_laws.proofs.Headers.{FibLaws, header_heard, entry_heard, header_said}
-use Rattle.stream_laws.proofs.Swapping.{IsNoticed, swap_noticed, IsFlaggedAt, flagged_at, get_later, get_map, IsSplit, split_rows, in_part}
+use Rattle.stream_laws.proofs.Swapping.{IsNoticed, swap_noticed, flagged_at, get_later, get_map, split_rows, in_part}
 use Rattle.stream_laws.proofs.PictureKinds.{all_kinds}
-use Rattle.stream_laws.proofs.Shown.{shows_kinds, IsEntryOf, entry_shown, flags_of_change}
+use Rattle.stream_laws.proofs.Shown.{shows_kinds, entry_shown, flags_of_change}
 
 -- the laws that are used
 pub record Laws : Type 0 where
@@ -161,9 +160,11 @@ each_got P (y ∷ ys) (suc n) x all h = each_got P ys n x all.1 h
 headed : (laws : FibLaws) (r : Reading) (notice : List (List (List ℕ))) (place : ℕ) (fibs : List (List ℕ)) → AllByRecursion AreFibBytes notice → slice_get notice place ≡ Some fibs
     → list_any is_flagged (items_in r fibs) ≡ true → IsHeaded (map row_of notice) place
 headed laws r notice place fibs all got has =
-    let found = flagged_in (items_in r fibs) has in
-    (row_of fibs, get_map row_of notice place fibs got,
-    (found.0.next, ensemble_of found.0, header_heard laws r fibs found.0 (each_got AreFibBytes notice place fibs all got) found.2 found.1))
+    let found = flagged_in (items_in r fibs) has in (
+      row_of fibs,
+      get_map row_of notice place fibs got,
+      (found.0.next, ensemble_of found.0, header_heard laws r fibs found.0 (each_got AreFibBytes notice place fibs all got) found.2 found.1),
+    )
 
 pub three_headers : (laws : FibLaws) (r : Reading) (notice : List (List (List ℕ))) → AllByRecursion AreFibBytes notice → 3 ≤ flagged_rows (map (items_in r) notice) → HasThreeHeaders (map row_of notice)
 three_headers laws r notice all three =

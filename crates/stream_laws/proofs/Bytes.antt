@@ -1,19 +1,18 @@
 -- Entries that are heard in the bytes of a frame.
-use Rattle.std.proofs.Common.{◌≡◌, ◌≢◌, ℕ, zero, suc, ◌+◌, ◌*◌, ◌<◌, ◌≤◌, ◌%◌, ◌==◌, ◌&&◌, Bool, true, false, cond, List, [], ◌∷◌, ◌++◌, length, take, drop, get_or, flat_map, Contains, Option, Some, None, refl, sym, ap, ◌∙◌, subst, arith, inl, inr}
+use Rattle.std.proofs.Common.{◌≡◌, ℕ, zero, suc, ◌+◌, ◌*◌, ◌<◌, ◌≤◌, ◌%◌, Bool, true, false, List, [], ◌∷◌, ◌++◌, length, take, drop, get_or, Contains, Some, None, refl, sym, ap, ◌∙◌, subst, arith, inl, inr}
 use Rattle.std.specs.Prelude.{map}
 use Rattle.std.specs.List.{AllByRecursion}
-use Rattle.std.proofs.lemmas.Bool.{false≢true, cases_lt, eqb-true, eq-eqb}
+use Rattle.std.proofs.lemmas.Bool.{cases_lt}
 use Rattle.std.proofs.Math.Seq.{take-append_seam, drop-append-add}
 use Rattle.std.proofs.lemmas.List.{drop_all, length-append}
 use Rattle.std.proofs.lemmas.List.Elements.{Contains-append_left, Contains-append_right, Contains-append_cases}
-use Rattle.mux_types.proofs.Elements.{contains_cases, contains_first, contains_later, contains_none, each_contains}
-use Rattle.mux_entries.specs.Facts.{Marked}
-use Rattle.fib_codec.specs.Grammar.{Fig, Open, Other, IsFib, IsFig, AreFigs, AreEntries, IsEntry, IsCounted, OneList, is_next, is_open, is_long}
+use Rattle.mux_types.proofs.Elements.{contains_cases, contains_first, contains_later, contains_none}
+use Rattle.fib_codec.specs.Grammar.{Fig, Open, Other, IsFib, IsFig, AreFigs, AreEntries, IsEntry, IsCounted, OneList, is_next, is_long}
 use Rattle.fib_codec.specs.Heard.{fib_at}
 use Rattle.fib_codec.specs.Laws.{IsByte, FibHas32Bytes}
 use Rattle.fib_reader.specs.Raw.{Raw, raw_of, entries_in}
 use Rattle.stream_check.specs.Frames.{Fib, Reads, Reading}
-use Rattle.stream_check.specs.History.{Item, items_of, fig_items, figs_items, fib_items, fibs_items, frame_items, is_ensemble, ensemble_of}
+use Rattle.stream_check.specs.History.{Item, items_of, fig_items, figs_items, fib_items, fibs_items, frame_items}
 use Rattle.stream_laws.specs.Notices.{IsFibBytes, AreFibBytes, row_of}
 use Rattle.stream_laws.proofs.Clean.{all_left, all_right}
 
@@ -154,7 +153,7 @@ figs_said first (f ∷ fs) second es bytes h e = elim (contains_cases f fs (Open
         (fig_said first (is_next second) (raw_of (second % 32) (is_long second) bytes) (entries_in (Open second es)) (contains_map (raw_of (second % 32) (is_long second)) es bytes e))),
   )
   | inr more ↦ (let there = figs_said false fs second es bytes more e in
-    (there.0, Contains-append_right (fig_items first f) (figs_items false fs) (item_of there.0 (is_next second) (raw_of (second % 32) (is_long second) bytes)) there.1))
+      (there.0, Contains-append_right (fig_items first f) (figs_items false fs) (item_of there.0 (is_next second) (raw_of (second % 32) (is_long second) bytes)) there.1))
 ]
 
 fibs_said : (r : Reading) (first : Bool) (fibs : List (List ℕ)) (fib : List ℕ) (figs : List Fig) (second : ℕ) (es : List (List ℕ)) (bytes : List ℕ)
@@ -163,13 +162,13 @@ fibs_said : (r : Reading) (first : Bool) (fibs : List (List ℕ)) (fib : List �
 fibs_said r first [] fib figs second es bytes inside read f e = absurd (contains_none fib inside)
 fibs_said r first (g ∷ gs) fib figs second es bytes inside read f e = elim (contains_cases g gs fib inside) [
   | inl same ↦ (let there = figs_said first figs second es bytes f e in
-    let is : Some figs ≡ r.read g = sym read ∙ ap r.read (sym same) in (
-      there.0,
-      Contains-append_left (fib_items first (r.read g)) (fibs_items false (map r.read gs)) (item_of there.0 (is_next second) (raw_of (second % 32) (is_long second) bytes))
-          (subst (λ (x : Fib). Contains (fib_items first x) (item_of there.0 (is_next second) (raw_of (second % 32) (is_long second) bytes))) is there.1),
-    ))
+      let is : Some figs ≡ r.read g = sym read ∙ ap r.read (sym same) in (
+        there.0,
+        Contains-append_left (fib_items first (r.read g)) (fibs_items false (map r.read gs)) (item_of there.0 (is_next second) (raw_of (second % 32) (is_long second) bytes))
+            (subst (λ (x : Fib). Contains (fib_items first x) (item_of there.0 (is_next second) (raw_of (second % 32) (is_long second) bytes))) is there.1),
+      ))
   | inr more ↦ (let there = fibs_said r false gs fib figs second es bytes more read f e in
-    (there.0, Contains-append_right (fib_items first (r.read g)) (fibs_items false (map r.read gs)) (item_of there.0 (is_next second) (raw_of (second % 32) (is_long second) bytes)) there.1))
+      (there.0, Contains-append_right (fib_items first (r.read g)) (fibs_items false (map r.read gs)) (item_of there.0 (is_next second) (raw_of (second % 32) (is_long second) bytes)) there.1))
 ]
 
 same_figs : OneList → (r : Reading) (fib : List ℕ) (figs : List Fig) → IsFib fib figs → (read : Fib) → r.read fib ≡ read → Reads fib read → r.read fib ≡ Some figs

@@ -1,5 +1,5 @@
 -- Streams without a fault, entry by entry.
-use Rattle.std.proofs.Common.{◌≡◌, ℕ, Bool, true, false, cond, List, [], ◌∷◌, ◌++◌, map, refl, sym, ap, ◌∙◌, subst}
+use Rattle.std.proofs.Common.{◌≡◌, ℕ, true, false, cond, List, [], ◌∷◌, ◌++◌, map, refl, sym, subst}
 use Rattle.std.specs.List.{AllByRecursion}
 use Rattle.std.proofs.lemmas.Bool.{false≢true}
 use Rattle.stream_check.specs.declared.finding.What.{What}
@@ -9,7 +9,7 @@ use Rattle.stream_check.specs.Telling.{in_frame}
 use Rattle.stream_check.specs.Frames.{Fib}
 use Rattle.stream_check.specs.History.{Item, Moment, Said, Ended, said, frame_items, due}
 use Rattle.stream_check.specs.Rules.{known_of, findings_at, has_no_room}
-use Rattle.stream_check.specs.Stream.{findings_at_items, runs_full, last_findings, frame_findings, frame_at, findings_in, after_frame, findings_of, after_frames, frames_full}
+use Rattle.stream_check.specs.Stream.{findings_at_items, runs_full, frame_findings, frame_at, findings_in, after_frame, findings_of, after_frames, frames_full}
 use Rattle.stream_laws.specs.Faultless.{IsNoFault, IsFaultless, IsSaidIn}
 
 pub all_left : {X : Type 0} (P : X → Type 0) (xs ys : List X) → AllByRecursion P (xs ++ ys) → AllByRecursion P xs

@@ -2,8 +2,8 @@
 use Rattle.std.proofs.Common.{◌≡◌, ℕ, List, [], ◌∷◌, ◌++◌, flat_map, refl, sym, ap, ◌∙◌}
 use Rattle.std.specs.Prelude.{map}
 use Rattle.std.proofs.lemmas.List.{append_assoc}
-use Rattle.stream_check.specs.Frames.{Fib, Reading, IsFramed}
-use Rattle.stream_laws.specs.Notices.{read_frames, IsCutOf, FramesAreOfBytes}
+use Rattle.stream_check.specs.Frames.{Fib, Reading}
+use Rattle.stream_laws.specs.Notices.{read_frames, FramesAreOfBytes}
 
 record IsPair {X Y : Type 0} (f : X → Y) (xs : List X) (ys zs : List Y) : Type 0 where
   left : List X

@@ -1,16 +1,15 @@
 -- Entries as they are in FIBs.
-use Rattle.std.proofs.Common.{◌≡◌, ℕ, ◌<◌, ◌%◌, ◌/◌, ◌==◌, ◌&&◌, Bool, true, false, cond, nat_lt, List, [], ◌∷◌, ◌++◌, Option, Some, None, refl, sym, ap, ◌∙◌, subst, inl, inr}
+use Rattle.std.proofs.Common.{◌≡◌, ℕ, ◌<◌, ◌%◌, ◌/◌, ◌==◌, ◌&&◌, Bool, true, false, nat_lt, List, [], ◌∷◌, ◌++◌, Some, None, refl, sym, ◌∙◌, subst, inl, inr}
 use Rattle.std.specs.Prelude.{map}
 use Rattle.std.specs.List.{AllByRecursion}
-use Rattle.std.proofs.lemmas.Bool.{false≢true, eqb-true, ltb-true}
+use Rattle.std.proofs.lemmas.Bool.{false≢true, ltb-true}
 use Rattle.std.proofs.lemmas.Bool.Decides.{eqb_tells}
-use Rattle.std.proofs.lemmas.List.{append_assoc, append-nil}
-use Rattle.fib_codec.specs.Grammar.{Fig, Open, Other, IsFib, IsFig, AreFigs, is_next, is_open, is_long}
-use Rattle.fib_reader.specs.Raw.{Raw, raw_of, entries_in}
+use Rattle.fib_codec.specs.Grammar.{Fig, Open, Other, IsFig, AreFigs, is_next, is_open, is_long}
+use Rattle.fib_reader.specs.Raw.{raw_of}
 use Rattle.stream_check.specs.Frames.{Fib, Reads, Reading}
-use Rattle.stream_check.specs.History.{Item, Moment, Said, Ended, said, items_of, fig_items, figs_items, fib_items, fibs_items, frame_items, is_ensemble}
+use Rattle.stream_check.specs.History.{Item, Moment, Said, said, items_of, fig_items, figs_items, fibs_items, frame_items, is_ensemble}
 use Rattle.stream_check.specs.Stream.{after_frame, after_frames}
-use Rattle.stream_laws.proofs.Rows.{at_hand, hand_after}
+use Rattle.stream_laws.proofs.Rows.{at_hand}
 use Rattle.stream_laws.proofs.Tracking.{IsFormed}
 
 -- an entry that is none of the first FIG, or no FIG 0/0

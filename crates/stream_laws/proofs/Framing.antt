@@ -1,8 +1,8 @@
 -- The frames of a run, as the check of a stream cuts them.
-use Rattle.std.proofs.Common.{◌≡◌, ◌≢◌, ℕ, zero, suc, ◌+◌, ◌-◌, ◌<◌, ◌≤◌, ◌%◌, ◌==◌, Bool, true, false, cond, List, [], ◌∷◌, ◌++◌, length, flat_map, Contains, Option, Some, None, refl, sym, ap, ◌∙◌, subst, arith, inl, inr, ◌⊎◌}
+use Rattle.std.proofs.Common.{◌≡◌, ◌≢◌, ℕ, zero, suc, ◌+◌, ◌-◌, ◌<◌, ◌≤◌, ◌%◌, Bool, false, cond, List, [], ◌∷◌, ◌++◌, length, flat_map, Contains, Some, None, refl, sym, ap, ◌∙◌, subst, arith, inl, inr}
 use Rattle.std.specs.Prelude.{map}
 use Rattle.std.specs.List.{AllByRecursion}
-use Rattle.std.proofs.lemmas.Bool.{false≢true, eq-eqb, ne_eqb}
+use Rattle.std.proofs.lemmas.Bool.{eq-eqb, ne_eqb}
 use Rattle.std.proofs.lemmas.List.{append_assoc, append-nil, map-append, length-map}
 use Rattle.std.proofs.lemmas.List.Concat.{flat_map-append}
 use Rattle.mux_types.proofs.Elements.{contains_cases, contains_none}
@@ -14,10 +14,10 @@ use Rattle.fib_codec.specs.Heard.{IsInFig, fib_at}
 use Rattle.fib_codec.specs.declared.modes.Mode.{Mode}
 use Rattle.fib_codec.specs.declared.modes.Mode.TheVariants.{I, II, III, IV}
 use Rattle.fib_codec.specs.Modes.{fib_count, count_step}
-use Rattle.fib_reader.specs.Raw.{Raw, raw_of, entries_in, ensemble_in}
+use Rattle.fib_reader.specs.Raw.{raw_of, entries_in, ensemble_in}
 use Rattle.fib_reader.specs.Laws.{EnsembleIsHeard}
-use Rattle.stream_check.specs.Frames.{Fib, Reads, Reading, is_damaged, first_raw, first_or, first_in_figs, first_in, opening_in_figs, opening, is_there, begins_with_ensemble, holds_ensemble, IsOneFrame, BeginsAnew, AreFrames, HoldsFirst, IsFramed}
-use Rattle.stream_check.specs.History.{Item, items_of, fig_items, figs_items, fib_items, fibs_items, is_ensemble, ensemble_of}
+use Rattle.stream_check.specs.Frames.{Fib, Reads, Reading, is_damaged, first_raw, first_or, first_in_figs, first_in, opening_in_figs, opening, is_there, begins_with_ensemble, holds_ensemble, IsOneFrame, AreFrames, HoldsFirst}
+use Rattle.stream_check.specs.History.{Item, items_of, fig_items, figs_items, fib_items, fibs_items}
 use Rattle.plan_code.specs.declared.plan.Plan.{Plan}
 use Rattle.plan_code.specs.Program.{Program}
 use Rattle.plan_code.specs.Machine.{State}
@@ -25,8 +25,7 @@ use Rattle.plan_runs.specs.declared.event.Event.{Event}
 use Rattle.plan_runs.specs.declared.event.Event.TheVariants.{Contact, Frame}
 use Rattle.plan_runs.specs.Frames.{shown, frame_bytes, after_frame}
 use Rattle.plan_runs.specs.Runs.{happens, run, run_frames}
-use Rattle.plan_runs.specs.TypedRuns.{IsPlayed}
-use Rattle.plan_runs.specs.RightBytes.{IsEnsembleFig, IsNoHeader, IsHeadedBy, IsUnheaded, IsEnsembleOf, IsRight, FrameIsRight, FramesAreRight}
+use Rattle.plan_runs.specs.RightBytes.{IsNoHeader, IsHeadedBy, IsUnheaded, IsRight, FramesAreRight}
 use Rattle.plan_runs.specs.Headline.{HeadlineHolds}
 use Rattle.plan_runs.specs.Listening.{fibs_from, fibs_of, HasCount}
 use Rattle.plan_runs.proofs.Clock.{shown_count}

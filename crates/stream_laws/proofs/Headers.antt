@@ -1,25 +1,24 @@
 -- FIG 0/0 and other entries, in the bytes of a frame and as they are said.
-use Rattle.std.proofs.Common.{◌≡◌, ℕ, ◌+◌, ◌<◌, ◌≤◌, ◌%◌, ◌==◌, ◌&&◌, Bool, true, false, cond, List, [], ◌∷◌, ◌++◌, length, Contains, Option, Some, None, refl, sym, ap, ◌∙◌, subst, arith, inl, inr}
+use Rattle.std.proofs.Common.{◌≡◌, ℕ, ◌≤◌, ◌%◌, ◌==◌, ◌&&◌, Bool, true, false, List, Contains, sym, ap, ◌∙◌, subst, arith}
 use Rattle.std.specs.Prelude.{map}
-use Rattle.std.specs.List.{AllByRecursion}
-use Rattle.std.proofs.lemmas.Bool.{false≢true, eqb-true, eq-eqb}
+use Rattle.std.proofs.lemmas.Bool.{eqb-true, eq-eqb}
 use Rattle.mux_entries.specs.Entries.{EnsembleInformation}
 use Rattle.mux_entries.specs.Facts.{Marked}
 use Rattle.mux_entries.specs.declared.entry.Entry.{Entry}
 use Rattle.mux_entries.specs.declared.entry.Entry.TheVariants.{Ensemble as EnsembleOf, Sub as SubOf, Short as ShortOf, Service as ServiceOf, Packet as PacketOf}
 use Rattle.fib_codec.specs.declared.head.Head.{Head}
-use Rattle.fib_codec.specs.Spelling.{SpellingTells, entry_bytes, ensemble_bytes, ext_of, is_long_entry, IsUnder}
+use Rattle.fib_codec.specs.Spelling.{entry_bytes, ensemble_bytes, ext_of, IsUnder}
 use Rattle.fib_codec.specs.Grammar.{Fig, Open, Other, IsFib, OneList, is_next, is_long}
 use Rattle.fib_codec.specs.Ranges.{IsWithin, IsEnsembleInformation}
-use Rattle.fib_codec.specs.Laws.{EntryIsSpelled, FibHas32Bytes, IsSpelled}
-use Rattle.fib_codec.specs.Heard.{fib_at, IsSaid, IsInFig, IsInFib, IsHeardInRow, IsEnsembleHeard, IsEnsembleHeardInRow}
+use Rattle.fib_codec.specs.Laws.{EntryIsSpelled, FibHas32Bytes}
+use Rattle.fib_codec.specs.Heard.{fib_at, IsSaid, IsInFig, IsHeardInRow, IsEnsembleHeardInRow}
 use Rattle.fib_reader.specs.Raw.{Raw, raw_of, raw_entry, ensemble_in}
 use Rattle.fib_reader.specs.Laws.{EnsembleIsHeard}
 use Rattle.mux_types.proofs.Elements.{each_contains}
 use Rattle.stream_check.specs.Frames.{Reading}
 use Rattle.stream_check.specs.History.{Item, frame_items, is_ensemble, ensemble_of}
 use Rattle.stream_laws.specs.Notices.{IsFibBytes, AreFibBytes, row_of}
-use Rattle.stream_laws.proofs.Bytes.{at_place, IsFrom, item_from, read_fib, said_in, fig_of_fib, IsEnsembleBytes, ensemble_among}
+use Rattle.stream_laws.proofs.Bytes.{at_place, item_from, read_fib, said_in, fig_of_fib, IsEnsembleBytes, ensemble_among}
 
 -- the laws of FIBs that are used
 pub record FibLaws : Type 0 where

@@ -1,11 +1,11 @@
 -- The frames of a run and the FIG 0/0 in them are as the check of a stream asks.
-use Rattle.std.proofs.Common.{◌≡◌, ◌≢◌, ℕ, zero, suc, ◌+◌, ◌<◌, ◌≤◌, ◌%◌, ◌==◌, ◌&&◌, Bool, true, false, cond, not, nat_lt, List, [], ◌∷◌, ◌++◌, length, Option, Some, None, refl, sym, ap, ◌∙◌, subst, arith, inl, inr, ◌⊎◌}
+use Rattle.std.proofs.Common.{◌≡◌, ◌≢◌, ℕ, zero, suc, ◌+◌, ◌%◌, ◌==◌, ◌&&◌, Bool, true, false, cond, not, nat_lt, List, [], ◌∷◌, ◌++◌, length, Option, Some, None, refl, sym, ap, ◌∙◌, subst, arith, inl, inr, ◌⊎◌}
 use Rattle.std.specs.Prelude.{map, unwrap_or}
 use Rattle.std.specs.List.{AllByRecursion}
 use Rattle.std.proofs.lemmas.Bool.{false≢true, eq-eqb, ne_eqb, le-ltb}
 use Rattle.std.proofs.lemmas.Bool.Decides.{eqb_tells}
 use Rattle.mux_entries.specs.Entries.{EnsembleInformation}
-use Rattle.fib_codec.specs.Grammar.{Fig, Open, OneList, is_next, is_long}
+use Rattle.fib_codec.specs.Grammar.{Open, OneList, is_next, is_long}
 use Rattle.fib_codec.specs.Heard.{fib_at}
 use Rattle.fib_codec.specs.Modes.{fib_count, count_step}
 use Rattle.fib_reader.specs.Raw.{Raw, raw_of}
@@ -17,8 +17,8 @@ use Rattle.stream_check.specs.declared.finding.What.{What}
 use Rattle.stream_check.specs.declared.finding.Finding.{Finding}
 use Rattle.stream_check.specs.declared.telling.FrameAt.{FrameAt}
 use Rattle.stream_check.specs.Telling.{when, as_list, in_frame}
-use Rattle.stream_check.specs.Frames.{Fib, Reading, is_damaged, damaged_in, opening, first_opening, is_there, begins_with_ensemble, lacks_opening}
-use Rattle.stream_check.specs.History.{Item, Moment, Said, Ended, said, fibs_items, frame_items, is_ensemble, ensemble_of, due, eid_of, last_eid, is_in_place}
+use Rattle.stream_check.specs.Frames.{Fib, Reading, damaged_in, first_opening, is_there, begins_with_ensemble, lacks_opening}
+use Rattle.stream_check.specs.History.{Item, Moment, Said, said, fibs_items, frame_items, is_ensemble, ensemble_of, due, eid_of, last_eid, is_in_place}
 use Rattle.stream_check.specs.Standing.{standing_in}
 use Rattle.stream_check.specs.Rules.{Known, known_of, name_of, partner, overlap_or, overlap, ends_past, past_end, is_other, is_placed, is_of_other_ensemble, has_other_count, place_faults, makes_swap, notice_faults, unit_faults, swap_findings, swap_or_another, announces_another, occurrence_of, announces_first, announcement, ensemble_findings, current_findings, next_findings, member_findings, is_other_one, has_no_room, findings_at, silence, silent_findings, awaited_low, changes}
 use Rattle.stream_check.specs.Stream.{count_due, placed_count, count_of_frame, first_line, frame_findings, findings_at_items, runs_full, frame_at, last_findings, findings_in, after_frame as after_read, findings_of}
@@ -39,7 +39,7 @@ use Rattle.stream_laws.specs.Notices.{read_frames}
 use Rattle.stream_laws.specs.Framing.{frames_of}
 use Rattle.stream_laws.specs.InPlace.{is_of_frame, IsInPlace, RunsAreInPlace}
 use Rattle.stream_laws.proofs.Rows.{HasNone}
-use Rattle.stream_laws.proofs.Framing.{is_read, IsQuiet, IsOneHeader, header_of, IsHeading, heading_fib, figs_none, fibs_none, later_fibs, first_of_fibs, later_quiet, read_frame, frame_size, all_quiet, all_append, right_after}
+use Rattle.stream_laws.proofs.Framing.{is_read, IsQuiet, header_of, heading_fib, figs_none, fibs_none, later_fibs, first_of_fibs, later_quiet, read_frame, frame_size, all_quiet, all_append, right_after}
 
 -- ---- the EId of a run stays
 

@@ -1,20 +1,18 @@
 -- Without a fault, entries are as the picture has them.
-use Rattle.std.proofs.Common.{◌≡◌, ℕ, ◌≤◌, ◌&&◌, ◌==◌, Bool, true, false, cond, not, nat_lt, nat_le, List, [], ◌∷◌, ◌++◌, length, Option, Some, None, refl, sym, ap, ◌∙◌, subst}
+use Rattle.std.proofs.Common.{◌≡◌, ℕ, ◌&&◌, Bool, true, false, cond, not, nat_lt, List, [], ◌∷◌, length, Option, Some, None, refl, sym, ap, ◌∙◌, subst}
 use Rattle.std.specs.List.{AllByRecursion}
 use Rattle.std.proofs.lemmas.Bool.{false≢true, le-leb}
 use Rattle.fib_reader.specs.Raw.{Raw}
-use Rattle.fib_reader.specs.Listening.{Pictured, identifier_of}
+use Rattle.fib_reader.specs.Listening.{Pictured}
 use Rattle.stream_check.specs.declared.finding.Fault.{Fault}
 use Rattle.stream_check.specs.declared.finding.Fault.TheVariants as faults
-use Rattle.stream_check.specs.declared.finding.What.{What}
 use Rattle.stream_check.specs.declared.heard_table.Standing.TheVariants as standings
 use Rattle.stream_check.specs.Telling.{when}
-use Rattle.stream_check.specs.Frames.{Fib}
-use Rattle.stream_check.specs.Standing.{agree, standing_to, standing, standing_in, list_for}
+use Rattle.stream_check.specs.Standing.{agree, standing_to, standing_in, list_for}
 use Rattle.stream_check.specs.History.{Item, Moment, Said, is_ensemble, ensemble_of, frames_ended, listener_after, is_member, settles_at, has_ensemble, has_begun}
 use Rattle.stream_check.specs.Rules.{known_of, name_of, findings_at, has_no_room, finds_no_room, is_absent, is_other_one, is_settled, current_findings, next_findings, member_findings, ensemble_findings}
 use Rattle.stream_check.proofs.Agreeing.{agree_same}
-use Rattle.stream_laws.specs.Faultless.{IsNoFault, IsFaultless, IsSaidIn}
+use Rattle.stream_laws.specs.Faultless.{IsNoFault}
 use Rattle.stream_laws.specs.Keeping.{entry_like, IsKept, CurrentIsKept}
 use Rattle.stream_laws.proofs.Clean.{all_left, all_right, IsClean, entry_clean}
 

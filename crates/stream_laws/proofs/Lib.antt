@@ -24,3 +24,4 @@ pub mod AgreeingRuns
 pub mod AgreeingFrames
 pub mod Named
 mod Vectors
+mod VectorsOfLaws

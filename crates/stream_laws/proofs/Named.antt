@@ -8,18 +8,17 @@ use Rattle.mux_entries.specs.Entries.{EnsembleInformation}
 use Rattle.fib_codec.specs.Grammar.{OneList}
 use Rattle.fib_codec.specs.Modes.{fib_count, count_step}
 use Rattle.fib_reader.specs.Raw.{Raw}
-use Rattle.fib_reader.specs.Listening.{Listening, untuned, is_made}
+use Rattle.fib_reader.specs.Listening.{Listening, is_made}
 use Rattle.stream_check.specs.declared.finding.Fault.{Fault}
 use Rattle.stream_check.specs.declared.finding.Fault.TheVariants as faults
 use Rattle.stream_check.specs.declared.finding.What.{What}
-use Rattle.stream_check.specs.declared.finding.What.TheVariants as whats
 use Rattle.stream_check.specs.declared.finding.Finding.{Finding}
 use Rattle.stream_check.specs.declared.telling.FrameAt.{FrameAt}
 use Rattle.stream_check.specs.Telling.{when, as_list, in_frame}
 use Rattle.stream_check.specs.Frames.{Fib, Reading, damaged_in, lacks_opening}
 use Rattle.stream_check.specs.Standing.{standing_in}
-use Rattle.stream_check.specs.History.{Item, Moment, Said, Ended, said, frame_items, is_ensemble, ensemble_of as said_ensemble, frames_ended, listening, listener_after, due}
-use Rattle.stream_check.specs.Rules.{Known as Knowledge, known_of, name_of, overlap, past_end, place_faults, is_of_other_ensemble, has_other_count, is_placed, makes_swap, notice_faults, unit_faults, swap_findings, swap_or_another, announces_another, occurrence_of, announces_first, announcement, can_fall_at, has_flags, ensemble_findings, current_findings, next_findings, member_findings, is_other_one, is_absent, is_settled, finds_no_room, has_no_room, findings_at, silence, silent_findings, awaited_low, changes}
+use Rattle.stream_check.specs.History.{Item, Moment, Said, said, frame_items, is_ensemble, ensemble_of as said_ensemble, frames_ended, listener_after, due}
+use Rattle.stream_check.specs.Rules.{Known as Knowledge, known_of, name_of, overlap, past_end, place_faults, is_of_other_ensemble, has_other_count, is_placed, makes_swap, notice_faults, unit_faults, swap_findings, swap_or_another, announces_another, occurrence_of, announces_first, announcement, ensemble_findings, current_findings, next_findings, member_findings, is_other_one, finds_no_room, has_no_room, findings_at, silence, silent_findings, awaited_low, changes}
 use Rattle.stream_check.specs.Stream.{count_due, first_line, frame_findings, findings_at_items, runs_full, frame_at, last_findings, findings_in, after_frame as after_read, findings_of}
 use Rattle.stream_check.proofs.Members.{after_is}
 use Rattle.plan_code.specs.declared.plan.Plan.{Plan}
@@ -28,12 +27,11 @@ use Rattle.plan_code.specs.Machine.{State}
 use Rattle.plan_verifier.specs.Typing.{Known}
 use Rattle.plan_runs.specs.declared.event.Event.{Event}
 use Rattle.plan_runs.specs.declared.event.Event.TheVariants.{Contact, Frame}
-use Rattle.plan_runs.specs.Frames.{is_due, shown, shown_bytes, frame_bytes, ensemble_of, ensemble_sent, after_frame}
+use Rattle.plan_runs.specs.Frames.{is_due, shown, frame_bytes, ensemble_of, after_frame}
 use Rattle.plan_runs.specs.Runs.{happens, run, run_frames}
-use Rattle.plan_runs.specs.TypedRuns.{IsPlayed}
-use Rattle.plan_runs.proofs.Tracked.{Airs, SwapsOn}
+use Rattle.plan_runs.proofs.Tracked.{SwapsOn}
 use Rattle.plan_runs.proofs.Facts.{Holds, IsCode, airs, frame_holds, happens_holds, run_holds, code_of, played_holds}
-use Rattle.plan_runs.proofs.Notice.{Links, links}
+use Rattle.plan_runs.proofs.Notice.{links}
 use Rattle.plan_runs.proofs.Right.{ensemble_right}
 use Rattle.plan_listeners.proofs.Contents.{Laws}
 use Rattle.plan_listeners.proofs.Frame.{zero_or_not}
@@ -42,10 +40,10 @@ use Rattle.stream_laws.specs.Framing.{frames_of}
 use Rattle.stream_laws.specs.Naming.{names_swap, swap_frames, due_frames, due_after_first, SwapsAreNamed}
 use Rattle.stream_laws.proofs.Rows.{HasNone}
 use Rattle.stream_laws.proofs.Framing.{all_append, read_frame}
-use Rattle.stream_laws.proofs.Sending.{IsSentItem, IsHeadOf, IsFrameSaid, frame_said}
+use Rattle.stream_laws.proofs.Sending.{IsSentItem, IsHeadOf, frame_said}
 use Rattle.stream_laws.proofs.Agreeing.{sent_ext, none_or_some}
 use Rattle.stream_laws.proofs.AgreeingRuns.{IsBetween, on_air, flags_on, still, on_by, zero_or_some, awaits_by, due_awaits, due_low}
-use Rattle.stream_laws.proofs.AgreeingFrames.{IsBefore, agrees_by, is_sent, not_sent}
+use Rattle.stream_laws.proofs.AgreeingFrames.{agrees_by, is_sent, not_sent}
 
 -- ---- findings that name no swap
 

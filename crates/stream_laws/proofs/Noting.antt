@@ -1,24 +1,22 @@
 -- What an entry leaves of what was said before, where nothing is at fault.
-use Rattle.std.proofs.Common.{◌≡◌, ℕ, zero, suc, ◌+◌, ◌%◌, ◌<◌, ◌≤◌, ◌==◌, ◌&&◌, ◌||◌, Bool, true, false, cond, not, List, [], ◌∷◌, ◌++◌, length, Option, Some, None, refl, sym, ap, ◌∙◌, subst, arith}
+use Rattle.std.proofs.Common.{◌≡◌, ℕ, zero, suc, ◌+◌, ◌%◌, ◌<◌, ◌==◌, ◌&&◌, ◌||◌, Bool, true, false, cond, not, List, [], ◌∷◌, ◌++◌, Option, Some, None, refl, sym, ap, ◌∙◌, subst, arith}
 use Rattle.std.specs.Prelude.{unwrap_or, get_or}
-use Rattle.std.specs.List.{AllByRecursion, list_any}
+use Rattle.std.specs.List.{AllByRecursion}
 use Rattle.std.proofs.lemmas.Bool.{false≢true, eqb-true}
 use Rattle.std.proofs.lemmas.List.{append-nil}
 use Rattle.mux_entries.specs.Entries.{EnsembleInformation}
 use Rattle.fib_reader.specs.Raw.{Raw}
 use Rattle.fib_reader.specs.Listening.{Listening, untuned, is_made, swapped, awaiting, at_ensemble, into, pictured, picture_of}
 use Rattle.stream_check.specs.declared.finding.Fault.TheVariants as faults
-use Rattle.stream_check.specs.declared.finding.Event.TheVariants as events
-use Rattle.stream_check.specs.declared.finding.What.TheVariants as whats
 use Rattle.stream_check.specs.Telling.{when}
 use Rattle.stream_check.specs.Pictures.{key_of}
 use Rattle.stream_check.specs.Standing.{standing_in}
-use Rattle.stream_check.specs.History.{Item, Moment, Said, Ended, is_ensemble, ensemble_of, is_flagged, is_swap, is_member, frames_ended, listening, listener, listener_after, has_ensemble, begins_notice, has_begun, began_early, flag_count, times_announced, last_flags, is_cut_off, next_key, row_at_hand, rows}
-use Rattle.stream_check.specs.Rules.{Known, known_of, finds_no_room, has_no_room, findings_at, ensemble_findings, member_findings, place_faults, is_placed, is_of_other_ensemble, has_other_count, swap_or_another, announces_another, announcement, swap_findings, occurrence_of, has_low, has_flags, makes_swap}
+use Rattle.stream_check.specs.History.{Item, Moment, Said, Ended, is_ensemble, ensemble_of, is_flagged, is_swap, is_member, listening, listener_after, begins_notice, has_begun, flag_count, times_announced, last_flags, next_key, row_at_hand, rows}
+use Rattle.stream_check.specs.Rules.{Known, known_of, finds_no_room, has_no_room, ensemble_findings, member_findings, place_faults, is_placed, is_of_other_ensemble, has_other_count, swap_or_another, announces_another, announcement, swap_findings, occurrence_of, has_low, has_flags, makes_swap}
 use Rattle.stream_check.proofs.Members.{or_false, ensemble_no_member, ensemble_heard, member_heard, member_entry, after_is}
 use Rattle.stream_laws.specs.Faultless.{IsNoFault}
 use Rattle.stream_laws.proofs.Clean.{all_left, all_right, IsClean}
-use Rattle.stream_laws.proofs.Kept.{no_fault, first_holds, second_holds, is_not, member_room}
+use Rattle.stream_laws.proofs.Kept.{no_fault, first_holds, is_not, member_room}
 use Rattle.stream_laws.proofs.Pictures.{picture_with, taken_in}
 
 -- ---- what a listener makes of it

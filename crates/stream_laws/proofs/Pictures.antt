@@ -1,12 +1,12 @@
 -- Look-ups in a picture that keeps one entry more.
-use Rattle.std.proofs.Common.{◌≡◌, ◌≢◌, ℕ, ◌<◌, ◌==◌, ◌||◌, Bool, true, false, cond, nat_lt, List, [], ◌∷◌, length, Option, Some, None, refl, sym, ap, ◌∙◌, subst, inl, inr, ◌⊎◌, arith}
-use Rattle.std.proofs.lemmas.Bool.{false≢true, eq-eqb, eqb-true, ne_eqb}
+use Rattle.std.proofs.Common.{◌≡◌, ℕ, ◌==◌, ◌||◌, Bool, true, false, cond, nat_lt, List, [], ◌∷◌, length, Option, Some, None, refl, sym, ap, ◌∙◌}
+use Rattle.std.proofs.lemmas.Bool.{false≢true, eq-eqb, eqb-true}
 use Rattle.mux_config.specs.Tables.{entry_at, with_entry, with_entry_changed, has_entry}
-use Rattle.mux_config.proofs.Keeping.{absent_found, entry_key, entry_found, present}
+use Rattle.mux_config.proofs.Keeping.{present}
 use Rattle.fib_reader.specs.Raw.{Raw}
-use Rattle.fib_reader.specs.Listening.{Pictured, Listening, identifier_of, is_known, kept, has_room, pictured}
+use Rattle.fib_reader.specs.Listening.{Pictured, identifier_of, is_known, kept, has_room, pictured}
 use Rattle.stream_check.specs.declared.heard_table.Standing.TheVariants as standings
-use Rattle.stream_check.specs.Standing.{agree, standing_to, standing, standing_in, list_for}
+use Rattle.stream_check.specs.Standing.{standing_to, standing, standing_in}
 use Rattle.stream_check.specs.Rules.{finds_no_room}
 use Rattle.stream_laws.specs.Keeping.{entry_like}
 

@@ -1,5 +1,5 @@
 -- The entries of the next configuration, in the frames of a notice.
-use Rattle.std.proofs.Common.{◌≡◌, ℕ, ◌+◌, ◌<◌, ◌&&◌, ◌||◌, Bool, true, false, cond, not, List, [], ◌∷◌, ◌++◌, Option, Some, Contains, refl, sym, ap, ◌∙◌, subst, inl, inr, ◌⊎◌, arith}
+use Rattle.std.proofs.Common.{◌≡◌, ℕ, ◌<◌, ◌&&◌, Bool, true, false, cond, List, [], ◌∷◌, ◌++◌, Some, Contains, refl, sym, ap, ◌∙◌, subst, inl, inr, arith}
 use Rattle.std.proofs.lemmas.Bool.{false≢true}
 use Rattle.std.proofs.lemmas.List.{append-nil}
 use Rattle.std.proofs.lemmas.List.Elements.{Contains-append_left, Contains-append_right, Contains-append_cases}
@@ -7,7 +7,7 @@ use Rattle.fib_reader.specs.Raw.{Raw}
 use Rattle.fib_reader.specs.Listening.{Pictured, Listening}
 use Rattle.stream_check.specs.Pictures.{key_of}
 use Rattle.stream_check.specs.History.{Item, Moment, Said, Ended, is_ensemble, ensemble_of, is_flagged, is_swap, listener_after, has_begun, row_at_hand, rows}
-use Rattle.stream_check.proofs.PartCount.{here, one_of, in_none}
+use Rattle.stream_check.proofs.PartCount.{one_of, in_none}
 use Rattle.stream_check.proofs.Members.{member_rows, member_row, no_swap}
 use Rattle.stream_laws.specs.Keeping.{entry_like}
 use Rattle.stream_laws.proofs.Clean.{IsClean}

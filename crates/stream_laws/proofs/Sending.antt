@@ -1,8 +1,7 @@
 -- The entries of a frame of a run, as the check of a stream hears them.
-use Rattle.std.proofs.Common.{◌≡◌, ℕ, suc, ◌+◌, ◌-◌, ◌*◌, ◌/◌, ◌%◌, ◌<◌, ◌≤◌, ◌==◌, Bool, true, false, cond, List, [], ◌∷◌, ◌++◌, length, drop, Option, Some, None, refl, sym, ap, ◌∙◌, subst, arith, inl, inr, ◌⊎◌}
+use Rattle.std.proofs.Common.{◌≡◌, ℕ, ◌+◌, ◌-◌, ◌*◌, ◌/◌, ◌%◌, ◌≤◌, ◌==◌, Bool, true, false, cond, List, [], ◌∷◌, ◌++◌, length, drop, Option, Some, None, refl, sym, ap, ◌∙◌, subst, arith, inl, inr}
 use Rattle.std.specs.Prelude.{map, IfSome}
 use Rattle.std.specs.List.{AllByRecursion}
-use Rattle.std.proofs.lemmas.Bool.{false≢true}
 use Rattle.std.proofs.lemmas.List.{append_assoc, drop-drop}
 use Rattle.mux_config.specs.Configuration.{Configuration}
 use Rattle.mux_entries.specs.Entries.{EnsembleInformation}
@@ -14,7 +13,7 @@ use Rattle.fib_codec.specs.declared.modes.Mode.{Mode}
 use Rattle.fib_codec.specs.declared.modes.Mode.TheVariants.{I, II, III, IV}
 use Rattle.fib_codec.specs.Ranges.{IsEnsembleInformation}
 use Rattle.fib_codec.specs.Spelling.{Written, head_of, head_byte, bit_of, entry_bytes, ext_of, is_long_entry}
-use Rattle.fib_codec.specs.Grammar.{Fig, IsFib, OneList, fig_of, is_next, is_long}
+use Rattle.fib_codec.specs.Grammar.{OneList, fig_of, is_next, is_long}
 use Rattle.fib_codec.specs.Heard.{fib_at}
 use Rattle.fib_codec.specs.Modes.{fib_count}
 use Rattle.fib_carousel.specs.Packing.{same_head, entries_where}
@@ -35,7 +34,7 @@ use Rattle.plan_runs.proofs.Right.{pageable, sent_within}
 use Rattle.plan_listeners.proofs.Parts.{In}
 use Rattle.plan_listeners.proofs.Pictures.{entries_of, in_append, fact_in}
 use Rattle.plan_listeners.proofs.Tuned.{IsSentOf, AreSentOf}
-use Rattle.plan_listeners.proofs.Contents.{Laws, frame_says}
+use Rattle.plan_listeners.proofs.Contents.{Laws}
 use Rattle.stream_laws.proofs.Framing.{is_read, all_append, first_of_fibs, read_frame}
 
 -- an entry that is sent of these configurations

@@ -1,5 +1,5 @@
 -- Pictures that show configurations.
-use Rattle.std.proofs.Common.{◌≡◌, ℕ, ◌+◌, ◌<◌, ◌≤◌, ◌&&◌, ◌==◌, Bool, true, false, cond, not, List, [], ◌∷◌, ◌++◌, Contains, Option, Some, refl, sym, ap, ◌∙◌, subst, arith, inl, inr, ap₂}
+use Rattle.std.proofs.Common.{◌≡◌, ℕ, ◌+◌, ◌<◌, ◌≤◌, ◌&&◌, Bool, true, false, cond, not, List, [], ◌∷◌, ◌++◌, Contains, Some, refl, sym, ap, ◌∙◌, subst, arith, inl, inr}
 use Rattle.std.specs.Prelude.{map, IsTrue}
 use Rattle.std.specs.List.{AllByRecursion}
 use Rattle.std.proofs.lemmas.Bool.{false≢true, eq-eqb, ne_eqb}
@@ -15,13 +15,12 @@ use Rattle.mux_config.specs.Configuration.{Configuration, IsConfiguration, IsAsc
 use Rattle.mux_config.specs.Change.{ChangeTells, IsChange, change_of, bits_of, has_same_subs, has_same_services}
 use Rattle.mux_config.proofs.Same.{list_same, sub_same, service_same, packet_same}
 use Rattle.mux_config.proofs.FactSets.{same_members}
-use Rattle.mux_config.proofs.Telling.{lists_told}
 use Rattle.mux_entries.specs.declared.entry.Entry.{Entry}
-use Rattle.mux_entries.specs.Facts.{Marked, marked, facts_of, sub_entry, service_entry, packet_entry, sub_entries, service_entries, HaveSameMembers}
+use Rattle.mux_entries.specs.Facts.{sub_entry, service_entry, packet_entry, sub_entries, service_entries, HaveSameMembers}
 use Rattle.fib_codec.specs.Ranges.{IsWithin}
 use Rattle.fib_codec.specs.Spelling.{SpellingTells, ext_of}
 use Rattle.fib_reader.specs.Raw.{Raw, raw_entry}
-use Rattle.fib_reader.specs.Listening.{Pictured, identifier_of, all_entries}
+use Rattle.fib_reader.specs.Listening.{Pictured, identifier_of}
 use Rattle.fib_reader.specs.Picture.{IsPictured, IsSubOf, Shows}
 use Rattle.fib_reader.proofs.FromEntries.{sub_within, service_within, packet_within, sub_identified, service_identified, packet_identified}
 use Rattle.fib_reader.proofs.Shown.{ShowsEach, shows_each}

@@ -1,20 +1,16 @@
 -- How an entry of a configuration stands to a picture that is part of it.
-use Rattle.std.proofs.Common.{◌≡◌, ℕ, ◌<◌, ◌≤◌, ◌==◌, ◌||◌, Bool, true, false, cond, nat_lt, List, [], ◌∷◌, length, Option, Some, None, refl, sym, ap, ◌∙◌, subst, arith, inl, inr, ◌⊎◌, lt-ltb}
-use Rattle.std.specs.List.{AllByRecursion}
-use Rattle.std.proofs.lemmas.Bool.{false≢true, eqb-true, ne_eqb}
+use Rattle.std.proofs.Common.{◌≡◌, ℕ, ◌<◌, ◌≤◌, ◌==◌, ◌||◌, Bool, true, false, cond, nat_lt, List, [], ◌∷◌, length, Option, Some, None, refl, sym, ap, ◌∙◌, subst, arith, inl, inr}
 use Rattle.mux_config.specs.Configuration.{Configuration, IsConfiguration, IsAscending}
-use Rattle.mux_config.specs.Tables.{entry_at, has_entry}
+use Rattle.mux_config.specs.Tables.{entry_at}
 use Rattle.mux_config.proofs.Keeping.{entry_key, absent_found}
-use Rattle.mux_entries.specs.declared.entry.Entry.{Entry}
-use Rattle.fib_reader.specs.Raw.{Raw, raw_entry}
+use Rattle.fib_reader.specs.Raw.{Raw}
 use Rattle.fib_reader.specs.Listening.{Pictured, identifier_of, is_known, has_room}
 use Rattle.stream_check.specs.declared.heard_table.Standing.TheVariants as standings
 use Rattle.stream_check.specs.Standing.{agree, standing_to, standing, standing_in}
 use Rattle.stream_check.specs.Rules.{is_other_one, finds_no_room}
 use Rattle.stream_check.proofs.Agreeing.{agree_self}
 use Rattle.plan_listeners.proofs.Parts.{In, each_in, partly, IsPart, part_takes}
-use Rattle.plan_listeners.proofs.Pictures.{whole_of, IsSet, IsOf, IsPartial, whole_is_set}
-use Rattle.stream_laws.proofs.Pictures.{picture_with}
+use Rattle.plan_listeners.proofs.Pictures.{whole_of, IsOf, IsPartial, whole_is_set}
 
 -- ---- one list
 

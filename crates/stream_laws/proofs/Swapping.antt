@@ -1,15 +1,15 @@
 -- What a swap without a fault says of the notice before it.
-use Rattle.std.proofs.Common.{◌≡◌, ℕ, zero, suc, ◌+◌, ◌<◌, ◌≤◌, ◌%◌, ◌==◌, ◌&&◌, ◌||◌, Bool, true, false, cond, not, nat_lt, List, [], ◌∷◌, ◌++◌, length, drop, Contains, Option, Some, None, refl, sym, ap, ◌∙◌, subst, arith, inl, inr}
+use Rattle.std.proofs.Common.{◌≡◌, ℕ, zero, suc, ◌+◌, ◌≤◌, ◌%◌, ◌==◌, ◌&&◌, Bool, true, false, cond, not, nat_lt, List, [], ◌∷◌, ◌++◌, drop, Contains, Option, Some, None, refl, sym, ap, ◌∙◌, arith, inl, inr}
 use Rattle.std.specs.Prelude.{map, slice_get, unwrap_or}
 use Rattle.std.specs.List.{AllByRecursion, list_any, concat}
-use Rattle.std.proofs.lemmas.Bool.{false≢true, cases_lt, eqb-true, lt-ltb, le-ltb}
+use Rattle.std.proofs.lemmas.Bool.{false≢true, cases_lt, eqb-true, lt-ltb}
 use Rattle.std.proofs.lemmas.List.Elements.{Contains-append_cases}
 use Rattle.mux_types.proofs.Elements.{contains_first, contains_later, contains_none}
 use Rattle.mux_entries.specs.Entries.{EnsembleInformation}
-use Rattle.fib_reader.specs.Listening.{Pictured, Listening, is_made, all_entries}
+use Rattle.fib_reader.specs.Listening.{Pictured, is_made}
 use Rattle.stream_check.specs.declared.finding.Fault.TheVariants as faults
 use Rattle.stream_check.specs.Telling.{when}
-use Rattle.stream_check.specs.Cutting.{HasAll, IsCutInThree}
+use Rattle.stream_check.specs.Cutting.{IsCutInThree}
 use Rattle.stream_check.specs.Parts.{IsTheMost}
 use Rattle.stream_check.specs.History.{Item, Moment, Said, is_ensemble, ensemble_of, is_flagged, is_swap, listener_after, times_announced, last_flags, is_cut_off, rows}
 use Rattle.stream_check.specs.Rules.{Known, known_of, wanted, times_heard, at_most, awaited_low, change_between, changes, notice_faults, unit_faults, swap_findings}
@@ -20,7 +20,7 @@ use Rattle.stream_laws.proofs.Kept.{no_fault, first_holds}
 use Rattle.stream_laws.proofs.Noting.{ensemble_made, plain_ensemble}
 use Rattle.stream_laws.proofs.Rows.{at_hand, notice_rows}
 use Rattle.stream_laws.proofs.Tracking.{IsFormed, AllAnnounce, has_flagged, flagged_rows, alone_first, all_tracked, all_counted}
-use Rattle.stream_laws.proofs.Saying.{IsSaidAmong, RowIsSaid, RowsAreSaid, all_said}
+use Rattle.stream_laws.proofs.Saying.{IsSaidAmong, RowsAreSaid, all_said}
 
 not_false : (b : Bool) → not b ≡ false → b ≡ true
 not_false true h = refl

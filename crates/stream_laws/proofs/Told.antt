@@ -1,22 +1,21 @@
 -- The bytes of a notice's frames announce the change of pictures.
-use Rattle.std.proofs.Common.{◌≡◌, ℕ, ◌+◌, ◌<◌, ◌≤◌, ◌%◌, ◌==◌, Bool, true, false, cond, List, [], ◌∷◌, ◌++◌, length, take, Contains, Option, Some, None, refl, sym, ap, ◌∙◌, subst, arith}
+use Rattle.std.proofs.Common.{◌≡◌, ℕ, ◌<◌, ◌≤◌, ◌%◌, ◌==◌, true, false, cond, List, [], ◌∷◌, ◌++◌, length, take, Contains, Some, refl, sym, ap, ◌∙◌, subst, arith}
 use Rattle.std.specs.Prelude.{map}
 use Rattle.std.specs.List.{AllByRecursion}
-use Rattle.std.proofs.lemmas.Bool.{false≢true, eqb-true, eqb-false}
+use Rattle.std.proofs.lemmas.Bool.{eqb-true}
 use Rattle.std.proofs.lemmas.List.Elements.{Contains-append_left, Contains-append_right}
 use Rattle.mux_types.proofs.Elements.{contains_first, contains_later, each_contains}
 use Rattle.mux_config.specs.Tables.{entry_at}
 use Rattle.mux_entries.specs.Entries.{EnsembleInformation}
-use Rattle.fib_codec.specs.Grammar.{Fig, Open, IsFib, is_next, is_long}
+use Rattle.fib_codec.specs.Grammar.{Open, IsFib, is_long}
 use Rattle.fib_codec.specs.Heard.{fib_at, IsEnsembleHeardInRow}
 use Rattle.fib_reader.specs.Raw.{Raw, raw_of, entries_in}
 use Rattle.fib_reader.specs.Listening.{Pictured, identifier_of, all_entries}
-use Rattle.stream_check.specs.Frames.{Fib, Reading}
+use Rattle.stream_check.specs.Frames.{Reading}
 use Rattle.stream_check.specs.Pictures.{key_of}
 use Rattle.stream_check.specs.Cutting.{HasAll}
 use Rattle.stream_check.specs.Parts.{IsTheMost}
-use Rattle.stream_check.specs.History.{Item, Moment, Said, is_ensemble, ensemble_of, listener_after, last_flags, frames_ended, is_cut_off, is_swap, rows}
-use Rattle.stream_laws.specs.Faultless.{IsFaultless, IsSaidIn}
+use Rattle.stream_check.specs.History.{Item, Moment, Said, is_ensemble, ensemble_of, listener_after, last_flags, frames_ended, rows}
 use Rattle.stream_laws.specs.Keeping.{entry_like}
 use Rattle.stream_laws.specs.Notices.{AreFibBytes, read_frames, row_of, last_of}
 use Rattle.stream_laws.specs.Entries.{IsSentNext, IsSentWhole, AnnouncesChange, ChangesAreAnnounced}
@@ -25,7 +24,7 @@ use Rattle.stream_laws.proofs.Rows.{notice_rows}
 use Rattle.stream_laws.proofs.Tracking.{IsFormed, AllAnnounce, flagged_rows}
 use Rattle.stream_laws.proofs.Saying.{IsSaidAmong, RowsAreSaid}
 use Rattle.stream_laws.proofs.Formed.{all_formed}
-use Rattle.stream_laws.proofs.Bytes.{map_contains, contains_map, at_place, IsFrom, item_from, read_fib}
+use Rattle.stream_laws.proofs.Bytes.{map_contains, contains_map, at_place, item_from, read_fib}
 use Rattle.stream_laws.proofs.Headers.{FibLaws, header_said}
 use Rattle.stream_laws.proofs.Swapping.{IsNoticed, swap_noticed, split_rows, in_part}
 use Rattle.stream_laws.proofs.PictureKinds.{HasKinds, all_kinds}
@@ -56,10 +55,10 @@ there p raw k found = elim (raw.ext == 1) as (λ t. (raw.ext == 1) ≡ t → ent
       small = (let one = eqb-true raw.ext 2 two in omega (arith, one));
     }
     | false ↦ λ two f. (let last = entry_in (identifier_of raw) p.packets raw f in
-      record {
-        inside = Contains-append_right (p.subs ++ p.services) p.packets raw last;
-        small = (let three : raw.ext ≡ 3 = each_contains (λ (x : Raw). x.ext ≡ 3) p.packets raw k.packets last in omega (arith, three));
-      })
+        record {
+          inside = Contains-append_right (p.subs ++ p.services) p.packets raw last;
+          small = (let three : raw.ext ≡ 3 = each_contains (λ (x : Raw). x.ext ≡ 3) p.packets raw k.packets last in omega (arith, three));
+        })
   ] refl
 ] refl found
 
@@ -85,9 +84,11 @@ part_sent r part rs p bytes k s all raw known =
     let is = there p raw k known in
     let found = in_part (items_in r) p part rs (key_of raw) s (all (key_of raw) (contains_map key_of (all_entries p) raw is.inside)) in
     let among : IsSaidAmong p (items_in r found.0) (key_of raw) = found.2 in
-    let same : among.item.raw ≡ raw = one_found among.item.raw raw p among.small is.small among.key among.found known in
-    (row_of found.0, contains_map row_of part found.0 found.1,
-    subst (IsSentNext (row_of found.0)) same (sent r found.0 among.item (each_contains AreFibBytes part found.0 bytes found.1) among.inside among.marked))
+    let same : among.item.raw ≡ raw = one_found among.item.raw raw p among.small is.small among.key among.found known in (
+      row_of found.0,
+      contains_map row_of part found.0 found.1,
+      subst (IsSentNext (row_of found.0)) same (sent r found.0 among.item (each_contains AreFibBytes part found.0 bytes found.1) among.inside among.marked),
+    )
 
 told : (laws : FibLaws) (r : Reading) (notice : List (List (List ℕ))) (past : List Moment) (count : ℕ) → AllByRecursion AreFibBytes notice → IsNoticed past count
     → map (items_in r) notice ≡ notice_rows past → HasKinds (listener_after past).next

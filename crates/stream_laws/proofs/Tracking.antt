@@ -3,16 +3,14 @@ use Rattle.std.proofs.Common.{◌≡◌, ℕ, ◌+◌, ◌<◌, ◌≤◌, ◌&&
 use Rattle.std.specs.Prelude.{get_or, unwrap_or}
 use Rattle.std.specs.List.{AllByRecursion, list_any}
 use Rattle.std.proofs.lemmas.Bool.{false≢true}
-use Rattle.std.proofs.lemmas.List.{append-nil}
 use Rattle.std.proofs.lemmas.List.Folds.{list_any-append}
-use Rattle.mux_entries.specs.Entries.{EnsembleInformation}
-use Rattle.fib_reader.specs.Listening.{Listening, is_made}
+use Rattle.fib_reader.specs.Listening.{Listening}
 use Rattle.stream_check.specs.History.{Item, Moment, Said, Ended, is_ensemble, ensemble_of, is_flagged, is_swap, listener_after, has_ensemble, has_begun, began_early, times_announced, last_flags}
 use Rattle.stream_check.specs.Rules.{known_of, occurrence_of, has_flags, announces_another}
-use Rattle.stream_check.proofs.Members.{no_swap, no_flags, member_has_begun, member_began_early, member_flags, member_times}
+use Rattle.stream_check.proofs.Members.{no_swap, member_has_begun, member_began_early, member_flags, member_times}
 use Rattle.stream_laws.proofs.Clean.{IsClean}
 use Rattle.stream_laws.proofs.Kept.{first_holds, second_holds, next_kept}
-use Rattle.stream_laws.proofs.Noting.{awaited_member, after_heard, heard_as, ensemble_made, ensemble_flags, begun_is, times_are, flags_are, IsPlainEnsemble, plain_ensemble, some_flags, occurrence_is, not_another, nothing_awaited}
+use Rattle.stream_laws.proofs.Noting.{awaited_member, after_heard, ensemble_made, ensemble_flags, begun_is, times_are, flags_are, IsPlainEnsemble, plain_ensemble, some_flags, occurrence_is, not_another, nothing_awaited}
 use Rattle.stream_laws.proofs.Rows.{at_hand, notice_rows, HasNone, all_more, none_at_hand}
 
 -- entries as they are in FIBs: FIG 0/0 to 0/3, and a FIG 0/0 in the first FIG is the first of its frame

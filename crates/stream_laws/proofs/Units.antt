@@ -1,21 +1,20 @@
 -- The capacity units of a sound configuration, as the check of a stream counts them.
-use Rattle.std.proofs.Common.{◌≡◌, ◌≢◌, ℕ, ◌+◌, ◌-◌, ◌*◌, ◌/◌, ◌%◌, ◌<◌, ◌≤◌, ◌==◌, ◌&&◌, Bool, true, false, cond, nat_lt, List, [], ◌∷◌, Contains, Option, Some, None, refl, sym, ap, ◌∙◌, subst, arith, inl, inr, ◌⊎◌}
+use Rattle.std.proofs.Common.{◌≡◌, ℕ, ◌+◌, ◌-◌, ◌*◌, ◌/◌, ◌%◌, ◌<◌, ◌≤◌, ◌&&◌, Bool, true, false, cond, nat_lt, List, [], ◌∷◌, Contains, Some, None, refl, sym, ap, ◌∙◌, subst, arith, inl, inr}
 use Rattle.std.specs.Prelude.{map}
 use Rattle.std.specs.List.{AllByRecursion}
 use Rattle.std.proofs.lemmas.Bool.{false≢true, cases_lt, ltb-true, le-ltb}
 use Rattle.mux_eep.specs.declared.sizes.EepSet.{EepSet}
 use Rattle.mux_eep.specs.declared.sizes.EepSet.TheVariants.{A, B}
 use Rattle.mux_types.specs.declared.parts.Sub.{Sub}
-use Rattle.mux_config.specs.Configuration.{Configuration, IsConfiguration, IsAscending, IsPlaced, size_of_sub, sub_key}
-use Rattle.mux_config.specs.Sound.{IsUnitOf, IsSound}
+use Rattle.mux_config.specs.Configuration.{Configuration, IsConfiguration, IsAscending, IsPlaced, size_of_sub}
+use Rattle.mux_config.specs.Sound.{IsSound}
 use Rattle.mux_entries.specs.Facts.{sub_entry, option_of}
 use Rattle.mux_types.proofs.Elements.{contains_first, contains_later, each_contains}
 use Rattle.fib_reader.specs.Raw.{Raw, raw_entry}
 use Rattle.fib_reader.specs.Listening.{identifier_of}
 use Rattle.fib_reader.proofs.FromEntries.{sub_identified}
-use Rattle.stream_check.specs.declared.finding.Fault.{Fault}
 use Rattle.stream_check.specs.declared.finding.Fault.TheVariants as faults
-use Rattle.stream_check.specs.Rules.{first_unit, end_unit, is_long_form, share_unit, partner, overlap_or, overlap, ends_past, past_end}
+use Rattle.stream_check.specs.Rules.{first_unit, end_unit, is_long_form, share_unit, partner, overlap_or, overlap, past_end}
 use Rattle.plan_listeners.proofs.Parts.{partly, IsPart}
 use Rattle.plan_listeners.proofs.Pictures.{whole_of, whole_is_set}
 

@@ -1,16 +1,16 @@
 -- Small streams, computed by the checker from the definitions: what is said of them holds in one and fails in another.
-use Rattle.std.proofs.Common.{◌≡◌, ℕ, ◌<◌, ◌≤◌, Bool, true, false, List, [], ◌∷◌, length, get_or, Option, Some, None, refl, ap, sym, ◌∙◌, arith}
+use Rattle.std.proofs.Common.{◌≡◌, ℕ, true, false, List, [], ◌∷◌, length, get_or, Some, refl, ap, arith}
 use Rattle.fib_codec.specs.Grammar.{Fig, Open}
 use Rattle.fib_reader.specs.Raw.{Raw}
 use Rattle.stream_check.specs.declared.finding.Fault.TheVariants as faults
 use Rattle.stream_check.specs.declared.finding.Event.TheVariants as events
 use Rattle.stream_check.specs.declared.finding.What.TheVariants as whats
 use Rattle.stream_check.specs.Frames.{Fib}
-use Rattle.stream_check.specs.History.{Item, Moment, Said, Ended, is_swap, is_cut_off, listener_after, rows}
+use Rattle.stream_check.specs.History.{Item, Moment, is_swap, is_cut_off, rows}
 use Rattle.stream_check.specs.Stream.{after_frames}
 use Rattle.stream_laws.specs.Faultless.{IsNoFault, IsFaultless, IsSaidIn}
-use Rattle.stream_laws.specs.Keeping.{entry_like, IsKept}
-use Rattle.stream_laws.specs.Notices.{IsFibBytes, row_of, last_of, notice_frames}
+use Rattle.stream_laws.specs.Keeping.{IsKept}
+use Rattle.stream_laws.specs.Notices.{IsFibBytes, last_of, notice_frames}
 
 event_is_none : IsNoFault (whats.Event events.Swap)
 event_is_none = tt
