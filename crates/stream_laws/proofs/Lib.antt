@@ -23,5 +23,6 @@ pub mod Agreeing
 pub mod AgreeingRuns
 pub mod AgreeingFrames
 pub mod Named
+pub mod Timely
 mod Vectors
 mod VectorsOfLaws

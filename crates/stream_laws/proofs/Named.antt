@@ -177,7 +177,7 @@ frame_named size step period past frame =
 
 -- ---- a frame of a run
 
-none_of : (on : Bool) (u : State) (items : List Item) → AllByRecursion (IsSentItem on u.current u.next) items → HasNone items
+pub none_of : (on : Bool) (u : State) (items : List Item) → AllByRecursion (IsSentItem on u.current u.next) items → HasNone items
 none_of on u [] all = tt
 none_of on u (i ∷ is) all = (ap (λ (x : Raw). x.ext == 0) all.0.raw ∙ sent_ext on u.current u.next all.0.m all.0.sent, none_of on u is all.1)
 
@@ -195,7 +195,7 @@ not_now : (count low k : ℕ) → count < 5000 → 1 ≤ k → k < 250 → low �
 not_now count low k below some short is e = omega (arith, below, some, short, is, e)
 
 -- a swap is made exactly where it is due
-made_where_due : (p : Program) (ts : List Known) → IsCode p ts → (s : State) → Holds p ts s → (past : List Moment) → (h : IsBetween p.plan past s) → is_made h.heard.awaited (ensemble_of p.plan (shown p s)) ≡ is_due s.left
+pub made_where_due : (p : Program) (ts : List Known) → IsCode p ts → (s : State) → Holds p ts s → (past : List Moment) → (h : IsBetween p.plan past s) → is_made h.heard.awaited (ensemble_of p.plan (shown p s)) ≡ is_due s.left
 made_where_due p ts c s holds past h = by (none_or_some h.heard.awaited) (due_or_not s.left)
   where
     due_or_not : (left : Option ℕ) → (left ≡ Some 0) ⊎ (is_due left ≡ false)

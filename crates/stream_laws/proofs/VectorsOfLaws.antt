@@ -1,11 +1,10 @@
 -- The words of the laws in small cases, computed by the checker from the definitions: each holds in one and fails in
 -- another.
-use Rattle.std.proofs.Common.{◌≡◌, ℕ, zero, suc, ◌<◌, ◌≤◌, Bool, true, false, List, [], ◌∷◌, ◌++◌, length, replicate, flat_map, Contains, Option, Some, None, refl, sym, ap, ◌∙◌, subst, arith}
+use Rattle.std.proofs.Common.{◌≡◌, ℕ, zero, suc, ◌<◌, true, false, List, [], ◌∷◌, ◌++◌, length, replicate, flat_map, Some, refl, sym, ap, ◌∙◌, arith}
 use Rattle.std.specs.Prelude.{map, slice_get, take, drop, cond, ◌*◌, ◌==◌}
 use Rattle.mux_config.specs.Tables.{entry_at}
 use Rattle.stream_laws.specs.Keeping.{entry_like}
 use Rattle.std.specs.List.{AllByRecursion}
-use Rattle.fib_codec.specs.Grammar.{Fig, IsFib}
 use Rattle.fib_codec.specs.Heard.{fib_at}
 use Rattle.fib_codec.specs.Laws.{IsByte, FibHas32Bytes}
 use Rattle.fib_codec.specs.declared.modes.Mode.TheVariants.{II}
@@ -21,14 +20,14 @@ use Rattle.plan_code.specs.Program.{Program}
 use Rattle.plan_code.specs.Machine.{State}
 use Rattle.plan_runs.specs.declared.event.Event.TheVariants.{Frame}
 use Rattle.plan_runs.specs.Frames.{is_due}
-use Rattle.plan_runs.specs.Announced.{HasThreeHeaders}
 use Rattle.stream_laws.specs.Faultless.{IsSaidIn}
 use Rattle.stream_laws.specs.Notices.{IsFibBytes, AreFibBytes, IsCutOf}
 use Rattle.stream_laws.specs.Entries.{IsSentNext, IsSentWhole, AnnouncesChange}
 use Rattle.stream_laws.specs.Framing.{frames_of}
 use Rattle.stream_laws.specs.InPlace.{is_of_frame, IsInPlace}
 use Rattle.stream_laws.specs.Agreeing.{is_of_word, KeepsWord}
-use Rattle.stream_laws.specs.Naming.{names_swap, swap_frames, due_frames, due_after_first}
+use Rattle.stream_laws.specs.Times.{is_of_times, IsTimely}
+use Rattle.stream_laws.specs.Naming.{swap_frames, due_frames, due_after_first}
 
 -- ---- entries, FIBs and frames
 
@@ -123,6 +122,18 @@ kept = tt
 
 not_kept : KeepsWord (whats.Fault (faults.AnnouncedFor 7)) → ⊥
 not_kept h = absurd cc
+
+too_soon : is_of_times (faults.AnnouncedTimes 2) ≡ true
+too_soon = refl
+
+not_of_times : is_of_times (faults.NextHeard 2) ≡ false
+not_of_times = refl
+
+timely : IsTimely (whats.Fault (faults.NextHeard 2))
+timely = refl
+
+not_timely : IsTimely (whats.Fault (faults.AnnouncedTimes 2)) → ⊥
+not_timely h = absurd cc
 
 abbrev swap_in : ℕ → Finding
 swap_in frame = record { frame = frame; count = 0; what = whats.Event named_events.Swap }

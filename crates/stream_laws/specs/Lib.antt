@@ -7,3 +7,4 @@ pub mod Framing
 pub mod InPlace
 pub mod Agreeing
 pub mod Naming
+pub mod Times
