@@ -23,6 +23,7 @@ pub mod Agreeing
 pub mod AgreeingRuns
 pub mod AgreeingFrames
 pub mod Named
+pub mod TimelyFaults
 pub mod Timely
 mod Vectors
 mod VectorsOfLaws
