@@ -1,6 +1,6 @@
 -- The swaps of a run come after three announcements or more.
-use Rattle.std.proofs.Common.{◌≡◌, ◌≢◌, ℕ, ◌+◌, ◌-◌, ◌/◌, ◌<◌, ◌≤◌, ◌%◌, ◌==◌, ◌&&◌, Bool, true, false, cond, not, nat_lt, List, [], ◌∷◌, ◌++◌, length, Option, Some, None, refl, sym, ap, ◌∙◌, subst, arith, inl, inr, le-ltb}
-use Rattle.std.specs.Prelude.{map, unwrap_or}
+use Rattle.std.proofs.Common.{◌≡◌, ◌≢◌, ℕ, ◌+◌, ◌-◌, ◌/◌, ◌<◌, ◌≤◌, ◌%◌, ◌&&◌, Bool, true, false, cond, not, nat_lt, List, [], ◌∷◌, ◌++◌, Option, Some, None, refl, sym, ap, ◌∙◌, subst, arith, inl, inr, le-ltb}
+use Rattle.std.specs.Prelude.{map}
 use Rattle.std.specs.List.{AllByRecursion}
 use Rattle.std.proofs.lemmas.Bool.{false≢true, eqb-true, ne_eqb}
 use Rattle.mux_entries.specs.Entries.{EnsembleInformation}
@@ -8,19 +8,15 @@ use Rattle.fib_codec.specs.Grammar.{OneList}
 use Rattle.fib_codec.specs.declared.modes.Mode.{Mode}
 use Rattle.fib_codec.specs.declared.modes.Mode.TheVariants.{I, II, III, IV}
 use Rattle.fib_codec.specs.Modes.{fib_count, count_step}
-use Rattle.fib_reader.specs.Raw.{Raw}
-use Rattle.fib_reader.specs.Listening.{Listening, identifier_of, is_made}
-use Rattle.stream_check.specs.declared.finding.Fault.{Fault}
-use Rattle.stream_check.specs.declared.finding.Fault.TheVariants as faults
+use Rattle.fib_reader.specs.Listening.{Listening, is_made}
 use Rattle.stream_check.specs.declared.finding.What.{What}
 use Rattle.stream_check.specs.declared.finding.Finding.{Finding}
 use Rattle.stream_check.specs.declared.telling.FrameAt.{FrameAt}
-use Rattle.stream_check.specs.Telling.{when, as_list, in_frame}
-use Rattle.stream_check.specs.Frames.{Fib, Reading, damaged_in, lacks_opening}
-use Rattle.stream_check.specs.Standing.{standing_in}
+use Rattle.stream_check.specs.Telling.{in_frame}
+use Rattle.stream_check.specs.Frames.{Fib, Reading}
 use Rattle.stream_check.specs.History.{Item, Moment, Said, said, frame_items, is_ensemble, ensemble_of as said_ensemble, is_flagged, is_swap, listener_after, due, times_announced, is_cut_off}
-use Rattle.stream_check.specs.Rules.{Known as Knowledge, known_of, at_most, name_of, partner, overlap_or, overlap, ends_past, past_end, place_faults, is_of_other_ensemble, has_other_count, is_placed, makes_swap, notice_faults, unit_faults, swap_findings, swap_or_another, announces_another, occurrence_of, announces_first, announcement, has_flags, ensemble_findings, current_findings, next_findings, member_findings, is_other_one, has_no_room, findings_at, silence, silent_findings, awaited_low, changes}
-use Rattle.stream_check.specs.Stream.{count_due, first_line, frame_findings, findings_at_items, runs_full, frame_at, last_findings, findings_in, after_frame as after_read, findings_of}
+use Rattle.stream_check.specs.Rules.{Known as Knowledge, known_of, at_most, makes_swap, has_flags, ensemble_findings, member_findings, has_no_room, findings_at}
+use Rattle.stream_check.specs.Stream.{frame_findings, findings_at_items, runs_full, frame_at, findings_in, after_frame as after_read, findings_of}
 use Rattle.stream_check.proofs.Members.{after_is, member_times, member_cut_off}
 use Rattle.plan_code.specs.declared.plan.Plan.{Plan}
 use Rattle.plan_code.specs.Program.{Program}
@@ -42,7 +38,7 @@ use Rattle.plan_listeners.proofs.Frame.{zero_or_not}
 use Rattle.mux_config.specs.Configuration.{Configuration}
 use Rattle.stream_laws.specs.Notices.{read_frames}
 use Rattle.stream_laws.specs.Framing.{frames_of}
-use Rattle.stream_laws.specs.Times.{is_of_times, IsTimely, RunsAreTimely}
+use Rattle.stream_laws.specs.Times.{IsTimely, RunsAreTimely}
 use Rattle.stream_laws.proofs.Noting.{ensemble_made, ensemble_flags, times_are}
 use Rattle.stream_laws.proofs.Rows.{HasNone}
 use Rattle.stream_laws.proofs.Framing.{all_append, read_frame}
