@@ -1,0 +1,269 @@
+-- The entries and the announcements of a run are as the check of a stream asks, frame by frame.
+use Rattle.std.proofs.Common.{◌≡◌, ℕ, zero, suc, ◌+◌, ◌-◌, ◌<◌, ◌≤◌, ◌%◌, ◌==◌, ◌&&◌, ◌||◌, Bool, true, false, not, List, Option, Some, None, is_some, refl, sym, ap, ◌∙◌, subst, arith, inl, inr, ◌⊎◌, lt-ltb}
+use Rattle.std.specs.Prelude.{unwrap_or}
+use Rattle.std.proofs.lemmas.Bool.{false≢true, eq-eqb, ne_eqb}
+use Rattle.mux_config.specs.Configuration.{Configuration}
+use Rattle.mux_config.specs.Change.{change_of, bits_of}
+use Rattle.mux_config.specs.Sound.{IsSound}
+use Rattle.mux_entries.specs.Entries.{EnsembleInformation}
+use Rattle.fib_codec.specs.declared.modes.Mode.{Mode}
+use Rattle.fib_codec.specs.declared.modes.Mode.TheVariants.{I, II, III, IV}
+use Rattle.fib_codec.specs.Modes.{count_step}
+use Rattle.fib_reader.specs.Listening.{Listening, is_made}
+use Rattle.stream_check.specs.History.{Moment, listening, has_ensemble, has_begun, began_early, last_flags}
+use Rattle.stream_check.specs.Rules.{overlap, past_end, occurrence_of, has_low, can_fall_at, has_flags}
+use Rattle.plan_code.specs.declared.plan.Plan.{Plan}
+use Rattle.plan_code.specs.Program.{Program}
+use Rattle.plan_code.specs.Machine.{State}
+use Rattle.plan_verifier.specs.Typing.{Known}
+use Rattle.plan_runs.specs.Frames.{is_due, is_noticed, shown, ensemble_of, low_of_swap}
+use Rattle.plan_runs.proofs.Knowledge.{IsAhead, CommittedBy}
+use Rattle.plan_runs.proofs.Tracked.{Airs, SwapsOn, noticed, noticed_from, split_le}
+use Rattle.plan_runs.proofs.Facts.{Holds, IsCode, airs}
+use Rattle.plan_runs.proofs.Notice.{Links, links}
+use Rattle.plan_runs.proofs.Carries.{LeftBy}
+use Rattle.plan_runs.proofs.Right.{ensemble_right, ensemble_within}
+use Rattle.plan_runs.proofs.Announcing.{noticed_information}
+use Rattle.plan_listeners.proofs.Pictures.{whole_of, IsPartial}
+use Rattle.plan_listeners.proofs.Knowing.{Waits, KnowsBy, WaitsBy}
+use Rattle.plan_listeners.proofs.Waiting.{KnowsAt, Nothing}
+use Rattle.stream_laws.proofs.Units.{units_fine}
+use Rattle.stream_laws.proofs.Agreeing.{none_or_some}
+
+-- ---- between two frames
+
+pub record IsBetween (plan : Plan) (past : List Moment) (s : State) : Type 0 where
+  pub heard : Listening
+  pub is : listening past ≡ Some heard
+  pub knows : KnowsAt plan s Nothing Nothing heard
+  pub fresh : has_ensemble past ≡ false
+  pub pending : (low : ℕ) → heard.awaited ≡ Some low → has_begun past ≡ true
+  pub early : began_early past ≡ true → (heard.awaited ≡ None) × (k : ℕ) × (s.left ≡ Some k) × (k < plan.notice)
+  pub flags : (low : ℕ) → heard.awaited ≡ Some low → last_flags past ≡ bits_of (change_of s.current s.next)
+
+pub no_some : {X : Type 0} (low : ℕ) (o : Option ℕ) → o ≡ None → o ≡ Some low → X
+no_some low o none some = absurd cc
+
+-- where a swap is awaited
+pub record Awaits (plan : Plan) (left : Option ℕ) (n : Configuration) (count low : ℕ) (l : Listening) : Type 0 where
+  pub k : ℕ
+  pub is : left ≡ Some k
+  pub below : k < plan.notice
+  pub low_is : low ≡ (count + k) % 5000 % 250
+  pub next : IsPartial (whole_of n) Nothing l.next
+
+pub awaits_by : (plan : Plan) (left : Option ℕ) (c n : Configuration) (count : ℕ) (l : Listening) (low : ℕ) → KnowsBy plan left c n count Nothing Nothing l → l.awaited ≡ Some low → Awaits plan left n count low l
+awaits_by plan None c n count l low h e = no_some low l.awaited h.awaits e
+awaits_by plan (Some k) c n count l low h e = elim (split_le plan.notice k) [
+  | inl late ↦ no_some low l.awaited (h.outside late).awaits e
+  | inr below ↦ (
+      let at = h.inside below in
+      let same : at.awaited ≡ Some low = sym at.knows.awaits ∙ e in
+      record { k = k; is = refl; below = below; low_is = subst (λ (o : Option ℕ). Waits plan k count o) same at.waits; next = at.knows.next }
+      )
+]
+
+long_notice : (m : Mode) (notice count : ℕ) → 12 ≤ notice → notice - 0 ≤ (count + (count_step m - 1)) % count_step m → ⊥
+long_notice I notice count long h = omega (arith, long, h)
+long_notice II notice count long h = omega (arith, long, h)
+long_notice III notice count long h = omega (arith, long, h)
+long_notice IV notice count long h = omega (arith, long, h)
+
+-- where a swap is due, it is awaited
+pub due_awaits : (plan : Plan) (left : Option ℕ) (c n : Configuration) (count : ℕ) (l : Listening) → 12 ≤ plan.notice → left ≡ Some 0 → KnowsBy plan left c n count Nothing Nothing l → l.awaited ≡ None → ⊥
+due_awaits plan None c n count l long is h none = absurd cc
+due_awaits plan (Some k) c n count l long is h none =
+    let zero_left : k ≡ 0 = cc in
+    let at = h.inside (omega (arith, zero_left, long)) in
+    let same : at.awaited ≡ None = sym at.knows.awaits ∙ none in
+    let waits : Waits plan 0 count None = subst (λ (o : Option ℕ). Waits plan 0 count o) same (subst (λ (j : ℕ). Waits plan j count at.awaited) zero_left at.waits) in
+    long_notice plan.mode plan.notice count long waits
+
+-- ---- the frame's state
+
+abbrev pub on_air : Plan → State → Bool
+on_air plan u = is_noticed plan.notice u.left
+
+pub flags_on : (plan : Plan) (u : State) → Airs plan u → on_air plan u ≡ true → has_flags (ensemble_of plan u) ≡ true
+flags_on plan u a on =
+    let info = noticed_information plan u on in
+    let within = ensemble_within plan u a in
+    let more : 0 < (ensemble_of plan u).change = within.flagged.0 (ap is_some info.occurrence) in
+    ap not (ne_eqb (ensemble_of plan u).change 0 (λ none. omega (arith, more, none)))
+
+-- a swap that is awaited and not due is awaited in the frame
+pub record IsStill (s u : State) (k : ℕ) : Type 0 where
+  pub left : u.left ≡ Some k
+  pub current : u.current ≡ s.current
+  pub next : u.next ≡ s.next
+
+pub still : (plan : Plan) (s u : State) (k : ℕ) → Links plan s u → s.left ≡ Some k → 1 ≤ k → IsStill s u k
+still plan s u k link is some =
+    let not_due : is_due s.left ≡ false = ap is_due is ∙ ne_eqb k 0 (λ none. omega (arith, some, none)) in
+    let by : LeftBy plan s.count (Some k) s.next u.left u.next = subst (λ (o : Option ℕ). LeftBy plan s.count o s.next u.left u.next) is (link.left not_due) in
+    record { left = by.0; current = link.current not_due; next = by.1 }
+
+pub on_by : (plan : Plan) (u : State) (k : ℕ) → u.left ≡ Some k → 1 ≤ k → k ≤ plan.notice → on_air plan u ≡ true
+on_by plan u k is some within = ap (is_noticed plan.notice) is ∙ noticed plan.notice k some within
+
+pub none_by : (plan : Plan) (left : Option ℕ) (count : ℕ) (awaited : Option ℕ) → IsAhead left → is_noticed plan.notice left ≡ false → WaitsBy plan left count awaited → awaited ≡ None
+none_by plan None count awaited ahead e w = w
+none_by plan (Some k) count awaited ahead e w = elim (split_le k plan.notice) [
+  | inl within ↦ absurd (false≢true (sym e ∙ noticed plan.notice k ahead within))
+  | inr past ↦ w.outside past
+]
+
+-- a count at which a swap comes
+falls_by : (m : Mode) (x : ℕ) → x % count_step m ≡ 0 → can_fall_at (count_step m) (x % 5000 % 250) ≡ true
+falls_by I x e =
+    let below : x % 5000 % 250 < 250 = omega arith in
+    let even : x % 5000 % 250 % 2 ≡ 0 = omega (arith, e) in
+    ap (λ b. b && ((x % 5000 % 250) % 2 == 0 || false)) (lt-ltb (x % 5000 % 250) 250 below) ∙ ap (λ b. b || false) (eq-eqb (x % 5000 % 250 % 2) 0 even)
+falls_by II x e =
+    let below : x % 5000 % 250 < 250 = omega arith in
+    ap (λ b. b && ((x % 5000 % 250) % 2 == 0 || true)) (lt-ltb (x % 5000 % 250) 250 below) ∙ last ((x % 5000 % 250) % 2 == 0)
+  where
+    last : (b : Bool) → (b || true) ≡ true
+    last true = refl
+    last false = refl
+falls_by III x e =
+    let below : x % 5000 % 250 < 250 = omega arith in
+    ap (λ b. b && ((x % 5000 % 250) % 2 == 0 || true)) (lt-ltb (x % 5000 % 250) 250 below) ∙ last ((x % 5000 % 250) % 2 == 0)
+  where
+    last : (b : Bool) → (b || true) ≡ true
+    last true = refl
+    last false = refl
+falls_by IV x e =
+    let below : x % 5000 % 250 < 250 = omega arith in
+    let even : x % 5000 % 250 % 2 ≡ 0 = omega (arith, e) in
+    ap (λ b. b && ((x % 5000 % 250) % 2 == 0 || false)) (lt-ltb (x % 5000 % 250) 250 below) ∙ ap (λ b. b || false) (eq-eqb (x % 5000 % 250 % 2) 0 even)
+
+pub left_of : (plan : Plan) (left : Option ℕ) → is_noticed plan.notice left ≡ true → (k : ℕ) × (left ≡ Some k) × (1 ≤ k) × (k ≤ plan.notice)
+left_of plan None e = absurd (false≢true e)
+left_of plan (Some k) e = (let both = noticed_from plan.notice k e in (k, refl, both.0, both.1))
+
+pub head_falls : (plan : Plan) (u : State) → Airs plan u → has_flags (ensemble_of plan u) ≡ true → can_fall_at (count_step plan.mode) (occurrence_of (ensemble_of plan u)) ≡ true
+head_falls plan u a flags = by (on_air plan u) refl
+  where
+    by : (b : Bool) → on_air plan u ≡ b → can_fall_at (count_step plan.mode) (occurrence_of (ensemble_of plan u)) ≡ true
+    by true on =
+        let info = noticed_information plan u on in
+        let there = left_of plan u.left on in
+        let swaps : (u.count + there.0) % count_step plan.mode ≡ 0 = subst (λ (o : Option ℕ). SwapsOn plan u.count o) there.1 a.swaps in
+        let low : occurrence_of (ensemble_of plan u) ≡ (u.count + there.0) % 5000 % 250 = ap (λ o. unwrap_or o 0) info.occurrence ∙ ap (low_of_swap u.count) there.1 in
+        ap (can_fall_at (count_step plan.mode)) low ∙ falls_by plan.mode (u.count + there.0) swaps
+    by false off =
+        let none : (ensemble_of plan u).change ≡ 0 = ((ensemble_right plan u).unflagged off).0 in
+        absurd (false≢true (sym (ap not (eq-eqb (ensemble_of plan u).change 0 none)) ∙ flags))
+
+-- ---- a FIG 0/0 of the frame, by what was heard before
+
+pub record IsHeadOk (plan : Plan) (u : State) (l : Listening) (flags : ℕ) (early : Bool) : Type 0 where
+  pub made : is_made l.awaited (ensemble_of plan u) ≡ true → ((ensemble_of plan u).count % 250 == unwrap_or l.awaited 0) ≡ true
+  pub again : is_made l.awaited (ensemble_of plan u) ≡ false → (has_low l.awaited && (not ((ensemble_of plan u).change == flags) || not (occurrence_of (ensemble_of plan u) == unwrap_or l.awaited 0))) ≡ false
+  pub flagged : early ≡ true → has_flags (ensemble_of plan u) ≡ true
+  pub units : is_made l.awaited (ensemble_of plan u) ≡ true → (overlap l.next.subs ≡ None) × (past_end l.next.subs ≡ None)
+
+or_second : (a b : Bool) → a ≡ false → (a || b) ≡ true → b ≡ true
+or_second true b e h = absurd (false≢true (sym e))
+or_second false b e h = h
+
+both_not : (a b : Bool) → a ≡ true → b ≡ true → (not a || not b) ≡ false
+both_not true true x y = refl
+both_not true false x y = absurd (false≢true y)
+both_not false b x y = absurd (false≢true x)
+
+neither : (a b : Bool) → (a || b) ≡ false → b ≡ false
+neither true b h = absurd (false≢true (sym h))
+neither false b h = h
+
+pub zero_or_some : (k : ℕ) → (k ≡ 0) ⊎ (1 ≤ k)
+zero_or_some zero = inl refl
+zero_or_some (suc k) = inr (omega arith)
+
+pub due_low : (count low k : ℕ) → count < 5000 → k ≡ 0 → low ≡ (count + k) % 5000 % 250 → count % 250 ≡ low
+due_low count low k below none is = omega (arith, below, none, is)
+
+pub head_ok : (p : Program) (ts : List Known) → IsCode p ts → (s : State) → Holds p ts s → (past : List Moment) → (h : IsBetween p.plan past s) → IsHeadOk p.plan (shown p s) h.heard (last_flags past) (began_early past)
+head_ok p ts c s holds past h =
+    let plan : Plan = p.plan in
+    let u : State = shown p s in
+    let e : EnsembleInformation = ensemble_of plan u in
+    let a = airs p ts c s holds in
+    let link = links p ts c s holds in
+    let count : e.count ≡ s.count = (ensemble_right plan u).count ∙ link.count in
+    let long : 12 ≤ plan.notice = omega (arith, c.program.planned.notice_from) in
+    record {
+      made = λ is. made_by a link count (none_or_some h.heard.awaited) is;
+      again = λ is. again_by a link count (none_or_some h.heard.awaited) is;
+      units = λ is. units_by (none_or_some h.heard.awaited) is;
+      flagged = λ early.
+          let there = h.early early in
+          elim (zero_or_some there.1) [
+            | inl none ↦ absurd (due_awaits plan s.left s.current s.next s.count h.heard long (there.2 ∙ ap Some none) h.knows there.0)
+            | inr some ↦ flags_on plan u a (on_by plan u there.1 (still plan s u there.1 link there.2 some).left some (omega (arith, there.3)))
+          ];
+    }
+  where
+    made_by : Airs p.plan (shown p s) → Links p.plan s (shown p s) → (ensemble_of p.plan (shown p s)).count ≡ s.count → (h.heard.awaited ≡ None) ⊎ ((low : ℕ) × (h.heard.awaited ≡ Some low))
+        → is_made h.heard.awaited (ensemble_of p.plan (shown p s)) ≡ true → ((ensemble_of p.plan (shown p s)).count % 250 == unwrap_or h.heard.awaited 0) ≡ true
+    made_by a link count (inl none) is = absurd (false≢true (sym (ap (λ o. is_made o (ensemble_of p.plan (shown p s))) none) ∙ is))
+    made_by a link count (inr (low, some)) is =
+        let plan : Plan = p.plan in
+        let u : State = shown p s in
+        let e : EnsembleInformation = ensemble_of plan u in
+        let w = awaits_by plan s.left s.current s.next s.count h.heard low h.knows some in
+        let made : (e.change == 0 || e.count % 250 == low) ≡ true = sym (ap (λ o. is_made o e) some) ∙ is in
+        let low_now : (e.count % 250 == low) ≡ true = elim (zero_or_some w.k) [
+          | inl none ↦ (let at : s.count % 250 ≡ low = due_low s.count low w.k holds.tracked.count none w.low_is in eq-eqb (e.count % 250) low (ap (λ n. n % 250) count ∙ at))
+          | inr more ↦ (
+              let on = on_by plan u w.k (still plan s u w.k link w.is more).left more (omega (arith, w.below)) in
+              let flags = flags_on plan u a on in
+              or_second (e.change == 0) (e.count % 250 == low) (flagged_zero (e.change == 0) flags) made
+              )
+        ] in
+        ap (λ o. e.count % 250 == unwrap_or o 0) some ∙ low_now
+      where
+        flagged_zero : (b : Bool) → not b ≡ true → b ≡ false
+        flagged_zero true f = absurd (false≢true f)
+        flagged_zero false f = refl
+
+    committed : (left : Option ℕ) (k : ℕ) → left ≡ Some k → CommittedBy p.plan left s.current s.next → IsSound s.next
+    committed None k is at = absurd cc
+    committed (Some j) k is at = at.after.sound
+
+    units_by : (h.heard.awaited ≡ None) ⊎ ((low : ℕ) × (h.heard.awaited ≡ Some low)) → is_made h.heard.awaited (ensemble_of p.plan (shown p s)) ≡ true
+        → (overlap h.heard.next.subs ≡ None) × (past_end h.heard.next.subs ≡ None)
+    units_by (inl none) is = absurd (false≢true (sym (ap (λ o. is_made o (ensemble_of p.plan (shown p s))) none) ∙ is))
+    units_by (inr (low, some)) is =
+        let w = awaits_by p.plan s.left s.current s.next s.count h.heard low h.knows some in
+        units_fine s.next Nothing h.heard.next.subs (committed s.left w.k w.is holds.between.kept.committed) holds.tracked.next w.next.subs
+
+    again_by : Airs p.plan (shown p s) → Links p.plan s (shown p s) → (ensemble_of p.plan (shown p s)).count ≡ s.count → (h.heard.awaited ≡ None) ⊎ ((low : ℕ) × (h.heard.awaited ≡ Some low))
+        → is_made h.heard.awaited (ensemble_of p.plan (shown p s)) ≡ false
+        → (has_low h.heard.awaited && (not ((ensemble_of p.plan (shown p s)).change == last_flags past) || not (occurrence_of (ensemble_of p.plan (shown p s)) == unwrap_or h.heard.awaited 0))) ≡ false
+    again_by a link count (inl none) is =
+        ap (λ o. has_low o && (not ((ensemble_of p.plan (shown p s)).change == last_flags past) || not (occurrence_of (ensemble_of p.plan (shown p s)) == unwrap_or o 0))) none
+    again_by a link count (inr (low, some)) is =
+        let plan : Plan = p.plan in
+        let u : State = shown p s in
+        let e : EnsembleInformation = ensemble_of plan u in
+        let w = awaits_by plan s.left s.current s.next s.count h.heard low h.knows some in
+        let made : (e.change == 0 || e.count % 250 == low) ≡ false = sym (ap (λ o. is_made o e) some) ∙ is in
+        let apart : (e.count % 250 == low) ≡ false = neither (e.change == 0) (e.count % 250 == low) made in
+        let same : (not (e.change == last_flags past) || not (occurrence_of e == low)) ≡ false = elim (zero_or_some w.k) [
+          | inl none ↦ (
+              let at : s.count % 250 ≡ low = due_low s.count low w.k holds.tracked.count none w.low_is in
+              absurd (false≢true (sym apart ∙ eq-eqb (e.count % 250) low (ap (λ n. n % 250) count ∙ at)))
+              )
+          | inr more ↦ (
+              let stays = still plan s u w.k link w.is more in
+              let on = on_by plan u w.k stays.left more (omega (arith, w.below)) in
+              let info = noticed_information plan u on in
+              let change : e.change ≡ last_flags past = info.change ∙ ap (λ x. bits_of (change_of x u.next)) stays.current ∙ ap (λ x. bits_of (change_of s.current x)) stays.next ∙ sym (h.flags low some) in
+              let occurs : occurrence_of e ≡ low =
+              ap (λ o. unwrap_or o 0) info.occurrence ∙ ap (low_of_swap u.count) stays.left ∙ ap (λ n. (n + w.k) % 5000 % 250) link.count ∙ sym w.low_is in
+              both_not (e.change == last_flags past) (occurrence_of e == low) (eq-eqb e.change (last_flags past) change) (eq-eqb (occurrence_of e) low occurs)
+              )
+        ] in
+        ap (λ o. has_low o && (not (e.change == last_flags past) || not (occurrence_of e == unwrap_or o 0))) some ∙ same

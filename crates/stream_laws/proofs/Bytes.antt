@@ -1,0 +1,237 @@
+-- Entries that are heard in the bytes of a frame.
+use Rattle.std.proofs.Common.{◌≡◌, ℕ, zero, suc, ◌+◌, ◌*◌, ◌<◌, ◌≤◌, ◌%◌, Bool, true, false, List, [], ◌∷◌, ◌++◌, length, take, drop, get_or, Contains, Some, None, refl, sym, ap, ◌∙◌, subst, arith, inl, inr}
+use Rattle.std.specs.Prelude.{map}
+use Rattle.std.specs.List.{AllByRecursion}
+use Rattle.std.proofs.lemmas.Bool.{cases_lt}
+use Rattle.std.proofs.Math.Seq.{take-append_seam, drop-append-add}
+use Rattle.std.proofs.lemmas.List.{drop_all, length-append}
+use Rattle.std.proofs.lemmas.List.Elements.{Contains-append_left, Contains-append_right, Contains-append_cases}
+use Rattle.mux_types.proofs.Elements.{contains_cases, contains_first, contains_later, contains_none}
+use Rattle.fib_codec.specs.Grammar.{Fig, Open, Other, IsFib, IsFig, AreFigs, AreEntries, IsEntry, IsCounted, OneList, is_next, is_long}
+use Rattle.fib_codec.specs.Heard.{fib_at}
+use Rattle.fib_codec.specs.Laws.{IsByte, FibHas32Bytes}
+use Rattle.fib_reader.specs.Raw.{Raw, raw_of, entries_in}
+use Rattle.stream_check.specs.Frames.{Fib, Reads, Reading}
+use Rattle.stream_check.specs.History.{Item, items_of, fig_items, figs_items, fib_items, fibs_items, frame_items}
+use Rattle.stream_laws.specs.Notices.{IsFibBytes, AreFibBytes, row_of}
+use Rattle.stream_laws.proofs.Clean.{all_left, all_right}
+
+-- ---- the FIBs of a row
+
+pub at_place : (fibs : List (List ℕ)) (place : ℕ) (d : List ℕ) → AreFibBytes fibs → place < length fibs → fib_at (row_of fibs) place ≡ get_or fibs place d
+at_place [] place d all lt = absurd (omega (arith, lt))
+at_place (f ∷ fs) zero d all lt =
+    let size : length f ≡ 32 = all.0.0 in
+    ap (λ n. take n (f ++ row_of fs)) (sym size) ∙ take-append_seam f (row_of fs)
+at_place (f ∷ fs) (suc p) d all lt =
+    let size : length f ≡ 32 = all.0.0 in
+    let far : 32 * suc p ≡ length f + 32 * p = omega (arith, size) in
+    let less : p < length fs = omega (arith, lt) in
+    ap (take 32) (ap (λ n. drop n (f ++ row_of fs)) far ∙ drop-append-add f (row_of fs) (32 * p)) ∙ at_place fs p d all.1 less
+
+row_length : (fibs : List (List ℕ)) → AreFibBytes fibs → length (row_of fibs) ≡ 32 * length fibs
+row_length [] all = refl
+row_length (f ∷ fs) all =
+    let size : length f ≡ 32 = all.0.0 in
+    let rest : length (row_of fs) ≡ 32 * length fs = row_length fs all.1 in
+    length-append f (row_of fs) ∙ omega (arith, size, rest)
+
+past_end : (fibs : List (List ℕ)) (place : ℕ) → AreFibBytes fibs → length fibs ≤ place → fib_at (row_of fibs) place ≡ []
+past_end fibs place all le =
+    let far : length (row_of fibs) ≤ 32 * place = (let len = row_length fibs all in omega (arith, len, le)) in
+    ap (take 32) (drop_all (32 * place) (row_of fibs) far)
+
+pub in_row : FibHas32Bytes → (fibs : List (List ℕ)) (place : ℕ) (figs : List Fig) → AreFibBytes fibs → IsFib (fib_at (row_of fibs) place) figs → Contains fibs (fib_at (row_of fibs) place)
+in_row size fibs place figs all is = elim (cases_lt place (length fibs)) [
+  | inl lt ↦ (place, lt, sym (at_place fibs place (fib_at (row_of fibs) place) all lt))
+  | inr ge ↦ (let none : 0 ≡ 32 = ap length (sym (past_end fibs place all ge)) ∙ size (fib_at (row_of fibs) place) figs is in absurd (omega (arith, none)))
+]
+
+-- ---- maps
+
+pub contains_map : {X Y : Type 0} (f : X → Y) (xs : List X) (x : X) → Contains xs x → Contains (map f xs) (f x)
+contains_map f [] x h = absurd (contains_none x h)
+contains_map f (y ∷ ys) x h = elim (contains_cases y ys x h) [
+  | inl same ↦ subst (λ z. Contains (map f (y ∷ ys)) (f z)) same (contains_first (f y) (map f ys))
+  | inr more ↦ contains_later (f y) (map f ys) (f x) (contains_map f ys x more)
+]
+
+pub map_contains : {X Y : Type 0} (f : X → Y) (xs : List X) (y : Y) → Contains (map f xs) y → (x : X) × Contains xs x × (f x ≡ y)
+map_contains f [] y h = absurd (contains_none y h)
+map_contains f (x ∷ xs) y h = elim (contains_cases (f x) (map f xs) y h) [
+  | inl same ↦ (x, contains_first x xs, same)
+  | inr more ↦ (let there = map_contains f xs y more in (there.0, contains_later x xs there.0 there.1, there.2))
+]
+
+-- ---- an entry, in the FIB that says it
+
+pub record IsFrom (r : Reading) (fibs : List (List ℕ)) (i : Item) : Type 0 where
+  pub fib : List ℕ
+  pub figs : List Fig
+  pub second : ℕ
+  pub es : List (List ℕ)
+  pub bytes : List ℕ
+  pub inside : Contains fibs fib
+  pub read : r.read fib ≡ Some figs
+  pub fig_in : Contains figs (Open second es)
+  pub entry_in : Contains es bytes
+  pub raw_is : raw_of (second % 32) (is_long second) bytes ≡ i.raw
+  pub next_is : is_next second ≡ i.next
+
+record InFigs (figs : List Fig) (i : Item) : Type 0 where
+  second : ℕ
+  es : List (List ℕ)
+  bytes : List ℕ
+  fig_in : Contains figs (Open second es)
+  entry_in : Contains es bytes
+  raw_is : raw_of (second % 32) (is_long second) bytes ≡ i.raw
+  next_is : is_next second ≡ i.next
+
+figs_later : (f : Fig) (fs : List Fig) (i : Item) → InFigs fs i → InFigs (f ∷ fs) i
+figs_later f fs i h = record { second = h.second; es = h.es; bytes = h.bytes; fig_in = contains_later f fs (Open h.second h.es) h.fig_in; entry_in = h.entry_in; raw_is = h.raw_is; next_is = h.next_is }
+
+abbrev pub item_of : Bool → Bool → Raw → Item
+item_of first next raw = record { first = first; next = next; raw = raw }
+
+in_fig : (first : Bool) (f : Fig) (fs : List Fig) (i : Item) → Contains (fig_items first f) i → InFigs (f ∷ fs) i
+in_fig first (Open second es) fs i h =
+    let one = map_contains (item_of first (is_next second)) (entries_in (Open second es)) i h in
+    let two = map_contains (raw_of (second % 32) (is_long second)) es one.0 one.1 in
+    record {
+      second = second;
+      es = es;
+      bytes = two.0;
+      fig_in = contains_first (Open second es) fs;
+      entry_in = two.1;
+      raw_is = two.2 ∙ ap (λ (j : Item). j.raw) one.2;
+      next_is = ap (λ (j : Item). j.next) one.2;
+    }
+in_fig first (Other given) fs i h = absurd (contains_none i h)
+
+in_figs : (first : Bool) (fs : List Fig) (i : Item) → Contains (figs_items first fs) i → InFigs fs i
+in_figs first [] i h = absurd (contains_none i h)
+in_figs first (f ∷ fs) i h = elim (Contains-append_cases (fig_items first f) (figs_items false fs) i h) [
+  | inl here ↦ in_fig first f fs i here
+  | inr later ↦ figs_later f fs i (in_figs false fs i later)
+]
+
+from_later : (r : Reading) (fib : List ℕ) (fibs : List (List ℕ)) (i : Item) → IsFrom r fibs i → IsFrom r (fib ∷ fibs) i
+from_later r fib fibs i h = record { fib = h.fib; figs = h.figs; second = h.second; es = h.es; bytes = h.bytes; inside = contains_later fib fibs h.fib h.inside; read = h.read; fig_in = h.fig_in; entry_in = h.entry_in; raw_is = h.raw_is; next_is = h.next_is }
+
+from_first : (r : Reading) (first : Bool) (fib : List ℕ) (fibs : List (List ℕ)) (i : Item) (read : Fib) → r.read fib ≡ read → Contains (fib_items first read) i → IsFrom r (fib ∷ fibs) i
+from_first r first fib fibs i None e h = absurd (contains_none i h)
+from_first r first fib fibs i (Some figs) e h =
+    let one = in_figs first figs i h in
+    record { fib = fib; figs = figs; second = one.second; es = one.es; bytes = one.bytes; inside = contains_first fib fibs; read = e; fig_in = one.fig_in; entry_in = one.entry_in; raw_is = one.raw_is; next_is = one.next_is }
+
+from_fibs : (r : Reading) (first : Bool) (fibs : List (List ℕ)) (i : Item) → Contains (fibs_items first (map r.read fibs)) i → IsFrom r fibs i
+from_fibs r first [] i h = absurd (contains_none i h)
+from_fibs r first (fib ∷ fibs) i h = elim (Contains-append_cases (fib_items first (r.read fib)) (fibs_items false (map r.read fibs)) i h) [
+  | inl here ↦ from_first r first fib fibs i (r.read fib) refl here
+  | inr later ↦ from_later r fib fibs i (from_fibs r false fibs i later)
+]
+
+pub item_from : (r : Reading) (fibs : List (List ℕ)) (i : Item) → Contains (frame_items (map r.read fibs)) i → IsFrom r fibs i
+item_from r fibs i h = from_fibs r true fibs i h
+
+pub read_fib : (r : Reading) (fib : List ℕ) (figs : List Fig) → r.read fib ≡ Some figs → IsFib fib figs
+read_fib r fib figs e = subst (Reads fib) e (r.right fib)
+
+-- ---- an entry of a FIB is said
+
+fig_said : (first next : Bool) (raw : Raw) (raws : List Raw) → Contains raws raw → Contains (items_of first next raws) (item_of first next raw)
+fig_said first next raw raws h = contains_map (item_of first next) raws raw h
+
+figs_said : (first : Bool) (figs : List Fig) (second : ℕ) (es : List (List ℕ)) (bytes : List ℕ) → Contains figs (Open second es) → Contains es bytes
+    → (b : Bool) × Contains (figs_items first figs) (item_of b (is_next second) (raw_of (second % 32) (is_long second) bytes))
+figs_said first [] second es bytes h e = absurd (contains_none (Open second es) h)
+figs_said first (f ∷ fs) second es bytes h e = elim (contains_cases f fs (Open second es) h) [
+  | inl same ↦ (
+    first,
+    subst (λ (g : Fig). Contains (fig_items first g ++ figs_items false fs) (item_of first (is_next second) (raw_of (second % 32) (is_long second) bytes))) (sym same)
+        (Contains-append_left (fig_items first (Open second es)) (figs_items false fs) (item_of first (is_next second) (raw_of (second % 32) (is_long second) bytes))
+        (fig_said first (is_next second) (raw_of (second % 32) (is_long second) bytes) (entries_in (Open second es)) (contains_map (raw_of (second % 32) (is_long second)) es bytes e))),
+  )
+  | inr more ↦ (let there = figs_said false fs second es bytes more e in
+      (there.0, Contains-append_right (fig_items first f) (figs_items false fs) (item_of there.0 (is_next second) (raw_of (second % 32) (is_long second) bytes)) there.1))
+]
+
+fibs_said : (r : Reading) (first : Bool) (fibs : List (List ℕ)) (fib : List ℕ) (figs : List Fig) (second : ℕ) (es : List (List ℕ)) (bytes : List ℕ)
+    → Contains fibs fib → r.read fib ≡ Some figs → Contains figs (Open second es) → Contains es bytes
+    → (b : Bool) × Contains (fibs_items first (map r.read fibs)) (item_of b (is_next second) (raw_of (second % 32) (is_long second) bytes))
+fibs_said r first [] fib figs second es bytes inside read f e = absurd (contains_none fib inside)
+fibs_said r first (g ∷ gs) fib figs second es bytes inside read f e = elim (contains_cases g gs fib inside) [
+  | inl same ↦ (let there = figs_said first figs second es bytes f e in
+      let is : Some figs ≡ r.read g = sym read ∙ ap r.read (sym same) in (
+        there.0,
+        Contains-append_left (fib_items first (r.read g)) (fibs_items false (map r.read gs)) (item_of there.0 (is_next second) (raw_of (second % 32) (is_long second) bytes))
+            (subst (λ (x : Fib). Contains (fib_items first x) (item_of there.0 (is_next second) (raw_of (second % 32) (is_long second) bytes))) is there.1),
+      ))
+  | inr more ↦ (let there = fibs_said r false gs fib figs second es bytes more read f e in
+      (there.0, Contains-append_right (fib_items first (r.read g)) (fibs_items false (map r.read gs)) (item_of there.0 (is_next second) (raw_of (second % 32) (is_long second) bytes)) there.1))
+]
+
+same_figs : OneList → (r : Reading) (fib : List ℕ) (figs : List Fig) → IsFib fib figs → (read : Fib) → r.read fib ≡ read → Reads fib read → r.read fib ≡ Some figs
+same_figs one r fib figs is None e h = absurd (h figs is)
+same_figs one r fib figs is (Some found) e h = e ∙ ap Some (one fib found figs h is)
+
+-- an entry that stands in a FIB of the row
+pub said_in : FibHas32Bytes → OneList → (r : Reading) (fibs : List (List ℕ)) (place : ℕ) (figs : List Fig) (second : ℕ) (es : List (List ℕ)) (bytes : List ℕ) → AreFibBytes fibs
+    → IsFib (fib_at (row_of fibs) place) figs → Contains figs (Open second es) → Contains es bytes
+    → (b : Bool) × Contains (frame_items (map r.read fibs)) (item_of b (is_next second) (raw_of (second % 32) (is_long second) bytes))
+said_in size one r fibs place figs second es bytes all is f e =
+    let fib : List ℕ = fib_at (row_of fibs) place in
+    fibs_said r true fibs fib figs second es bytes (in_row size fibs place figs all is) (same_figs one r fib figs is (r.read fib) refl (r.right fib)) f e
+
+-- ---- a FIG, and an entry of it
+
+each_take : {X : Type 0} (P : X → Type 0) (n : ℕ) (xs : List X) → AllByRecursion P xs → AllByRecursion P (take n xs)
+each_take P zero xs all = tt
+each_take P (suc n) [] all = tt
+each_take P (suc n) (x ∷ xs) all = (all.0, each_take P n xs all.1)
+
+pub record IsFigOf (f : Fig) : Type 0 where
+  pub bytes : List ℕ
+  pub is : IsFig bytes f
+  pub small : AllByRecursion IsByte bytes
+
+fig_among : (bytes : List ℕ) (figs : List Fig) (f : Fig) → AreFigs bytes figs → AllByRecursion IsByte bytes → Contains figs f → IsFigOf f
+fig_among bytes [] f are small h = absurd (contains_none f h)
+fig_among bytes (g ∷ gs) f are small h =
+    let both : AllByRecursion IsByte (are.0 ++ are.1) = subst (AllByRecursion IsByte) are.2 small in
+    elim (contains_cases g gs f h) [
+      | inl same ↦ record { bytes = are.0; is = subst (IsFig are.0) same are.3; small = all_left IsByte are.0 are.1 both }
+      | inr more ↦ fig_among are.1 gs f are.4 (all_right IsByte are.0 are.1 both) more
+    ]
+
+pub fig_of_fib : (fib : List ℕ) (figs : List Fig) (f : Fig) → IsFib fib figs → IsFibBytes fib → Contains figs f → IsFigOf f
+fig_of_fib fib figs f is bytes h = fig_among (take 30 fib) figs f is.1 (each_take IsByte 30 fib bytes.1) h
+
+entry_among : (ext : ℕ) (long : Bool) (bytes : List ℕ) (es : List (List ℕ)) (e : List ℕ) → AreEntries ext long bytes es → AllByRecursion IsByte bytes → Contains es e
+    → IsEntry ext long e × AllByRecursion IsByte e
+entry_among ext long bytes [] e are small h = absurd (contains_none e h)
+entry_among ext long bytes (x ∷ xs) e are small h =
+    let both : AllByRecursion IsByte (x ++ are.0) = subst (AllByRecursion IsByte) are.1 small in
+    elim (contains_cases x xs e h) [
+      | inl same ↦ (subst (IsEntry ext long) same are.2, subst (AllByRecursion IsByte) same (all_left IsByte x are.0 both))
+      | inr more ↦ entry_among ext long are.0 xs e are.3 (all_right IsByte x are.0 both) more
+    ]
+
+-- the bytes of a FIG 0/0
+pub record IsEnsembleBytes (bytes : List ℕ) : Type 0 where
+  pub whole : IsEntry 0 false bytes
+  pub counted : IsCounted bytes
+  pub small : AllByRecursion IsByte bytes
+
+pub ensemble_among : (second : ℕ) (es : List (List ℕ)) (e : List ℕ) → IsFigOf (Open second es) → second % 32 ≡ 0 → Contains es e → IsEnsembleBytes e
+ensemble_among second es e f ext h =
+    let header : (1 + length f.is.0) ∷ second ∷ f.is.0 ≡ f.bytes = sym f.is.1 in
+    let small : AllByRecursion IsByte ((1 + length f.is.0) ∷ second ∷ f.is.0) = subst (AllByRecursion IsByte) (sym header) f.small in
+    let one = entry_among (second % 32) (is_long second) f.is.0 es e f.is.4.0 small.1.1 h in
+    let alone = f.is.4.1 ext in
+    let same : alone.0 ≡ e = elim (contains_cases alone.0 [] e (subst (λ (xs : List (List ℕ)). Contains xs e) alone.1 h)) [ inl s ↦ s | inr none ↦ absurd (contains_none e none) ] in
+    record {
+      whole = subst (λ (n : ℕ). IsEntry n (is_long second) e) ext one.0;
+      counted = subst IsCounted same alone.2;
+      small = one.1;
+    }

@@ -1,0 +1,107 @@
+-- Streams without a fault, entry by entry.
+use Rattle.std.proofs.Common.{◌≡◌, ℕ, true, false, cond, List, [], ◌∷◌, ◌++◌, map, refl, sym, subst}
+use Rattle.std.specs.List.{AllByRecursion}
+use Rattle.std.proofs.lemmas.Bool.{false≢true}
+use Rattle.stream_check.specs.declared.finding.What.{What}
+use Rattle.stream_check.specs.declared.finding.Finding.{Finding}
+use Rattle.stream_check.specs.declared.telling.FrameAt.{FrameAt}
+use Rattle.stream_check.specs.Telling.{in_frame}
+use Rattle.stream_check.specs.Frames.{Fib}
+use Rattle.stream_check.specs.History.{Item, Moment, Said, Ended, said, frame_items, due}
+use Rattle.stream_check.specs.Rules.{known_of, findings_at, has_no_room}
+use Rattle.stream_check.specs.Stream.{findings_at_items, runs_full, frame_findings, frame_at, findings_in, after_frame, findings_of, after_frames, frames_full}
+use Rattle.stream_laws.specs.Faultless.{IsNoFault, IsFaultless, IsSaidIn}
+
+pub all_left : {X : Type 0} (P : X → Type 0) (xs ys : List X) → AllByRecursion P (xs ++ ys) → AllByRecursion P xs
+all_left P [] ys all = tt
+all_left P (x ∷ xs) ys all = (all.0, all_left P xs ys all.1)
+
+pub all_right : {X : Type 0} (P : X → Type 0) (xs ys : List X) → AllByRecursion P (xs ++ ys) → AllByRecursion P ys
+all_right P [] ys all = all
+all_right P (x ∷ xs) ys all = all_right P xs ys all.1
+
+-- ---- each entry
+
+-- no entry that was said is a fault, and there was room for each
+abbrev pub IsClean : ℕ → ℕ → List Moment → Type 0
+IsClean step period [] = Unit {0}
+IsClean step period (Said i ∷ past) =
+    AllByRecursion IsNoFault (findings_at (known_of step period past) i)
+    × (has_no_room (known_of step period past) i ≡ false) × IsClean step period past
+IsClean step period (Ended count ∷ past) = IsClean step period past
+
+items_clean : (step period : ℕ) (items : List Item) (past : List Moment) → runs_full step period past items ≡ false
+    → AllByRecursion IsNoFault (findings_at_items step period past items) → IsClean step period past → IsClean step period (said items past)
+items_clean step period [] past room plain clean = clean
+items_clean step period (i ∷ is) past room plain clean =
+    elim (has_no_room (known_of step period past) i) as (λ t. has_no_room (known_of step period past) i ≡ t → cond t true (runs_full step period (Said i ∷ past) is) ≡ false
+    → AllByRecursion IsNoFault (cond t [] (findings_at (known_of step period past) i ++ findings_at_items step period (Said i ∷ past) is)) → IsClean step period (said is (Said i ∷ past))) [
+      | true ↦ λ e r p. absurd (false≢true (sym r))
+      | false ↦ λ e r p.
+          let here = all_left IsNoFault (findings_at (known_of step period past) i) (findings_at_items step period (Said i ∷ past) is) p in
+          let later = all_right IsNoFault (findings_at (known_of step period past) i) (findings_at_items step period (Said i ∷ past) is) p in
+          items_clean step period is (Said i ∷ past) r later (here, e, clean)
+    ] refl room plain
+
+told_alone : (at : FrameAt) (ws : List What) → AllByRecursion (λ (found : Finding). IsNoFault found.what) (map (in_frame at) ws) → AllByRecursion IsNoFault ws
+told_alone at [] all = tt
+told_alone at (w ∷ ws) all = (all.0, told_alone at ws all.1)
+
+frames_clean : (size step period : ℕ) (frames : List (List Fib)) (past : List Moment) → frames_full step period past frames ≡ false
+    → AllByRecursion (λ (found : Finding). IsNoFault found.what) (findings_of size step period past frames) → IsClean step period past → IsClean step period (after_frames step past frames)
+frames_clean size step period [] past room plain clean = clean
+frames_clean size step period (frame ∷ frames) past room plain clean =
+    let here = told_alone (frame_at step past frame) _ (all_left (λ (found : Finding). IsNoFault found.what) (findings_in size step period past frame) _ plain) in
+    let rest = all_right (λ (found : Finding). IsNoFault found.what) (findings_in size step period past frame) _ plain in
+    elim (runs_full step period past (frame_items frame)) as (λ t. runs_full step period past (frame_items frame) ≡ t → cond t true (frames_full step period (after_frame step past frame) frames) ≡ false
+    → AllByRecursion (λ (found : Finding). IsNoFault found.what) (cond t [] (findings_of size step period (after_frame step past frame) frames)) → IsClean step period (after_frames step (after_frame step past frame) frames)) [
+      | true ↦ λ e r p. absurd (false≢true (sym r))
+      | false ↦ λ e r p.
+          let items = all_left IsNoFault (findings_at_items step period past (frame_items frame)) _ (all_right IsNoFault (frame_findings size step (due past) frame) _ here) in
+          frames_clean size step period frames (after_frame step past frame) r p (items_clean step period (frame_items frame) past e items clean)
+    ] refl room rest
+
+pub all_clean : (size step period : ℕ) (frames : List (List Fib)) → IsFaultless size step period frames → IsClean step period (after_frames step [] frames)
+all_clean size step period frames f = frames_clean size step period frames [] f.room f.plain tt
+
+-- ---- what holds of all that was said held before
+
+pub record IsHanded (P : List Moment → Type 0) : Type 0 where
+  pub by_entry : (i : Item) (past : List Moment) → P (Said i ∷ past) → P past
+  pub by_frame : (count : ℕ) (past : List Moment) → P (Ended count ∷ past) → P past
+
+pub before_said : (P : List Moment → Type 0) → IsHanded P → (items : List Item) (past : List Moment) → P (said items past) → P past
+before_said P h [] past p = p
+before_said P h (i ∷ is) past p = h.by_entry i past (before_said P h is (Said i ∷ past) p)
+
+before_frames : (P : List Moment → Type 0) → IsHanded P → (step : ℕ) (frames : List (List Fib)) (past : List Moment) → P (after_frames step past frames) → P past
+before_frames P h step [] past p = p
+before_frames P h step (frame ∷ frames) past p =
+    before_said P h (frame_items frame) past (h.by_frame _ (said (frame_items frame) past) (before_frames P h step frames (after_frame step past frame) p))
+
+pub frames_twice : (step : ℕ) (xs ys : List (List Fib)) (past : List Moment) → after_frames step past (xs ++ ys) ≡ after_frames step (after_frames step past xs) ys
+frames_twice step [] ys past = refl
+frames_twice step (x ∷ xs) ys past = frames_twice step xs ys (after_frame step past x)
+
+pub said_twice : (xs ys : List Item) (past : List Moment) → said (xs ++ ys) past ≡ said ys (said xs past)
+said_twice [] ys past = refl
+said_twice (x ∷ xs) ys past = said_twice xs ys (Said x ∷ past)
+
+-- so it holds after each entry
+pub after_entry : (P : List Moment → Type 0) → IsHanded P → (step : ℕ) (frames : List (List Fib)) (past : List Moment) (i : Item) → IsSaidIn step frames past i
+    → P (after_frames step [] frames) → P (Said i ∷ past)
+after_entry P h step frames past i s p =
+    let start : List Moment = after_frames step [] s.before in
+    let whole : P (after_frames step start (s.frame ∷ s.after)) =
+    subst P (frames_twice step s.before (s.frame ∷ s.after) []) (subst (λ (fs : List (List Fib)). P (after_frames step [] fs)) s.frames_are p) in
+    let framed : P (said (frame_items s.frame) start) = h.by_frame _ (said (frame_items s.frame) start) (before_frames P h step s.after (after_frame step start s.frame) whole) in
+    let split : P (said (s.front ++ i ∷ s.back) start) = subst (λ (is : List Item). P (said is start)) s.items_are framed in
+    let parted : P (said s.back (Said i ∷ said s.front start)) = subst P (said_twice s.front (i ∷ s.back) start) split in
+    subst (λ (l : List Moment). P (Said i ∷ l)) (sym s.past_is) (before_said P h s.back (Said i ∷ said s.front start) parted)
+
+clean_handed : (step period : ℕ) → IsHanded (IsClean step period)
+clean_handed step period = record { by_entry = λ i past c. c.2; by_frame = λ count past c. c }
+
+pub entry_clean : (size step period : ℕ) (frames : List (List Fib)) (past : List Moment) (i : Item) → IsFaultless size step period frames → IsSaidIn step frames past i
+    → IsClean step period (Said i ∷ past)
+entry_clean size step period frames past i f s = after_entry (IsClean step period) (clean_handed step period) step frames past i s (all_clean size step period frames f)

@@ -1,0 +1,283 @@
+-- The frames of a run, as the check of a stream cuts them.
+use Rattle.std.proofs.Common.{◌≡◌, ◌≢◌, ℕ, zero, suc, ◌+◌, ◌-◌, ◌<◌, ◌≤◌, ◌%◌, Bool, false, cond, List, [], ◌∷◌, ◌++◌, length, flat_map, Contains, Some, None, refl, sym, ap, ◌∙◌, subst, arith, inl, inr}
+use Rattle.std.specs.Prelude.{map}
+use Rattle.std.specs.List.{AllByRecursion}
+use Rattle.std.proofs.lemmas.Bool.{eq-eqb, ne_eqb}
+use Rattle.std.proofs.lemmas.List.{append_assoc, append-nil, map-append, length-map}
+use Rattle.std.proofs.lemmas.List.Concat.{flat_map-append}
+use Rattle.mux_types.proofs.Elements.{contains_cases, contains_none}
+use Rattle.mux_entries.specs.Entries.{EnsembleInformation}
+use Rattle.mux_entries.specs.Facts.{marked}
+use Rattle.mux_entries.specs.declared.entry.Entry.TheVariants.{Ensemble as EnsembleOf}
+use Rattle.fib_codec.specs.Grammar.{Fig, Open, Other, IsFib, IsFig, OneList, is_next, is_long}
+use Rattle.fib_codec.specs.Heard.{IsInFig, fib_at}
+use Rattle.fib_codec.specs.declared.modes.Mode.{Mode}
+use Rattle.fib_codec.specs.declared.modes.Mode.TheVariants.{I, II, III, IV}
+use Rattle.fib_codec.specs.Modes.{fib_count, count_step}
+use Rattle.fib_reader.specs.Raw.{raw_of, entries_in, ensemble_in}
+use Rattle.fib_reader.specs.Laws.{EnsembleIsHeard}
+use Rattle.stream_check.specs.Frames.{Fib, Reads, Reading, is_damaged, first_raw, first_or, first_in_figs, first_in, opening_in_figs, opening, is_there, begins_with_ensemble, holds_ensemble, IsOneFrame, AreFrames, HoldsFirst}
+use Rattle.stream_check.specs.History.{Item, items_of, fig_items, figs_items, fib_items, fibs_items}
+use Rattle.plan_code.specs.declared.plan.Plan.{Plan}
+use Rattle.plan_code.specs.Program.{Program}
+use Rattle.plan_code.specs.Machine.{State}
+use Rattle.plan_runs.specs.declared.event.Event.{Event}
+use Rattle.plan_runs.specs.declared.event.Event.TheVariants.{Contact, Frame}
+use Rattle.plan_runs.specs.Frames.{shown, frame_bytes, after_frame}
+use Rattle.plan_runs.specs.Runs.{happens, run, run_frames}
+use Rattle.plan_runs.specs.RightBytes.{IsNoHeader, IsHeadedBy, IsUnheaded, IsRight, FramesAreRight}
+use Rattle.plan_runs.specs.Headline.{HeadlineHolds}
+use Rattle.plan_runs.specs.Listening.{fibs_from, fibs_of, HasCount}
+use Rattle.plan_runs.proofs.Clock.{shown_count}
+use Rattle.plan_runs.specs.Announced.{RunsJoin}
+use Rattle.stream_laws.specs.Notices.{read_frames}
+use Rattle.stream_laws.specs.Framing.{frames_of, RunsAreFramed}
+use Rattle.stream_laws.proofs.Rows.{HasNone}
+
+-- ---- a FIB
+
+no_ext : (ext : ℕ) (long : Bool) (es : List (List ℕ)) → ext ≢ 0 → first_raw (map (raw_of ext long) es) ≡ None
+no_ext ext long [] other = refl
+no_ext ext long (e ∷ es) other = ap (λ t. cond t (Some (ensemble_in (raw_of ext long e))) (first_raw (map (raw_of ext long) es))) (ne_eqb ext 0 other) ∙ no_ext ext long es other
+
+fig_unheaded : (f : Fig) → IsNoHeader f → first_raw (entries_in f) ≡ None
+fig_unheaded (Open second es) free = no_ext (second % 32) (is_long second) es free
+fig_unheaded (Other given) free = refl
+
+figs_unheaded : (figs : List Fig) → AllByRecursion IsNoHeader figs → first_in_figs figs ≡ None
+figs_unheaded [] all = refl
+figs_unheaded (f ∷ fs) all = ap (λ o. first_or o (first_in_figs fs)) (fig_unheaded f all.0) ∙ figs_unheaded fs all.1
+
+opening_unheaded : (figs : List Fig) → AllByRecursion IsNoHeader figs → opening_in_figs figs ≡ None
+opening_unheaded [] all = refl
+opening_unheaded (f ∷ fs) all = fig_unheaded f all.0
+
+read_as : OneList → (r : Reading) (bytes : List ℕ) (figs : List Fig) → IsFib bytes figs → (read : Fib) → r.read bytes ≡ read → Reads bytes read → r.read bytes ≡ Some figs
+read_as one r bytes figs is None e h = absurd (h figs is)
+read_as one r bytes figs is (Some found) e h = e ∙ ap Some (one bytes found figs h is)
+
+pub is_read : OneList → (r : Reading) (bytes : List ℕ) (figs : List Fig) → IsFib bytes figs → r.read bytes ≡ Some figs
+is_read one r bytes figs is = read_as one r bytes figs is (r.read bytes) refl (r.right bytes)
+
+-- a FIB without a FIG 0/0
+pub record IsQuiet (fib : Fib) : Type 0 where
+  pub whole : is_damaged fib ≡ false
+  pub opens : opening fib ≡ None
+  pub holds : first_in fib ≡ None
+  pub none : (first : Bool) → HasNone (fib_items first fib)
+
+no_items : (first next long : Bool) (ext : ℕ) (es : List (List ℕ)) → ext ≢ 0 → HasNone (items_of first next (map (raw_of ext long) es))
+no_items first next long ext [] other = tt
+no_items first next long ext (e ∷ es) other = (ne_eqb ext 0 other, no_items first next long ext es other)
+
+fig_none : (first : Bool) (f : Fig) → IsNoHeader f → HasNone (fig_items first f)
+fig_none first (Open second es) free = no_items first (is_next second) (is_long second) (second % 32) es free
+fig_none first (Other given) free = tt
+
+none_both : (xs ys : List Item) → HasNone xs → HasNone ys → HasNone (xs ++ ys)
+none_both [] ys a b = b
+none_both (x ∷ xs) ys a b = (a.0, none_both xs ys a.1 b)
+
+pub figs_none : (first : Bool) (figs : List Fig) → AllByRecursion IsNoHeader figs → HasNone (figs_items first figs)
+figs_none first [] all = tt
+figs_none first (f ∷ fs) all = none_both (fig_items first f) (figs_items false fs) (fig_none first f all.0) (figs_none false fs all.1)
+
+pub fibs_none : (first : Bool) (fibs : List Fib) → AllByRecursion IsQuiet fibs → HasNone (fibs_items first fibs)
+fibs_none first [] all = tt
+fibs_none first (f ∷ fs) all = none_both (fib_items first f) (fibs_items false fs) (all.0.none first) (fibs_none false fs all.1)
+
+pub quiet_fib : OneList → (r : Reading) (bytes : List ℕ) → IsUnheaded bytes → IsQuiet (r.read bytes)
+quiet_fib one r bytes h =
+    let is = is_read one r bytes h.0 h.1 in
+    record {
+      whole = ap is_damaged is;
+      opens = ap opening is ∙ opening_unheaded h.0 h.2;
+      holds = ap first_in is ∙ figs_unheaded h.0 h.2;
+      none = λ first. subst (λ (fib : Fib). HasNone (fib_items first fib)) (sym is) (figs_none first h.0 h.2);
+    }
+
+-- and one that begins with it
+pub record IsHeading (fib : Fib) (e : EnsembleInformation) : Type 0 where
+  pub whole : is_damaged fib ≡ false
+  pub opens : opening fib ≡ Some e
+  pub holds : first_in fib ≡ Some e
+
+-- a FIG 0/0 has one entry
+pub record IsOneHeader (header : Fig) (e : EnsembleInformation) : Type 0 where
+  pub second : ℕ
+  pub bytes : List ℕ
+  pub is : header ≡ Open second (bytes ∷ [])
+  pub ext : second % 32 ≡ 0
+  pub says : ensemble_in (raw_of (second % 32) (is_long second) bytes) ≡ e
+
+pub one_header : EnsembleIsHeard → (front : List ℕ) (header : Fig) (e : EnsembleInformation) → IsFig front header → IsInFig header (marked false (EnsembleOf e)) → IsOneHeader header e
+one_header heard front (Other given) e is h = absurd h
+one_header heard front (Open second es) e is h =
+    let ext : second % 32 ≡ 0 = h.2.ext in
+    let alone = is.4.1 ext in
+    let same : alone.0 ≡ h.0 = elim (contains_cases alone.0 [] h.0 (subst (λ (xs : List (List ℕ)). Contains xs h.0) alone.1 h.1)) [ inl one ↦ one | inr none ↦ absurd (contains_none h.0 none) ] in
+    record {
+      second = second;
+      bytes = h.0;
+      is = ap (Open second) (alone.1 ∙ ap (λ x. x ∷ []) same);
+      ext = ext;
+      says = ap (λ bs. ensemble_in (record { ext = 0; long = false; bytes = bs })) h.2.spelled ∙ heard e h.2.within;
+    }
+
+heading_raw : (header : Fig) (e : EnsembleInformation) → IsOneHeader header e → first_raw (entries_in header) ≡ Some e
+heading_raw header e h =
+    ap (λ f. first_raw (entries_in f)) h.is
+    ∙ ap (λ t. cond t (Some (ensemble_in (raw_of (h.second % 32) (is_long h.second) h.bytes))) None) (eq-eqb (h.second % 32) 0 h.ext)
+    ∙ ap Some h.says
+
+pub header_of : EnsembleIsHeard → (plan : Plan) (u : State) (bytes : List ℕ) (h : IsHeadedBy plan u bytes) → IsOneHeader h.header h.information
+header_of heard plan u bytes h = one_header heard h.first.1.0 h.header h.information h.first.1.3 h.says
+
+pub heading_fib : OneList → EnsembleIsHeard → (r : Reading) (plan : Plan) (u : State) (bytes : List ℕ) (h : IsHeadedBy plan u bytes) → IsHeading (r.read bytes) h.information
+heading_fib one heard r plan u bytes h =
+    let is = is_read one r bytes (h.header ∷ h.others) h.first in
+    let raw = heading_raw h.header h.information (header_of heard plan u bytes h) in
+    record {
+      whole = ap is_damaged is;
+      opens = ap opening is ∙ raw;
+      holds = ap first_in is ∙ ap (λ o. first_or o (first_in_figs h.others)) raw;
+    }
+
+-- ---- a frame
+
+abbrev pub later_fibs : Mode → List ℕ → List (List ℕ)
+later_fibs mode frame = fibs_from (fib_count mode - 1) 1 frame
+
+pub first_of_fibs : (mode : Mode) (frame : List ℕ) → fibs_from (fib_count mode) 0 frame ≡ fib_at frame 0 ∷ later_fibs mode frame
+first_of_fibs I frame = refl
+first_of_fibs II frame = refl
+first_of_fibs III frame = refl
+first_of_fibs IV frame = refl
+
+few_fibs : (mode : Mode) → 1 ≤ fib_count mode
+few_fibs I = omega arith
+few_fibs II = omega arith
+few_fibs III = omega arith
+few_fibs IV = omega arith
+
+fibs_length : (count n : ℕ) (frame : List ℕ) → length (fibs_from count n frame) ≡ count
+fibs_length zero n frame = refl
+fibs_length (suc count) n frame = ap suc (fibs_length count (n + 1) frame)
+
+quiet_from : OneList → (r : Reading) (frame : List ℕ) (count n : ℕ) → ((k : ℕ) → n ≤ k → k < n + count → IsUnheaded (fib_at frame k)) → AllByRecursion IsQuiet (map r.read (fibs_from count n frame))
+quiet_from one r frame zero n all = tt
+quiet_from one r frame (suc count) n all = (
+  quiet_fib one r (fib_at frame n) (all n (omega arith) (omega arith)),
+  quiet_from one r frame count (n + 1) (λ k low high. all k (omega (arith, low)) (omega (arith, high))),
+)
+
+pub later_quiet : OneList → (r : Reading) (plan : Plan) (u : State) (frame : List ℕ) → IsRight plan u frame → AllByRecursion IsQuiet (map r.read (later_fibs plan.mode frame))
+later_quiet one r plan u frame h =
+    let few = few_fibs plan.mode in
+    quiet_from one r frame (fib_count plan.mode - 1) 1 (λ k low high. h.others_unheaded k low (omega (arith, high, few)))
+
+no_later : (fibs : List Fib) → AllByRecursion IsQuiet fibs → AllByRecursion (λ later. begins_with_ensemble later ≡ false) fibs
+no_later [] all = tt
+no_later (f ∷ fs) all = (ap is_there all.0.opens, no_later fs all.1)
+
+none_held : (fibs : List Fib) → AllByRecursion IsQuiet fibs → AllByRecursion (λ fib. holds_ensemble fib ≡ false) fibs
+none_held [] all = tt
+none_held (f ∷ fs) all = (ap is_there all.0.holds, none_held fs all.1)
+
+-- the frame of a state, as it is read
+abbrev pub read_frame : Reading → Mode → List ℕ → List Fib
+read_frame r mode frame = map r.read (fibs_from (fib_count mode) 0 frame)
+
+one_frame : OneList → (r : Reading) (plan : Plan) (u : State) (frame : List ℕ) → IsRight plan u frame → IsOneFrame (read_frame r plan.mode frame)
+one_frame one r plan u frame h = subst (λ (fs : List (List ℕ)). IsOneFrame (map r.read fs)) (sym (first_of_fibs plan.mode frame)) (no_later (map r.read (later_fibs plan.mode frame)) (later_quiet one r plan u frame h))
+
+pub frame_size : (r : Reading) (mode : Mode) (frame : List ℕ) → length (read_frame r mode frame) ≡ fib_count mode
+frame_size r mode frame = length-map (fibs_from (fib_count mode) 0 frame) r.read ∙ fibs_length (fib_count mode) 0 frame
+
+-- a frame at a count that the step doesn't divide
+pub all_quiet : OneList → (r : Reading) (plan : Plan) (u : State) (frame : List ℕ) → IsRight plan u frame → u.count % count_step plan.mode ≢ 0 → AllByRecursion IsQuiet (read_frame r plan.mode frame)
+all_quiet one r plan u frame h off =
+    subst (λ (fs : List (List ℕ)). AllByRecursion IsQuiet (map r.read fs)) (sym (first_of_fibs plan.mode frame))
+    (quiet_fib one r (fib_at frame 0) (h.unheaded off), later_quiet one r plan u frame h)
+
+pub all_append : {X : Type 0} (P : X → Type 0) (xs ys : List X) → AllByRecursion P xs → AllByRecursion P ys → AllByRecursion P (xs ++ ys)
+all_append P [] ys a b = b
+all_append P (x ∷ xs) ys a b = (a.0, all_append P xs ys a.1 b)
+
+-- ---- frames of a run
+
+are_frames : OneList → (r : Reading) (p : Program) (s : State) (events : List Event) → FramesAreRight p s events
+    → AreFrames (fib_count p.plan.mode) (read_frames r (frames_of p.plan.mode (run_frames p s events))) []
+are_frames one r p s [] all = tt
+are_frames one r p s (Contact c closed ∷ es) all = are_frames one r p (happens p s (Contact c closed)) es all
+are_frames one r p s (Frame ∷ es) all =
+    let size = frame_size r p.plan.mode (frame_bytes p s) in (
+      one_frame one r p.plan (shown p s) (frame_bytes p s) all.0,
+      omega (arith, size),
+      (λ short. absurd (omega (arith, size, short))),
+      are_frames one r p (after_frame p s) es all.1,
+    )
+
+pub right_after : (p : Program) (s : State) (waiting events : List Event) → FramesAreRight p s (waiting ++ events) → FramesAreRight p (run p s waiting) events
+right_after p s [] events all = all
+right_after p s (Contact c closed ∷ es) events all = right_after p (happens p s (Contact c closed)) es events all
+right_after p s (Frame ∷ es) events all = right_after p (after_frame p s) es events all.1
+
+right_before : (p : Program) (s : State) (waiting events : List Event) → FramesAreRight p s (waiting ++ events) → FramesAreRight p s waiting
+right_before p s [] events all = tt
+right_before p s (Contact c closed ∷ es) events all = right_before p (happens p s (Contact c closed)) es events all
+right_before p s (Frame ∷ es) events all = (all.0, right_before p (after_frame p s) es events all.1)
+
+-- before the first FIG 0/0
+are_quiet : OneList → (r : Reading) (p : Program) (s : State) (waiting : List Event) → FramesAreRight p s waiting → (HasCount p s waiting → ⊥)
+    → AllByRecursion IsQuiet (map r.read (fibs_of p.plan.mode (run_frames p s waiting)))
+are_quiet one r p s [] all off = tt
+are_quiet one r p s (Contact c closed ∷ es) all off = are_quiet one r p (happens p s (Contact c closed)) es all off
+are_quiet one r p s (Frame ∷ es) all off =
+    let not_now : (shown p s).count % count_step p.plan.mode ≢ 0 = λ e. off (inl (ap (λ n. n % count_step p.plan.mode) (sym (shown_count p s)) ∙ e)) in
+    subst (AllByRecursion IsQuiet) (sym (map-append r.read (fibs_from (fib_count p.plan.mode) 0 (frame_bytes p s)) (fibs_of p.plan.mode (run_frames p (after_frame p s) es))))
+    (all_append IsQuiet (read_frame r p.plan.mode (frame_bytes p s)) (map r.read (fibs_of p.plan.mode (run_frames p (after_frame p s) es)))
+    (all_quiet one r p.plan (shown p s) (frame_bytes p s) all.0 not_now)
+    (are_quiet one r p (after_frame p s) es all.1 (λ h. off (inr h))))
+
+-- and from it on
+holds_more : (xs ys : List Fib) → 1 ≤ length xs → HoldsFirst xs → HoldsFirst (xs ++ ys)
+holds_more [] ys some h = absurd (omega (arith, some))
+holds_more (x ∷ xs) ys some h = h
+
+heads : OneList → EnsembleIsHeard → (r : Reading) (plan : Plan) (u : State) (frame : List ℕ) → IsRight plan u frame → u.count % count_step plan.mode ≡ 0 → HoldsFirst (read_frame r plan.mode frame)
+heads one heard r plan u frame h on =
+    let first = heading_fib one heard r plan u (fib_at frame 0) (h.headed on) in
+    subst (λ (fs : List (List ℕ)). HoldsFirst (map r.read fs)) (sym (first_of_fibs plan.mode frame)) (ap is_there first.holds)
+
+begins : OneList → EnsembleIsHeard → (r : Reading) (p : Program) (s : State) (events : List Event) → FramesAreRight p s events → s.count % count_step p.plan.mode ≡ 0
+    → HoldsFirst (flat_map (λ f. f) (read_frames r (frames_of p.plan.mode (run_frames p s events))) ++ [])
+begins one heard r p s [] all on = tt
+begins one heard r p s (Contact c closed ∷ es) all on = begins one heard r p (happens p s (Contact c closed)) es all on
+begins one heard r p s (Frame ∷ es) all on =
+    let on_now : (shown p s).count % count_step p.plan.mode ≡ 0 = ap (λ n. n % count_step p.plan.mode) (shown_count p s) ∙ on in
+    let size = frame_size r p.plan.mode (frame_bytes p s) in
+    let few = few_fibs p.plan.mode in
+    let rest : List Fib = flat_map (λ f. f) (read_frames r (frames_of p.plan.mode (run_frames p (after_frame p s) es))) in
+    subst HoldsFirst (sym (append_assoc (read_frame r p.plan.mode (frame_bytes p s)) rest []))
+    (holds_more (read_frame r p.plan.mode (frame_bytes p s)) (rest ++ []) (omega (arith, size, few)) (heads one heard r p.plan (shown p s) (frame_bytes p s) all.0 on_now))
+
+flat_read : (r : Reading) (mode : Mode) (frames : List (List ℕ)) → map r.read (fibs_of mode frames) ≡ flat_map (λ f. f) (read_frames r (frames_of mode frames))
+flat_read r mode [] = refl
+flat_read r mode (f ∷ fs) = map-append r.read (fibs_from (fib_count mode) 0 f) (fibs_of mode fs) ∙ ap (λ xs. read_frame r mode f ++ xs) (flat_read r mode fs)
+
+pub runs_are_framed : OneList → EnsembleIsHeard → HeadlineHolds → RunsJoin → RunsAreFramed
+runs_are_framed one heard headline joins r p s waiting events played off on =
+    let mode : Mode = p.plan.mode in
+    let t : State = run p s waiting in
+    let all : FramesAreRight p s (waiting ++ events) = (headline p s (waiting ++ events) played).right in
+    let after : FramesAreRight p t events = right_after p s waiting events all in
+    record {
+      whole = ap (λ fs. map r.read (fibs_of mode fs)) (joins p s [] waiting events).frames
+          ∙ ap (map r.read) (flat_map-append (fibs_from (fib_count mode) 0) (run_frames p s waiting) (run_frames p t events))
+          ∙ map-append r.read (fibs_of mode (run_frames p s waiting)) (fibs_of mode (run_frames p t events))
+          ∙ ap (λ xs. map r.read (fibs_of mode (run_frames p s waiting)) ++ xs) (flat_read r mode (run_frames p t events) ∙ sym (append-nil (flat_map (λ f. f) (read_frames r (frames_of mode (run_frames p t events))))));
+      before = none_held (map r.read (fibs_of mode (run_frames p s waiting))) (are_quiet one r p s waiting (right_before p s waiting events all) off);
+      begun = begins one heard r p t events after on;
+      cut = are_frames one r p t events after;
+    }

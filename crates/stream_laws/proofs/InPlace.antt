@@ -1,0 +1,371 @@
+-- The frames of a run and the FIG 0/0 in them are as the check of a stream asks.
+use Rattle.std.proofs.Common.{◌≡◌, ◌≢◌, ℕ, zero, suc, ◌+◌, ◌%◌, ◌==◌, ◌&&◌, Bool, true, false, cond, not, nat_lt, List, [], ◌∷◌, ◌++◌, length, Option, Some, None, refl, sym, ap, ◌∙◌, subst, arith, inl, inr, ◌⊎◌}
+use Rattle.std.specs.Prelude.{map, unwrap_or}
+use Rattle.std.specs.List.{AllByRecursion}
+use Rattle.std.proofs.lemmas.Bool.{false≢true, eq-eqb, ne_eqb, le-ltb}
+use Rattle.std.proofs.lemmas.Bool.Decides.{eqb_tells}
+use Rattle.mux_entries.specs.Entries.{EnsembleInformation}
+use Rattle.fib_codec.specs.Grammar.{Open, OneList, is_next, is_long}
+use Rattle.fib_codec.specs.Heard.{fib_at}
+use Rattle.fib_codec.specs.Modes.{fib_count, count_step}
+use Rattle.fib_reader.specs.Raw.{Raw, raw_of}
+use Rattle.fib_reader.specs.Laws.{EnsembleIsHeard}
+use Rattle.fib_reader.specs.Listening.{identifier_of}
+use Rattle.stream_check.specs.declared.finding.Fault.{Fault}
+use Rattle.stream_check.specs.declared.finding.Fault.TheVariants as faults
+use Rattle.stream_check.specs.declared.finding.What.{What}
+use Rattle.stream_check.specs.declared.finding.Finding.{Finding}
+use Rattle.stream_check.specs.declared.telling.FrameAt.{FrameAt}
+use Rattle.stream_check.specs.Telling.{when, as_list, in_frame}
+use Rattle.stream_check.specs.Frames.{Fib, Reading, damaged_in, first_opening, is_there, begins_with_ensemble, lacks_opening}
+use Rattle.stream_check.specs.History.{Item, Moment, Said, said, fibs_items, frame_items, is_ensemble, ensemble_of, due, eid_of, last_eid, is_in_place}
+use Rattle.stream_check.specs.Standing.{standing_in}
+use Rattle.stream_check.specs.Rules.{Known, known_of, name_of, partner, overlap_or, overlap, ends_past, past_end, is_other, is_placed, is_of_other_ensemble, has_other_count, place_faults, makes_swap, notice_faults, unit_faults, swap_findings, swap_or_another, announces_another, occurrence_of, announces_first, announcement, ensemble_findings, current_findings, next_findings, member_findings, is_other_one, has_no_room, findings_at, silence, silent_findings, awaited_low, changes}
+use Rattle.stream_check.specs.Stream.{count_due, placed_count, count_of_frame, first_line, frame_findings, findings_at_items, runs_full, frame_at, last_findings, findings_in, after_frame as after_read, findings_of}
+use Rattle.stream_check.proofs.Members.{member_eid}
+use Rattle.plan_code.specs.declared.plan.Plan.{Plan}
+use Rattle.plan_code.specs.declared.instr.Instr.{Instr}
+use Rattle.plan_code.specs.declared.instr.Instr.TheVariants.{Wait, Until, WaitContact, CommitIn, CommitAt, Join, Settle, End, Edit as Edits, Test, Jump, Set, Loop}
+use Rattle.plan_code.specs.Program.{Program, instr_at}
+use Rattle.plan_code.specs.Machine.{State, step, settle, effect, effect_of}
+use Rattle.plan_runs.specs.declared.event.Event.{Event}
+use Rattle.plan_runs.specs.declared.event.Event.TheVariants.{Contact, Frame}
+use Rattle.plan_runs.specs.Frames.{is_due, with_swap, with_due_swap, is_running, is_here, burst, ready, after_burst, is_first_noticed, shown, frame_bytes, after_frame}
+use Rattle.plan_runs.specs.Runs.{happens, run, run_frames}
+use Rattle.plan_runs.specs.RightBytes.{IsHeadedBy, IsRight, FramesAreRight}
+use Rattle.plan_runs.specs.Headline.{HeadlineHolds}
+use Rattle.plan_runs.proofs.Clock.{shown_count}
+use Rattle.stream_laws.specs.Notices.{read_frames}
+use Rattle.stream_laws.specs.Framing.{frames_of}
+use Rattle.stream_laws.specs.InPlace.{is_of_frame, IsInPlace, RunsAreInPlace}
+use Rattle.stream_laws.proofs.Rows.{HasNone}
+use Rattle.stream_laws.proofs.Framing.{is_read, IsQuiet, header_of, heading_fib, figs_none, fibs_none, later_fibs, first_of_fibs, later_quiet, read_frame, frame_size, all_quiet, all_append, right_after}
+
+-- ---- the EId of a run stays
+
+either_eid : (test : Bool) (s t : State) (x : ℕ) → s.eid ≡ x → t.eid ≡ x → (cond test s t).eid ≡ x
+either_eid true s t x here there = here
+either_eid false s t x here there = there
+
+settle_eid : (left : Option ℕ) (s : State) → (settle left s).eid ≡ s.eid
+settle_eid None s = refl
+settle_eid (Some left) s = refl
+
+effect_eid : (plan : Plan) (i : Instr) (s : State) → (effect plan i s).eid ≡ s.eid
+effect_eid plan (Wait n) s = refl
+effect_eid plan (Until t) s = refl
+effect_eid plan (WaitContact c closed) s = refl
+effect_eid plan (CommitIn k) s = refl
+effect_eid plan (CommitAt n) s = refl
+effect_eid plan Join s = refl
+effect_eid plan Settle s = settle_eid s.left s
+effect_eid plan End s = refl
+effect_eid plan (Edits e) s = refl
+effect_eid plan (Test c target) s = refl
+effect_eid plan (Jump target) s = refl
+effect_eid plan (Set r n) s = refl
+effect_eid plan (Loop r target) s = refl
+
+step_eid : (plan : Plan) (i : Option Instr) (s : State) → (effect_of plan i s).eid ≡ s.eid
+step_eid plan None s = refl
+step_eid plan (Some i) s = effect_eid plan i s
+
+burst_eid : (most : ℕ) (p : Program) (s : State) → (burst most p s).eid ≡ s.eid
+burst_eid zero p s = refl
+burst_eid (suc most) p s = either_eid (is_running s.hold) (burst most p (step p s)) s s.eid (burst_eid most p (step p s) ∙ step_eid p.plan (instr_at p s.pc) s) refl
+
+shown_eid : (p : Program) (s : State) → (shown p s).eid ≡ s.eid
+shown_eid p s =
+    let t = after_burst p s in
+    let swap : (with_due_swap s).eid ≡ s.eid = either_eid (is_due s.left) (with_swap s) s s.eid refl refl in
+    let start : (ready s).eid ≡ s.eid = either_eid (is_here (with_due_swap s) (with_due_swap s).hold) _ (with_due_swap s) s.eid swap swap in
+    let same : t.eid ≡ s.eid = burst_eid p.plan.budget p (ready s) ∙ start in
+    either_eid (is_first_noticed p.plan.notice t.left) _ t s.eid same same
+
+-- ---- other faults
+
+abbrev IsOther : List What → Type 0
+IsOther ws = AllByRecursion IsInPlace ws
+
+when_other : (b : Bool) (fault : Fault) → is_of_frame fault ≡ false → IsOther (when b fault)
+when_other true fault e = (e, tt)
+when_other false fault e = tt
+
+when_not : (b : Bool) (fault : Fault) → b ≡ false → IsOther (when b fault)
+when_not true fault e = absurd (false≢true (sym e))
+when_not false fault e = tt
+
+abbrev IsOtherFault : Option Fault → Type 0
+IsOtherFault None = Unit {0}
+IsOtherFault (Some fault) = is_of_frame fault ≡ false
+
+listed : (o : Option Fault) → IsOtherFault o → IsOther (as_list o)
+listed None h = tt
+listed (Some fault) h = (h, tt)
+
+or_other : (o : Option ℕ) (a : Raw) (later : Option Fault) → IsOtherFault later → IsOtherFault (overlap_or o a later)
+or_other None a later h = h
+or_other (Some b) a later h = refl
+
+overlap_other : (rs : List Raw) → IsOtherFault (overlap rs)
+overlap_other [] = tt
+overlap_other (r ∷ rs) = or_other (partner r rs) r (overlap rs) (overlap_other rs)
+
+past_other : (rs : List Raw) → IsOtherFault (past_end rs)
+past_other [] = tt
+past_other (r ∷ rs) = elim (ends_past r) as (λ t. IsOtherFault (cond t (Some (faults.PastEnd (identifier_of r))) (past_end rs))) [ true ↦ refl | false ↦ past_other rs ]
+
+notice_other : (k : Known) → IsOther (notice_faults k)
+notice_other k =
+    all_append IsInPlace (when (not k.is_cut_off && nat_lt k.times 3) (faults.AnnouncedTimes k.times)) _ (when_other _ (faults.AnnouncedTimes k.times) refl)
+    (all_append IsInPlace (when (not k.is_cut_off && nat_lt k.heard 3) (faults.NextHeard k.heard)) _ (when_other _ (faults.NextHeard k.heard) refl) (when_other _ (faults.Flags k.flags (changes k)) refl))
+
+unit_other : (k : Known) → IsOther (unit_faults k)
+unit_other k =
+    all_append IsInPlace (as_list (overlap k.listener.next.subs)) (as_list (past_end k.listener.next.subs))
+    (listed (overlap k.listener.next.subs) (overlap_other k.listener.next.subs)) (listed (past_end k.listener.next.subs) (past_other k.listener.next.subs))
+
+swap_other : (k : Known) (e : EnsembleInformation) → IsOther (swap_findings k e)
+swap_other k e = (
+  tt,
+  all_append IsInPlace (when (not (e.count % 250 == awaited_low k)) (faults.AnnouncedFor (awaited_low k))) (notice_faults k ++ unit_faults k)
+      (when_other _ (faults.AnnouncedFor (awaited_low k)) refl)
+      (all_append IsInPlace (notice_faults k) (unit_faults k) (notice_other k) (unit_other k)),
+)
+
+either_other : (b : Bool) (xs ys : List What) → IsOther xs → IsOther ys → IsOther (cond b xs ys)
+either_other true xs ys x y = x
+either_other false xs ys x y = y
+
+announcement_other : (k : Known) (e : EnsembleInformation) → IsOther (announcement k e)
+announcement_other k e = either_other (announces_first k e) _ [] (tt, when_other _ (faults.NoSwapAt (occurrence_of e)) refl) tt
+
+ensemble_other : (k : Known) (first : Bool) (e : EnsembleInformation) → IsOther (place_faults k first e) → IsOther (ensemble_findings k first e)
+ensemble_other k first e place =
+    all_append IsInPlace (place_faults k first e) _ place
+    (all_append IsInPlace (swap_or_another k e) _ (either_other (makes_swap k e) (swap_findings k e) _ (swap_other k e) (when_other (announces_another k e) (faults.AnnouncedAgain e.change (occurrence_of e)) refl))
+    (all_append IsInPlace (announcement k e) _ (announcement_other k e) (when_other _ faults.NextUnannounced refl)))
+
+next_other : (k : Known) (raw : Raw) → IsOther (next_findings k raw)
+next_other k raw = all_append IsInPlace (when (not k.has_begun && k.has_ensemble) faults.NextUnannounced) _ (when_other _ faults.NextUnannounced refl) (when_other _ (faults.NextChanged (name_of raw)) refl)
+
+current_other : (k : Known) (raw : Raw) → IsOther (current_findings k raw)
+current_other k raw = all_append IsInPlace (when (is_other_one (standing_in raw k.listener.current)) (faults.Changed (name_of raw))) _ (when_other _ (faults.Changed (name_of raw)) refl) (when_other _ (faults.Appeared (name_of raw)) refl)
+
+member_other : (k : Known) (next : Bool) (raw : Raw) → IsOther (member_findings k next raw)
+member_other k next raw = either_other k.listener.tuned _ [] (either_other next (next_findings k raw) (current_findings k raw) (next_other k raw) (current_other k raw)) tt
+
+items_other : (step period : ℕ) (items : List Item) (past : List Moment) → HasNone items → IsOther (findings_at_items step period past items)
+items_other step period [] past none = tt
+items_other step period (i ∷ is) past none =
+    either_other (has_no_room (known_of step period past) i) [] _ tt
+    (all_append IsInPlace (findings_at (known_of step period past) i) _
+    (subst IsOther (sym (ap (λ t. cond t (ensemble_findings (known_of step period past) i.first (ensemble_of i)) (member_findings (known_of step period past) i.next i.raw)) none.0)) (member_other (known_of step period past) i.next i.raw))
+    (items_other step period is (Said i ∷ past) none.1))
+
+silence_other : (rs : List Raw) → IsOther (map silence rs)
+silence_other [] = tt
+silence_other (r ∷ rs) = (refl, silence_other rs)
+
+last_other : (full : Bool) (period : ℕ) (past : List Moment) → IsOther (last_findings full period past)
+last_other full period past = either_other full [] (silent_findings period past) tt (silence_other _)
+
+-- ---- a frame with FIG 0/0
+
+pub record IsHeaded (frame : List Fib) (e : EnsembleInformation) : Type 0 where
+  pub head : Item
+  pub rest : List Item
+  pub are : frame_items frame ≡ head ∷ rest
+  pub first : head.first ≡ true
+  pub ensemble : is_ensemble head ≡ true
+  pub says : ensemble_of head ≡ e
+  pub none : HasNone rest
+  pub whole : damaged_in frame ≡ 0
+  pub lacks : lacks_opening frame ≡ false
+  pub opens : first_opening frame ≡ Some e
+
+none_damaged : (fibs : List Fib) → AllByRecursion IsQuiet fibs → damaged_in fibs ≡ 0
+none_damaged [] all = refl
+none_damaged (f ∷ fs) all = ap (λ b. cond b 1 0 + damaged_in fs) all.0.whole ∙ ap (λ n. 0 + n) (none_damaged fs all.1)
+
+pub headed_frame : OneList → EnsembleIsHeard → (r : Reading) (plan : Plan) (u : State) (frame : List ℕ) → IsRight plan u frame → (h : IsHeadedBy plan u (fib_at frame 0)) → IsHeaded (read_frame r plan.mode frame) h.information
+headed_frame one heard r plan u frame right h =
+    let first : List ℕ = fib_at frame 0 in
+    let later : List Fib = map r.read (later_fibs plan.mode frame) in
+    let quiet = later_quiet one r plan u frame right in
+    let heads = heading_fib one heard r plan u first h in
+    let fig = header_of heard plan u first h in
+    let read : r.read first ≡ Some (Open fig.second (fig.bytes ∷ []) ∷ h.others) = is_read one r first (h.header ∷ h.others) h.first ∙ ap (λ f. Some (f ∷ h.others)) fig.is in
+    let begin : read_frame r plan.mode frame ≡ r.read first ∷ later = ap (map r.read) (first_of_fibs plan.mode frame) in
+    let fibs : read_frame r plan.mode frame ≡ Some (Open fig.second (fig.bytes ∷ []) ∷ h.others) ∷ later = begin ∙ ap (λ f. f ∷ later) read in
+    record {
+      head = record { first = true; next = is_next fig.second; raw = raw_of (fig.second % 32) (is_long fig.second) fig.bytes };
+      rest = _;
+      are = ap frame_items fibs;
+      first = refl;
+      ensemble = eq-eqb (fig.second % 32) 0 fig.ext;
+      says = fig.says;
+      none = all_append (λ i. is_ensemble i ≡ false) _ (fibs_items false later) (figs_none false h.others h.alone) (fibs_none false later quiet);
+      whole = ap damaged_in begin ∙ ap (λ b. cond b 1 0 + damaged_in later) heads.whole ∙ ap (λ n. 0 + n) (none_damaged later quiet);
+      lacks = ap lacks_opening begin ∙ ap (λ b. not b && not (begins_with_ensemble (r.read first))) heads.whole ∙ ap (λ o. not (is_there o)) heads.opens;
+      opens = ap first_opening begin ∙ heads.opens;
+    }
+
+-- ---- what is known before a frame
+
+-- nothing, or the count and the EId that the state has
+abbrev IsDue : ℕ → List Moment → State → Type 0
+IsDue step past s = ((due past ≡ None) × (last_eid step past ≡ None)) ⊎ ((due past ≡ Some s.count) × (last_eid step past ≡ Some s.eid))
+
+not_other : (n m : ℕ) (o : Option ℕ) → (o ≡ None) ⊎ (o ≡ Some m) → n ≡ m → is_other n o ≡ false
+not_other n m o (inl none) e = ap (is_other n) none
+not_other n m o (inr some) e = ap (is_other n) some ∙ ap not (eq-eqb n m e)
+
+and_not : (a b : Bool) → b ≡ false → (a && b) ≡ false
+and_not true b e = e
+and_not false b e = refl
+
+-- the FIG 0/0 in place
+placed : (step period : ℕ) (past : List Moment) (s : State) (first : Bool) (e : EnsembleInformation) → IsDue step past s → first ≡ true → e.count ≡ s.count → e.eid ≡ s.eid → s.count % step ≡ 0
+    → IsOther (place_faults (known_of step period past) first e)
+placed step period past s first e known one count eid on =
+    let k : Known = known_of step period past in
+    let on_step : (e.count % step == 0) ≡ true = eq-eqb (e.count % step) 0 (ap (λ n. n % step) count ∙ on) in
+    let is : is_placed k first e ≡ true = ap (λ b. b && (e.count % step == 0)) one ∙ on_step in
+    let last : (due past ≡ None) ⊎ (due past ≡ Some s.count) = elim known [ inl none ↦ inl none.0 | inr some ↦ inr some.0 ] in
+    let ensemble : (last_eid step past ≡ None) ⊎ (last_eid step past ≡ Some s.eid) = elim known [ inl none ↦ inl none.1 | inr some ↦ inr some.1 ] in
+    all_append IsInPlace (when (is_of_other_ensemble k first e) (faults.OtherEnsemble e.eid)) _
+    (when_not (is_of_other_ensemble k first e) (faults.OtherEnsemble e.eid) (and_not (is_placed k first e) _ (not_other e.eid s.eid (last_eid step past) ensemble eid)))
+    (all_append IsInPlace (when (has_other_count k first e) (faults.Count (unwrap_or k.due 0))) _
+    (when_not (has_other_count k first e) (faults.Count (unwrap_or k.due 0)) (and_not (is_placed k first e) _ (not_other e.count s.count (due past) last count)))
+    (when_not (not (is_placed k first e)) faults.OutOfPlace (ap not is)))
+
+-- of a frame as a whole
+whole_frame : (size step : ℕ) (last : Option ℕ) (frame : List Fib) → length frame ≡ size → damaged_in frame ≡ 0 → (count_due last frame % step == 0 && lacks_opening frame) ≡ false → IsOther (frame_findings size step last frame)
+whole_frame size step last frame same whole there =
+    all_append IsInPlace (first_line last frame) _ (first_event last)
+    (all_append IsInPlace (when (nat_lt (length frame) size) (faults.ShortFrame (length frame))) _
+    (when_not (nat_lt (length frame) size) (faults.ShortFrame (length frame)) (le-ltb (length frame) size (omega (arith, same))))
+    (all_append IsInPlace (when (nat_lt 0 (damaged_in frame)) (faults.Damaged (damaged_in frame))) _
+    (when_not (nat_lt 0 (damaged_in frame)) (faults.Damaged (damaged_in frame)) (le-ltb 0 (damaged_in frame) (omega (arith, whole))))
+    (when_not (count_due last frame % step == 0 && lacks_opening frame) faults.NoEnsemble there)))
+  where
+    first_event : (o : Option ℕ) → IsOther (first_line o frame)
+    first_event None = (tt, tt)
+    first_event (Some count) = tt
+
+map_in_place : (at : FrameAt) (ws : List What) → IsOther ws → AllByRecursion (λ (found : Finding). IsInPlace found.what) (map (in_frame at) ws)
+map_in_place at [] all = tt
+map_in_place at (w ∷ ws) all = (all.0, map_in_place at ws all.1)
+
+all_found : (size step period : ℕ) (past : List Moment) (frame : List Fib) → IsOther (frame_findings size step (due past) frame) → IsOther (findings_at_items step period past (frame_items frame))
+    → AllByRecursion (λ (found : Finding). IsInPlace found.what) (findings_in size step period past frame)
+all_found size step period past frame whole items =
+    map_in_place (frame_at step past frame) _
+    (all_append IsInPlace (frame_findings size step (due past) frame) _ whole
+    (all_append IsInPlace (findings_at_items step period past (frame_items frame)) _ items (last_other (runs_full step period past (frame_items frame)) period (said (frame_items frame) past))))
+
+said_eid : (step : ℕ) (items : List Item) (past : List Moment) → HasNone items → last_eid step (said items past) ≡ last_eid step past
+said_eid step [] past none = refl
+said_eid step (i ∷ is) past none = said_eid step is (Said i ∷ past) none.1 ∙ sym (member_eid step past i none.0)
+
+-- what is found in a frame, and what is known after it
+record IsRightFrame (size step period : ℕ) (past : List Moment) (frame : List Fib) (count eid : ℕ) : Type 0 where
+  found : AllByRecursion (λ (f : Finding). IsInPlace f.what) (findings_in size step period past frame)
+  counted : count_of_frame step (due past) frame ≡ count
+  same : last_eid step (after_read step past frame) ≡ Some eid
+
+head_eid : (step : ℕ) (i : Item) (s : State) (o : Option ℕ) → is_ensemble i ≡ true → (ensemble_of i).eid ≡ s.eid → (o ≡ None) ⊎ (o ≡ Some s.eid) → eid_of step i o ≡ Some s.eid
+head_eid step i s o e same (inl none) = ap (eid_of step i) none ∙ ap (λ t. cond t (Some (ensemble_of i).eid) None) e ∙ ap Some same
+head_eid step i s o e same (inr some) = ap (eid_of step i) some ∙ either (is_in_place step i)
+  where
+    either : (b : Bool) → cond b (Some (ensemble_of i).eid) (Some s.eid) ≡ Some s.eid
+    either true = ap Some same
+    either false = refl
+
+with_header : (size step period : ℕ) (past : List Moment) (s : State) (frame : List Fib) (e : EnsembleInformation) → length frame ≡ size → IsHeaded frame e → IsDue step past s
+    → e.count ≡ s.count → e.eid ≡ s.eid → s.count % step ≡ 0 → IsRightFrame size step period past frame s.count s.eid
+with_header size step period past s frame e len h known count eid on =
+    let k : Known = known_of step period past in
+    let head_count : (ensemble_of h.head).count ≡ s.count = ap (λ (x : EnsembleInformation). x.count) h.says ∙ count in
+    let head_same : (ensemble_of h.head).eid ≡ s.eid = ap (λ (x : EnsembleInformation). x.eid) h.says ∙ eid in
+    let place = placed step period past s h.head.first (ensemble_of h.head) known h.first head_count head_same on in
+    let at_head : IsOther (findings_at k h.head) =
+    subst IsOther (sym (ap (λ t. cond t (ensemble_findings k h.head.first (ensemble_of h.head)) (member_findings k h.head.next h.head.raw)) h.ensemble)) (ensemble_other k h.head.first (ensemble_of h.head) place) in
+    let items : IsOther (findings_at_items step period past (h.head ∷ h.rest)) =
+    either_other (has_no_room k h.head) [] _ tt (all_append IsInPlace (findings_at k h.head) _ at_head (items_other step period h.rest (Said h.head ∷ past) h.none)) in
+    let ensemble : (last_eid step past ≡ None) ⊎ (last_eid step past ≡ Some s.eid) = elim known [ inl none ↦ inl none.1 | inr some ↦ inr some.1 ] in
+    record {
+      found = all_found size step period past frame
+          (whole_frame size step (due past) frame len h.whole (and_not (count_due (due past) frame % step == 0) (lacks_opening frame) h.lacks))
+          (subst (λ (is : List Item). IsOther (findings_at_items step period past is)) (sym h.are) items);
+      counted = ap (placed_count step (count_due (due past) frame)) h.opens
+          ∙ ap (λ t. cond t e.count (count_due (due past) frame)) (eq-eqb (e.count % step) 0 (ap (λ n. n % step) count ∙ on)) ∙ count;
+      same = ap (λ is. last_eid step (said is past)) h.are ∙ said_eid step h.rest (Said h.head ∷ past) h.none ∙ head_eid step h.head s (last_eid step past) h.ensemble head_same ensemble;
+    }
+
+quiet_opening : (frame : List Fib) → AllByRecursion IsQuiet frame → first_opening frame ≡ None
+quiet_opening [] all = refl
+quiet_opening (f ∷ fs) all = all.0.opens
+
+without_header : (size step period : ℕ) (past : List Moment) (s : State) (frame : List Fib) → length frame ≡ size → AllByRecursion IsQuiet frame → (due past ≡ Some s.count) × (last_eid step past ≡ Some s.eid)
+    → s.count % step ≢ 0 → IsRightFrame size step period past frame s.count s.eid
+without_header size step period past s frame len quiet known off =
+    let none = fibs_none true frame quiet in
+    let count : count_due (due past) frame ≡ s.count = ap (λ o. count_due o frame) known.0 in
+    let off_step : (count_due (due past) frame % step == 0) ≡ false = ap (λ n. n % step == 0) count ∙ ne_eqb (s.count % step) 0 off in
+    record {
+      found = all_found size step period past frame
+          (whole_frame size step (due past) frame len (none_damaged frame quiet) (ap (λ b. b && lacks_opening frame) off_step))
+          (items_other step period (frame_items frame) past none);
+      counted = ap (placed_count step (count_due (due past) frame)) (quiet_opening frame quiet) ∙ count;
+      same = said_eid step (frame_items frame) past none ∙ known.1;
+    }
+
+-- ---- along a run
+
+either_found : (b : Bool) (xs : List Finding) → AllByRecursion (λ (f : Finding). IsInPlace f.what) xs → AllByRecursion (λ (f : Finding). IsInPlace f.what) (cond b [] xs)
+either_found true xs all = tt
+either_found false xs all = all
+
+-- before the first frame, or after it
+abbrev IsBegun : ℕ → List Moment → State → Type 0
+IsBegun step past s = ((due past ≡ None) × (last_eid step past ≡ None) × (s.count % step ≡ 0)) ⊎ ((due past ≡ Some s.count) × (last_eid step past ≡ Some s.eid))
+
+frame_right : OneList → EnsembleIsHeard → (r : Reading) (p : Program) (s : State) (period : ℕ) (past : List Moment) → IsRight p.plan (shown p s) (frame_bytes p s) → IsBegun (count_step p.plan.mode) past s
+    → IsRightFrame (fib_count p.plan.mode) (count_step p.plan.mode) period past (read_frame r p.plan.mode (frame_bytes p s)) s.count s.eid
+frame_right one heard r p s period past right known =
+    let step : ℕ = count_step p.plan.mode in
+    let size = frame_size r p.plan.mode (frame_bytes p s) in
+    let count = shown_count p s in
+    elim (eqb_tells (s.count % step) 0) [
+      | inl on ↦
+          let on_now : (shown p s).count % step ≡ 0 = ap (λ n. n % step) count ∙ on.1 in
+          let h = right.headed on_now in
+          let before : IsDue step past s = elim known [ inl none ↦ inl (none.0, none.1) | inr some ↦ inr some ] in
+          with_header (fib_count p.plan.mode) step period past s (read_frame r p.plan.mode (frame_bytes p s)) h.information size
+          (headed_frame one heard r p.plan (shown p s) (frame_bytes p s) right h) before (h.right.count ∙ count) (h.right.eid ∙ shown_eid p s) on.1
+      | inr off ↦
+          let off_now : (shown p s).count % step ≢ 0 = λ e. off.1 (ap (λ n. n % step) (sym count) ∙ e) in
+          let before : (due past ≡ Some s.count) × (last_eid step past ≡ Some s.eid) = elim known [ inl none ↦ absurd (off.1 none.2) | inr some ↦ some ] in
+          without_header (fib_count p.plan.mode) step period past s (read_frame r p.plan.mode (frame_bytes p s)) size
+          (all_quiet one r p.plan (shown p s) (frame_bytes p s) right off_now) before off.1
+    ]
+
+along : OneList → EnsembleIsHeard → (r : Reading) (p : Program) (s : State) (period : ℕ) (events : List Event) (past : List Moment) → FramesAreRight p s events → IsBegun (count_step p.plan.mode) past s
+    → AllByRecursion (λ (f : Finding). IsInPlace f.what) (findings_of (fib_count p.plan.mode) (count_step p.plan.mode) period past (read_frames r (frames_of p.plan.mode (run_frames p s events))))
+along one heard r p s period [] past all known = tt
+along one heard r p s period (Contact c closed ∷ es) past all known = along one heard r p (happens p s (Contact c closed)) period es past all known
+along one heard r p s period (Frame ∷ es) past all known =
+    let step : ℕ = count_step p.plan.mode in
+    let frame : List Fib = read_frame r p.plan.mode (frame_bytes p s) in
+    let now = frame_right one heard r p s period past all.0 known in
+    let count : (after_frame p s).count ≡ (s.count + 1) % 5000 = ap (λ n. (n + 1) % 5000) (shown_count p s) in
+    let due_now : due (after_read step past frame) ≡ Some (after_frame p s).count = ap (λ n. Some ((n + 1) % 5000)) now.counted ∙ ap Some (sym count) in
+    let same_now : last_eid step (after_read step past frame) ≡ Some (after_frame p s).eid = now.same ∙ ap Some (sym (shown_eid p s)) in
+    all_append (λ (f : Finding). IsInPlace f.what) (findings_in (fib_count p.plan.mode) step period past frame) _ now.found
+    (either_found (runs_full step period past (frame_items frame)) _ (along one heard r p (after_frame p s) period es (after_read step past frame) all.1 (inr (due_now, same_now))))
+
+pub runs_are_in_place : OneList → EnsembleIsHeard → HeadlineHolds → RunsAreInPlace
+runs_are_in_place one heard headline r p s period waiting events played on =
+    along one heard r p (run p s waiting) period events [] (right_after p s waiting events (headline p s (waiting ++ events) played).right) (inl (refl, refl, on))

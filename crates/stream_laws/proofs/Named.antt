@@ -1,0 +1,350 @@
+-- The swaps that are named in the frames of a run are those of the run.
+use Rattle.std.proofs.Common.{◌≡◌, ◌≢◌, ℕ, zero, suc, ◌+◌, ◌<◌, ◌≤◌, ◌%◌, ◌==◌, ◌&&◌, ◌||◌, Bool, true, false, cond, not, nat_lt, List, [], ◌∷◌, ◌++◌, length, Option, Some, None, refl, sym, ap, ◌∙◌, subst, arith, inl, inr, ◌⊎◌}
+use Rattle.std.specs.Prelude.{map, unwrap_or}
+use Rattle.std.specs.List.{AllByRecursion}
+use Rattle.std.proofs.lemmas.Bool.{false≢true, eq-eqb, ne_eqb}
+use Rattle.std.proofs.lemmas.List.{append-nil}
+use Rattle.mux_entries.specs.Entries.{EnsembleInformation}
+use Rattle.fib_codec.specs.Grammar.{OneList}
+use Rattle.fib_codec.specs.Modes.{fib_count, count_step}
+use Rattle.fib_reader.specs.Raw.{Raw}
+use Rattle.fib_reader.specs.Listening.{Listening, is_made}
+use Rattle.stream_check.specs.declared.finding.Fault.{Fault}
+use Rattle.stream_check.specs.declared.finding.Fault.TheVariants as faults
+use Rattle.stream_check.specs.declared.finding.What.{What}
+use Rattle.stream_check.specs.declared.finding.Finding.{Finding}
+use Rattle.stream_check.specs.declared.telling.FrameAt.{FrameAt}
+use Rattle.stream_check.specs.Telling.{when, as_list, in_frame}
+use Rattle.stream_check.specs.Frames.{Fib, Reading, damaged_in, lacks_opening}
+use Rattle.stream_check.specs.Standing.{standing_in}
+use Rattle.stream_check.specs.History.{Item, Moment, Said, said, frame_items, is_ensemble, ensemble_of as said_ensemble, frames_ended, listener_after, due}
+use Rattle.stream_check.specs.Rules.{Known as Knowledge, known_of, name_of, overlap, past_end, place_faults, is_of_other_ensemble, has_other_count, is_placed, makes_swap, notice_faults, unit_faults, swap_findings, swap_or_another, announces_another, occurrence_of, announces_first, announcement, ensemble_findings, current_findings, next_findings, member_findings, is_other_one, finds_no_room, has_no_room, findings_at, silence, silent_findings, awaited_low, changes}
+use Rattle.stream_check.specs.Stream.{count_due, first_line, frame_findings, findings_at_items, runs_full, frame_at, last_findings, findings_in, after_frame as after_read, findings_of}
+use Rattle.stream_check.proofs.Members.{after_is}
+use Rattle.plan_code.specs.declared.plan.Plan.{Plan}
+use Rattle.plan_code.specs.Program.{Program}
+use Rattle.plan_code.specs.Machine.{State}
+use Rattle.plan_verifier.specs.Typing.{Known}
+use Rattle.plan_runs.specs.declared.event.Event.{Event}
+use Rattle.plan_runs.specs.declared.event.Event.TheVariants.{Contact, Frame}
+use Rattle.plan_runs.specs.Frames.{is_due, shown, frame_bytes, ensemble_of, after_frame}
+use Rattle.plan_runs.specs.Runs.{happens, run, run_frames}
+use Rattle.plan_runs.proofs.Tracked.{SwapsOn}
+use Rattle.plan_runs.proofs.Facts.{Holds, IsCode, airs, frame_holds, happens_holds, run_holds, code_of, played_holds}
+use Rattle.plan_runs.proofs.Notice.{links}
+use Rattle.plan_runs.proofs.Right.{ensemble_right}
+use Rattle.plan_listeners.proofs.Contents.{Laws}
+use Rattle.plan_listeners.proofs.Frame.{zero_or_not}
+use Rattle.stream_laws.specs.Notices.{read_frames}
+use Rattle.stream_laws.specs.Framing.{frames_of}
+use Rattle.stream_laws.specs.Naming.{names_swap, swap_frames, due_frames, due_after_first, SwapsAreNamed}
+use Rattle.stream_laws.proofs.Rows.{HasNone}
+use Rattle.stream_laws.proofs.Framing.{all_append, read_frame}
+use Rattle.stream_laws.proofs.Sending.{IsSentItem, IsHeadOf, frame_said}
+use Rattle.stream_laws.proofs.Agreeing.{sent_ext, none_or_some}
+use Rattle.stream_laws.proofs.AgreeingRuns.{IsBetween, on_air, flags_on, still, on_by, zero_or_some, awaits_by, due_awaits, due_low}
+use Rattle.stream_laws.proofs.AgreeingFrames.{agrees_by, is_sent, not_sent}
+
+-- ---- findings that name no swap
+
+abbrev IsQuietly : List What → Type 0
+IsQuietly ws = AllByRecursion (λ w. names_swap w ≡ false) ws
+
+when_quiet : (b : Bool) (fault : Fault) → IsQuietly (when b fault)
+when_quiet true fault = (refl, tt)
+when_quiet false fault = tt
+
+listed_quiet : (o : Option Fault) → IsQuietly (as_list o)
+listed_quiet None = tt
+listed_quiet (Some fault) = (refl, tt)
+
+both : (xs ys : List What) → IsQuietly xs → IsQuietly ys → IsQuietly (xs ++ ys)
+both xs ys a b = all_append (λ w. names_swap w ≡ false) xs ys a b
+
+either_quiet : (b : Bool) (xs ys : List What) → IsQuietly xs → IsQuietly ys → IsQuietly (cond b xs ys)
+either_quiet true xs ys x y = x
+either_quiet false xs ys x y = y
+
+notice_quiet : (k : Knowledge) → IsQuietly (notice_faults k)
+notice_quiet k =
+    both (when (not k.is_cut_off && nat_lt k.times 3) (faults.AnnouncedTimes k.times)) _ (when_quiet _ (faults.AnnouncedTimes k.times))
+    (both (when (not k.is_cut_off && nat_lt k.heard 3) (faults.NextHeard k.heard)) _ (when_quiet _ (faults.NextHeard k.heard)) (when_quiet _ (faults.Flags k.flags (changes k))))
+
+unit_quiet : (k : Knowledge) → IsQuietly (unit_faults k)
+unit_quiet k = both (as_list (overlap k.listener.next.subs)) (as_list (past_end k.listener.next.subs)) (listed_quiet (overlap k.listener.next.subs)) (listed_quiet (past_end k.listener.next.subs))
+
+place_quiet : (k : Knowledge) (first : Bool) (e : EnsembleInformation) → IsQuietly (place_faults k first e)
+place_quiet k first e =
+    both (when (is_of_other_ensemble k first e) (faults.OtherEnsemble e.eid)) _ (when_quiet _ (faults.OtherEnsemble e.eid))
+    (both (when (has_other_count k first e) (faults.Count (unwrap_or k.due 0))) _ (when_quiet _ (faults.Count (unwrap_or k.due 0))) (when_quiet (not (is_placed k first e)) faults.OutOfPlace))
+
+announcement_quiet : (k : Knowledge) (e : EnsembleInformation) → IsQuietly (announcement k e)
+announcement_quiet k e = either_quiet (announces_first k e) _ [] (refl, when_quiet _ (faults.NoSwapAt (occurrence_of e))) tt
+
+member_quiet : (k : Knowledge) (next : Bool) (raw : Raw) → IsQuietly (member_findings k next raw)
+member_quiet k next raw =
+    either_quiet k.listener.tuned _ []
+    (either_quiet next (next_findings k raw) (current_findings k raw)
+    (both (when (not k.has_begun && k.has_ensemble) faults.NextUnannounced) _ (when_quiet _ faults.NextUnannounced) (when_quiet _ (faults.NextChanged (name_of raw))))
+    (both (when (is_other_one (standing_in raw k.listener.current)) (faults.Changed (name_of raw))) _ (when_quiet _ (faults.Changed (name_of raw))) (when_quiet _ (faults.Appeared (name_of raw)))))
+    tt
+
+silence_quiet : (rs : List Raw) → IsQuietly (map silence rs)
+silence_quiet [] = tt
+silence_quiet (r ∷ rs) = (refl, silence_quiet rs)
+
+frame_quiet : (size step : ℕ) (last : Option ℕ) (frame : List Fib) → IsQuietly (frame_findings size step last frame)
+frame_quiet size step last frame =
+    both (first_line last frame) _ (first_event last)
+    (both (when (nat_lt (length frame) size) (faults.ShortFrame (length frame))) _ (when_quiet _ (faults.ShortFrame (length frame)))
+    (both (when (nat_lt 0 (damaged_in frame)) (faults.Damaged (damaged_in frame))) _ (when_quiet _ (faults.Damaged (damaged_in frame)))
+    (when_quiet (count_due last frame % step == 0 && lacks_opening frame) faults.NoEnsemble)))
+  where
+    first_event : (o : Option ℕ) → IsQuietly (first_line o frame)
+    first_event None = (refl, tt)
+    first_event (Some count) = tt
+
+items_quiet : (step period : ℕ) (items : List Item) (past : List Moment) → HasNone items → IsQuietly (findings_at_items step period past items)
+items_quiet step period [] past none = tt
+items_quiet step period (i ∷ is) past none =
+    either_quiet (has_no_room (known_of step period past) i) [] _ tt
+    (both (findings_at (known_of step period past) i) _
+    (subst IsQuietly (sym (ap (λ t. cond t (ensemble_findings (known_of step period past) i.first (said_ensemble i)) (member_findings (known_of step period past) i.next i.raw)) none.0)) (member_quiet (known_of step period past) i.next i.raw))
+    (items_quiet step period is (Said i ∷ past) none.1))
+
+-- ---- the names among findings
+
+-- the number of a frame, as often as a swap is named in it
+abbrev named : ℕ → List What → List ℕ
+named n [] = []
+named n (w ∷ ws) = cond (names_swap w) (n ∷ named n ws) (named n ws)
+
+quiet_named : (n : ℕ) (ws : List What) → IsQuietly ws → named n ws ≡ []
+quiet_named n [] all = refl
+quiet_named n (w ∷ ws) all = ap (λ t. cond t (n ∷ named n ws) (named n ws)) all.0 ∙ quiet_named n ws all.1
+
+named_both : (n : ℕ) (xs ys : List What) → named n (xs ++ ys) ≡ named n xs ++ named n ys
+named_both n [] ys = refl
+named_both n (x ∷ xs) ys = elim (names_swap x) as (λ t. cond t (n ∷ named n (xs ++ ys)) (named n (xs ++ ys)) ≡ cond t (n ∷ named n xs) (named n xs) ++ named n ys) [
+  | true ↦ ap (λ l. n ∷ l) (named_both n xs ys)
+  | false ↦ named_both n xs ys
+]
+
+named_then : (n : ℕ) (xs ys : List What) → IsQuietly xs → named n (xs ++ ys) ≡ named n ys
+named_then n xs ys all = named_both n xs ys ∙ ap (λ l. l ++ named n ys) (quiet_named n xs all)
+
+named_first : (n : ℕ) (xs ys : List What) → IsQuietly ys → named n (xs ++ ys) ≡ named n xs
+named_first n xs ys all = named_both n xs ys ∙ ap (λ l. named n xs ++ l) (quiet_named n ys all) ∙ append-nil (named n xs)
+
+at_swap : (n : ℕ) (k : Knowledge) (e : EnsembleInformation) (b : Bool) → named n (cond b (swap_findings k e) (when (announces_another k e) (faults.AnnouncedAgain e.change (occurrence_of e)))) ≡ cond b (n ∷ []) []
+at_swap n k e true =
+    ap (λ l. n ∷ l) (quiet_named n _ (both (when (not (e.count % 250 == awaited_low k)) (faults.AnnouncedFor (awaited_low k))) (notice_faults k ++ unit_faults k)
+    (when_quiet _ (faults.AnnouncedFor (awaited_low k))) (both (notice_faults k) (unit_faults k) (notice_quiet k) (unit_quiet k))))
+at_swap n k e false = quiet_named n _ (when_quiet (announces_another k e) (faults.AnnouncedAgain e.change (occurrence_of e)))
+
+at_head : (n : ℕ) (k : Knowledge) (first : Bool) (e : EnsembleInformation) → named n (ensemble_findings k first e) ≡ cond (makes_swap k e) (n ∷ []) []
+at_head n k first e =
+    named_then n (place_faults k first e) _ (place_quiet k first e)
+    ∙ named_first n (swap_or_another k e) _ (both (announcement k e) _ (announcement_quiet k e) (when_quiet _ faults.NextUnannounced))
+    ∙ at_swap n k e (makes_swap k e)
+
+in_frame_named : (at : FrameAt) (ws : List What) → swap_frames (map (in_frame at) ws) ≡ named at.frame ws
+in_frame_named at [] = refl
+in_frame_named at (w ∷ ws) = elim (names_swap w) as (λ t. cond t (at.frame ∷ swap_frames (map (in_frame at) ws)) (swap_frames (map (in_frame at) ws)) ≡ cond t (at.frame ∷ named at.frame ws) (named at.frame ws)) [
+  | true ↦ ap (λ l. at.frame ∷ l) (in_frame_named at ws)
+  | false ↦ in_frame_named at ws
+]
+
+frames_both : (xs ys : List Finding) → swap_frames (xs ++ ys) ≡ swap_frames xs ++ swap_frames ys
+frames_both [] ys = refl
+frames_both (x ∷ xs) ys = elim (names_swap x.what) as (λ t. cond t (x.frame ∷ swap_frames (xs ++ ys)) (swap_frames (xs ++ ys)) ≡ cond t (x.frame ∷ swap_frames xs) (swap_frames xs) ++ swap_frames ys) [
+  | true ↦ ap (λ l. x.frame ∷ l) (frames_both xs ys)
+  | false ↦ frames_both xs ys
+]
+
+last_quiet : (full : Bool) (period : ℕ) (past : List Moment) → IsQuietly (last_findings full period past)
+last_quiet full period past = either_quiet full [] (silent_findings period past) tt (silence_quiet _)
+
+-- in a frame, by its entries
+frame_named : (size step period : ℕ) (past : List Moment) (frame : List Fib) → swap_frames (findings_in size step period past frame) ≡ named (frames_ended past) (findings_at_items step period past (frame_items frame))
+frame_named size step period past frame =
+    let items : List What = findings_at_items step period past (frame_items frame) in
+    let last : List What = last_findings (runs_full step period past (frame_items frame)) period (said (frame_items frame) past) in
+    let whole : List What = frame_findings size step (due past) frame in
+    in_frame_named (frame_at step past frame) (whole ++ (items ++ last))
+    ∙ named_then (frames_ended past) whole (items ++ last) (frame_quiet size step (due past) frame)
+    ∙ named_first (frames_ended past) items last (last_quiet (runs_full step period past (frame_items frame)) period (said (frame_items frame) past))
+
+-- ---- a frame of a run
+
+pub none_of : (on : Bool) (u : State) (items : List Item) → AllByRecursion (IsSentItem on u.current u.next) items → HasNone items
+none_of on u [] all = tt
+none_of on u (i ∷ is) all = (ap (λ (x : Raw). x.ext == 0) all.0.raw ∙ sent_ext on u.current u.next all.0.m all.0.sent, none_of on u is all.1)
+
+with_head : (n step period : ℕ) (past : List Moment) (h : Item) (items : List Item) → is_ensemble h ≡ true → HasNone items
+    → named n (findings_at_items step period past (h ∷ items)) ≡ cond (is_made (listener_after past).awaited (said_ensemble h)) (n ∷ []) []
+with_head n step period past h items ens none =
+    let k : Knowledge = known_of step period past in
+    let room : has_no_room k h ≡ false = ap (λ t. cond t false (k.listener.tuned && finds_no_room (standing_in h.raw (cond h.next k.listener.next k.listener.current)))) ens in
+    let found : findings_at k h ≡ ensemble_findings k h.first (said_ensemble h) = ap (λ t. cond t (ensemble_findings k h.first (said_ensemble h)) (member_findings k h.next h.raw)) ens in
+    ap (λ t. named n (cond t [] (findings_at k h ++ findings_at_items step period (Said h ∷ past) items))) room
+    ∙ named_first n (findings_at k h) _ (items_quiet step period items (Said h ∷ past) none)
+    ∙ ap (named n) found ∙ at_head n k h.first (said_ensemble h)
+
+not_now : (count low k : ℕ) → count < 5000 → 1 ≤ k → k < 250 → low ≡ (count + k) % 5000 % 250 → count % 250 ≢ low
+not_now count low k below some short is e = omega (arith, below, some, short, is, e)
+
+-- a swap is made exactly where it is due
+pub made_where_due : (p : Program) (ts : List Known) → IsCode p ts → (s : State) → Holds p ts s → (past : List Moment) → (h : IsBetween p.plan past s) → is_made h.heard.awaited (ensemble_of p.plan (shown p s)) ≡ is_due s.left
+made_where_due p ts c s holds past h = by (none_or_some h.heard.awaited) (due_or_not s.left)
+  where
+    due_or_not : (left : Option ℕ) → (left ≡ Some 0) ⊎ (is_due left ≡ false)
+    due_or_not None = inr refl
+    due_or_not (Some zero) = inl refl
+    due_or_not (Some (suc k)) = inr (ne_eqb (suc k) 0 (λ e. omega (arith, e)))
+
+    made_low : (low : ℕ) → h.heard.awaited ≡ Some low → is_made h.heard.awaited (ensemble_of p.plan (shown p s)) ≡ ((ensemble_of p.plan (shown p s)).change == 0 || (ensemble_of p.plan (shown p s)).count % 250 == low)
+    made_low low some = ap (λ o. is_made o (ensemble_of p.plan (shown p s))) some
+
+    count : (ensemble_of p.plan (shown p s)).count ≡ s.count
+    count = (ensemble_right p.plan (shown p s)).count ∙ (links p ts c s holds).count
+
+    or_last : (a b : Bool) → b ≡ true → (a || b) ≡ true
+    or_last true b e = refl
+    or_last false b e = e
+
+    both_false : (a b : Bool) → not a ≡ true → b ≡ false → (a || b) ≡ false
+    both_false true b x y = absurd (false≢true x)
+    both_false false b x y = y
+
+    by : (h.heard.awaited ≡ None) ⊎ ((low : ℕ) × (h.heard.awaited ≡ Some low)) → (s.left ≡ Some 0) ⊎ (is_due s.left ≡ false) → is_made h.heard.awaited (ensemble_of p.plan (shown p s)) ≡ is_due s.left
+    by (inl none) (inl now) = absurd (due_awaits p.plan s.left s.current s.next s.count h.heard (omega (arith, c.program.planned.notice_from)) now h.knows none)
+    by (inl none) (inr apart) = ap (λ o. is_made o (ensemble_of p.plan (shown p s))) none ∙ sym apart
+    by (inr (low, some)) (inl now) =
+        let w = awaits_by p.plan s.left s.current s.next s.count h.heard low h.knows some in
+        let zero_left : w.k ≡ 0 = inner w.k 0 (sym w.is ∙ now) in
+        let at : s.count % 250 ≡ low = due_low s.count low w.k holds.tracked.count zero_left w.low_is in
+        made_low low some ∙ or_last ((ensemble_of p.plan (shown p s)).change == 0) _ (eq-eqb ((ensemble_of p.plan (shown p s)).count % 250) low (ap (λ n. n % 250) count ∙ at)) ∙ sym (ap is_due now)
+      where
+        inner : (a b : ℕ) → Some a ≡ Some b → a ≡ b
+        inner a b e = cc
+    by (inr (low, some)) (inr apart) =
+        let w = awaits_by p.plan s.left s.current s.next s.count h.heard low h.knows some in
+        let more : 1 ≤ w.k = elim (zero_or_some w.k) [
+          | inl none ↦ absurd (false≢true (sym (sym (ap is_due w.is ∙ eq-eqb w.k 0 none) ∙ apart)))
+          | inr some_left ↦ some_left
+        ] in
+        let on = on_by p.plan (shown p s) w.k (still p.plan s (shown p s) w.k (links p ts c s holds) w.is more).left more (omega (arith, w.below)) in
+        let flags = flags_on p.plan (shown p s) (airs p ts c s holds) on in
+        let short : w.k < 250 = omega (arith, w.below, c.program.planned.notice_to) in
+        let other : s.count % 250 ≢ low = not_now s.count low w.k holds.tracked.count more short w.low_is in
+        made_low low some ∙ both_false ((ensemble_of p.plan (shown p s)).change == 0) _ flags (ne_eqb ((ensemble_of p.plan (shown p s)).count % 250) low (λ e. other (sym (ap (λ n. n % 250) count) ∙ e))) ∙ sym apart
+
+-- what is named in a frame
+items_named : OneList → Laws → (r : Reading) (n period : ℕ) (p : Program) (ts : List Known) → IsCode p ts → (s : State) → Holds p ts s → (past : List Moment) → IsBetween p.plan past s
+    → named n (findings_at_items (count_step p.plan.mode) period past (frame_items (read_frame r p.plan.mode (frame_bytes p s)))) ≡ cond (is_due s.left) (n ∷ []) []
+items_named one laws r n period p ts c s holds past h =
+    let plan : Plan = p.plan in
+    let u : State = shown p s in
+    let step : ℕ = count_step plan.mode in
+    let a = airs p ts c s holds in
+    let link = links p ts c s holds in
+    let fs = frame_said one laws r plan u a in
+    let none = none_of (on_air plan u) u fs.members fs.sent in
+    elim (zero_or_not (u.count % step)) [
+      | inl on ↦
+          let head = subst (λ (o : Option EnsembleInformation). IsHeadOf o fs.heads) (is_sent plan u on) fs.header in
+          let items : frame_items (read_frame r plan.mode (frame_bytes p s)) ≡ head.0 ∷ fs.members = fs.are ∙ ap (λ hs. hs ++ fs.members) head.1 in
+          ap (λ is. named n (findings_at_items step period past is)) items
+          ∙ with_head n step period past head.0 fs.members head.2 none
+          ∙ ap (λ (x : Listening). cond (is_made x.awaited (said_ensemble head.0)) (n ∷ []) []) (after_is past h.heard h.is)
+          ∙ ap (λ e. cond (is_made h.heard.awaited e) (n ∷ []) []) head.3
+          ∙ ap (λ b. cond b (n ∷ []) []) (made_where_due p ts c s holds past h)
+      | inr off ↦
+          let bare : fs.heads ≡ [] = subst (λ (o : Option EnsembleInformation). IsHeadOf o fs.heads) (not_sent plan u off) fs.header in
+          let items : frame_items (read_frame r plan.mode (frame_bytes p s)) ≡ fs.members = fs.are ∙ ap (λ hs. hs ++ fs.members) bare in
+          let apart : s.count % step ≢ 0 = λ e. off (ap (λ k. k % step) link.count ∙ e) in
+          ap (λ is. named n (findings_at_items step period past is)) items
+          ∙ quiet_named n _ (items_quiet step period fs.members past none)
+          ∙ ap (λ b. cond b (n ∷ []) []) (sym (not_due s.left apart holds.tracked.swaps))
+    ]
+  where
+    not_due : (left : Option ℕ) → s.count % count_step p.plan.mode ≢ 0 → SwapsOn p.plan s.count left → is_due left ≡ false
+    not_due None apart swaps = refl
+    not_due (Some k) apart swaps = ne_eqb k 0 (λ none. apart (ap (λ n. n % count_step p.plan.mode) (plus k none) ∙ swaps))
+      where
+        plus : (j : ℕ) → j ≡ 0 → s.count ≡ s.count + j
+        plus j none = omega (arith, none)
+
+-- ---- along a run
+
+ended_more : (items : List Item) (past : List Moment) → frames_ended (said items past) ≡ frames_ended past
+ended_more [] past = refl
+ended_more (i ∷ is) past = ended_more is (Said i ∷ past)
+
+along : OneList → Laws → (r : Reading) (period : ℕ) (p : Program) (ts : List Known) → IsCode p ts → (s : State) (events : List Event) → Holds p ts s → (past : List Moment) → IsBetween p.plan past s
+    → swap_frames (findings_of (fib_count p.plan.mode) (count_step p.plan.mode) period past (read_frames r (frames_of p.plan.mode (run_frames p s events)))) ≡ due_frames p (frames_ended past) s events
+along one laws r period p ts c s [] holds past h = refl
+along one laws r period p ts c s (Contact d closed ∷ es) holds past h =
+    along one laws r period p ts c (happens p s (Contact d closed)) es (happens_holds p ts c s (Contact d closed) holds) past
+    (record { heard = h.heard; is = h.is; knows = h.knows; fresh = h.fresh; pending = h.pending; early = h.early; flags = h.flags })
+along one laws r period p ts c s (Frame ∷ es) holds past h =
+    let size : ℕ = fib_count p.plan.mode in
+    let step : ℕ = count_step p.plan.mode in
+    let frame : List Fib = read_frame r p.plan.mode (frame_bytes p s) in
+    let later : List Finding = findings_of size step period (after_read step past frame) (read_frames r (frames_of p.plan.mode (run_frames p (after_frame p s) es))) in
+    let now = agrees_by one laws r period p ts c s holds past (inr h) in
+    let rest = along one laws r period p ts c (after_frame p s) es (frame_holds p ts c s holds) (after_read step past frame) now.after in
+    let here : swap_frames (findings_in size step period past frame) ≡ cond (is_due s.left) (frames_ended past ∷ []) [] =
+    frame_named size step period past frame ∙ items_named one laws r (frames_ended past) period p ts c s holds past h in
+    let number : frames_ended (after_read step past frame) ≡ frames_ended past + 1 = ap (λ n. n + 1) (ended_more (frame_items frame) past) in
+    frames_both (findings_in size step period past frame) _
+    ∙ ap (λ b. swap_frames (findings_in size step period past frame) ++ swap_frames (cond b [] later)) now.room
+    ∙ ap (λ l. l ++ swap_frames later) here
+    ∙ ap (λ l. cond (is_due s.left) (frames_ended past ∷ []) [] ++ l) (rest ∙ ap (λ n. due_frames p n (after_frame p s) es) number)
+    ∙ joined (is_due s.left)
+  where
+    joined : (b : Bool) → cond b (frames_ended past ∷ []) [] ++ due_frames p (frames_ended past + 1) (after_frame p s) es
+        ≡ cond b (frames_ended past ∷ due_frames p (frames_ended past + 1) (after_frame p s) es) (due_frames p (frames_ended past + 1) (after_frame p s) es)
+    joined true = refl
+    joined false = refl
+
+-- in the first frame nothing was awaited
+first_named : OneList → Laws → (r : Reading) (period : ℕ) (p : Program) (ts : List Known) → IsCode p ts → (s : State) → Holds p ts s → s.count % count_step p.plan.mode ≡ 0
+    → named 0 (findings_at_items (count_step p.plan.mode) period [] (frame_items (read_frame r p.plan.mode (frame_bytes p s)))) ≡ []
+first_named one laws r period p ts c s holds on =
+    let plan : Plan = p.plan in
+    let u : State = shown p s in
+    let step : ℕ = count_step plan.mode in
+    let a = airs p ts c s holds in
+    let link = links p ts c s holds in
+    let fs = frame_said one laws r plan u a in
+    let none = none_of (on_air plan u) u fs.members fs.sent in
+    let here : u.count % step ≡ 0 = ap (λ n. n % step) link.count ∙ on in
+    let head = subst (λ (o : Option EnsembleInformation). IsHeadOf o fs.heads) (is_sent plan u here) fs.header in
+    let items : frame_items (read_frame r plan.mode (frame_bytes p s)) ≡ head.0 ∷ fs.members = fs.are ∙ ap (λ hs. hs ++ fs.members) head.1 in
+    ap (λ is. named 0 (findings_at_items step period [] is)) items ∙ with_head 0 step period [] head.0 fs.members head.2 none
+
+from_first : OneList → Laws → (r : Reading) (period : ℕ) (p : Program) (ts : List Known) → IsCode p ts → (s : State) (events : List Event) → Holds p ts s → s.count % count_step p.plan.mode ≡ 0
+    → swap_frames (findings_of (fib_count p.plan.mode) (count_step p.plan.mode) period [] (read_frames r (frames_of p.plan.mode (run_frames p s events)))) ≡ due_after_first p s events
+from_first one laws r period p ts c s [] holds on = refl
+from_first one laws r period p ts c s (Contact d closed ∷ es) holds on = from_first one laws r period p ts c (happens p s (Contact d closed)) es (happens_holds p ts c s (Contact d closed) holds) on
+from_first one laws r period p ts c s (Frame ∷ es) holds on =
+    let size : ℕ = fib_count p.plan.mode in
+    let step : ℕ = count_step p.plan.mode in
+    let frame : List Fib = read_frame r p.plan.mode (frame_bytes p s) in
+    let later : List Finding = findings_of size step period (after_read step [] frame) (read_frames r (frames_of p.plan.mode (run_frames p (after_frame p s) es))) in
+    let now = agrees_by one laws r period p ts c s holds [] (inl (refl, on)) in
+    let rest = along one laws r period p ts c (after_frame p s) es (frame_holds p ts c s holds) (after_read step [] frame) now.after in
+    let here : swap_frames (findings_in size step period [] frame) ≡ [] = frame_named size step period [] frame ∙ first_named one laws r period p ts c s holds on in
+    let number : frames_ended (after_read step [] frame) ≡ 1 = ap (λ n. n + 1) (ended_more (frame_items frame) []) in
+    frames_both (findings_in size step period [] frame) _
+    ∙ ap (λ b. swap_frames (findings_in size step period [] frame) ++ swap_frames (cond b [] later)) now.room
+    ∙ ap (λ l. l ++ swap_frames later) here
+    ∙ rest ∙ ap (λ n. due_frames p n (after_frame p s) es) number
+
+pub swaps_are_named : OneList → Laws → SwapsAreNamed
+swaps_are_named one laws r p s period waiting events played on =
+    let ts : List Known = played.typed.0 in
+    let code = code_of p s played in
+    from_first one laws r period p ts code (run p s waiting) events (run_holds p ts code s waiting (played_holds p s played)) on

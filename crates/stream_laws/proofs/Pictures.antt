@@ -1,0 +1,156 @@
+-- Look-ups in a picture that keeps one entry more.
+use Rattle.std.proofs.Common.{◌≡◌, ℕ, ◌==◌, ◌||◌, Bool, true, false, cond, nat_lt, List, [], ◌∷◌, length, Option, Some, None, refl, sym, ap, ◌∙◌}
+use Rattle.std.proofs.lemmas.Bool.{false≢true, eq-eqb, eqb-true}
+use Rattle.mux_config.specs.Tables.{entry_at, with_entry, with_entry_changed, has_entry}
+use Rattle.mux_config.proofs.Keeping.{present}
+use Rattle.fib_reader.specs.Raw.{Raw}
+use Rattle.fib_reader.specs.Listening.{Pictured, identifier_of, is_known, kept, has_room, pictured}
+use Rattle.stream_check.specs.declared.heard_table.Standing.TheVariants as standings
+use Rattle.stream_check.specs.Standing.{standing_to, standing, standing_in}
+use Rattle.stream_check.specs.Rules.{finds_no_room}
+use Rattle.stream_laws.specs.Keeping.{entry_like}
+
+-- ---- one list
+
+added_here : (raw : Raw) (rs : List Raw) → has_entry identifier_of (identifier_of raw) rs ≡ false → entry_at identifier_of (identifier_of raw) (with_entry identifier_of raw rs) ≡ Some raw
+added_here raw [] none = ap (λ t. cond t (Some raw) None) (eq-eqb (identifier_of raw) (identifier_of raw) refl)
+added_here raw (x ∷ xs) none =
+    elim (identifier_of x == identifier_of raw) as (λ t. (identifier_of x == identifier_of raw) ≡ t → (t || has_entry identifier_of (identifier_of raw) xs) ≡ false
+    → entry_at identifier_of (identifier_of raw) (cond (nat_lt (identifier_of raw) (identifier_of x)) (raw ∷ x ∷ xs) (x ∷ with_entry identifier_of raw xs)) ≡ Some raw) [
+      | true ↦ λ is n. absurd (false≢true (sym n))
+      | false ↦ λ is n. elim (nat_lt (identifier_of raw) (identifier_of x)) as (λ t. entry_at identifier_of (identifier_of raw) (cond t (raw ∷ x ∷ xs) (x ∷ with_entry identifier_of raw xs)) ≡ Some raw) [
+        | true ↦ ap (λ t. cond t (Some raw) (entry_at identifier_of (identifier_of raw) (x ∷ xs))) (eq-eqb (identifier_of raw) (identifier_of raw) refl)
+        | false ↦ ap (λ t. cond t (Some x) (entry_at identifier_of (identifier_of raw) (with_entry identifier_of raw xs))) is ∙ added_here raw xs n
+      ]
+    ] refl none
+
+changed_here : (raw : Raw) (rs : List Raw) → has_entry identifier_of (identifier_of raw) rs ≡ true → entry_at identifier_of (identifier_of raw) (with_entry_changed identifier_of raw rs) ≡ Some raw
+changed_here raw [] some = absurd (false≢true some)
+changed_here raw (x ∷ xs) some =
+    elim (identifier_of x == identifier_of raw) as (λ t. (identifier_of x == identifier_of raw) ≡ t → (t || has_entry identifier_of (identifier_of raw) xs) ≡ true
+    → entry_at identifier_of (identifier_of raw) (cond t raw x ∷ with_entry_changed identifier_of raw xs) ≡ Some raw) [
+      | true ↦ λ is s. ap (λ t. cond t (Some raw) (entry_at identifier_of (identifier_of raw) (with_entry_changed identifier_of raw xs))) (eq-eqb (identifier_of raw) (identifier_of raw) refl)
+      | false ↦ λ is s. ap (λ t. cond t (Some x) (entry_at identifier_of (identifier_of raw) (with_entry_changed identifier_of raw xs))) is ∙ changed_here raw xs s
+    ] refl some
+
+pub kept_here : (raw : Raw) (rs : List Raw) → entry_at identifier_of (identifier_of raw) (kept raw rs) ≡ Some raw
+kept_here raw rs = elim (is_known raw rs) as (λ t. is_known raw rs ≡ t → entry_at identifier_of (identifier_of raw) (cond t (with_entry_changed identifier_of raw rs) (with_entry identifier_of raw rs)) ≡ Some raw) [
+  | true ↦ λ is. changed_here raw rs is
+  | false ↦ λ is. added_here raw rs is
+] refl
+
+added_other : (raw : Raw) (k : ℕ) (rs : List Raw) → (identifier_of raw == k) ≡ false → entry_at identifier_of k (with_entry identifier_of raw rs) ≡ entry_at identifier_of k rs
+added_other raw k [] other = ap (λ t. cond t (Some raw) None) other
+added_other raw k (x ∷ xs) other = elim (nat_lt (identifier_of raw) (identifier_of x)) as (λ t. entry_at identifier_of k (cond t (raw ∷ x ∷ xs) (x ∷ with_entry identifier_of raw xs)) ≡ entry_at identifier_of k (x ∷ xs)) [
+  | true ↦ ap (λ t. cond t (Some raw) (entry_at identifier_of k (x ∷ xs))) other
+  | false ↦ ap (λ o. cond (identifier_of x == k) (Some x) o) (added_other raw k xs other)
+]
+
+changed_other : (raw : Raw) (k : ℕ) (rs : List Raw) → (identifier_of raw == k) ≡ false → entry_at identifier_of k (with_entry_changed identifier_of raw rs) ≡ entry_at identifier_of k rs
+changed_other raw k [] other = refl
+changed_other raw k (x ∷ xs) other = elim (identifier_of x == identifier_of raw) as (λ t. (identifier_of x == identifier_of raw) ≡ t → entry_at identifier_of k (cond t raw x ∷ with_entry_changed identifier_of raw xs) ≡ entry_at identifier_of k (x ∷ xs)) [
+  | true ↦ λ is.
+      let one : identifier_of x ≡ identifier_of raw = eqb-true (identifier_of x) (identifier_of raw) is in
+      ap (λ t. cond t (Some raw) (entry_at identifier_of k (with_entry_changed identifier_of raw xs))) other ∙ changed_other raw k xs other
+      ∙ sym (ap (λ n. cond (n == k) (Some x) (entry_at identifier_of k xs)) one ∙ ap (λ t. cond t (Some x) (entry_at identifier_of k xs)) other)
+  | false ↦ λ is. ap (λ o. cond (identifier_of x == k) (Some x) o) (changed_other raw k xs other)
+] refl
+
+pub kept_other : (raw : Raw) (k : ℕ) (rs : List Raw) → (identifier_of raw == k) ≡ false → entry_at identifier_of k (kept raw rs) ≡ entry_at identifier_of k rs
+kept_other raw k rs other = elim (is_known raw rs) as (λ t. entry_at identifier_of k (cond t (with_entry_changed identifier_of raw rs) (with_entry identifier_of raw rs)) ≡ entry_at identifier_of k rs) [
+  | true ↦ changed_other raw k rs other
+  | false ↦ added_other raw k rs other
+]
+
+-- an entry that agrees with the one that is kept, or has another identifier, stays
+pub kept_stays : (raw y : Raw) (rs : List Raw) → ((known : Raw) → entry_at identifier_of (identifier_of raw) rs ≡ Some known → known ≡ raw)
+    → entry_at identifier_of (identifier_of y) rs ≡ Some y → entry_at identifier_of (identifier_of y) (kept raw rs) ≡ Some y
+kept_stays raw y rs agrees found = elim (identifier_of raw == identifier_of y) as (λ t. (identifier_of raw == identifier_of y) ≡ t → entry_at identifier_of (identifier_of y) (kept raw rs) ≡ Some y) [
+  | true ↦ λ is.
+      let one : identifier_of raw ≡ identifier_of y = eqb-true (identifier_of raw) (identifier_of y) is in
+      let same : y ≡ raw = agrees y (ap (λ n. entry_at identifier_of n rs) one ∙ found) in
+      ap (λ n. entry_at identifier_of n (kept raw rs)) (sym one) ∙ kept_here raw rs ∙ ap Some (sym same)
+  | false ↦ λ is. kept_other raw (identifier_of y) rs is ∙ found
+] refl
+
+-- ---- a picture
+
+-- the picture with one entry more
+abbrev pub picture_with : Raw → Pictured → Pictured
+picture_with raw p = cond (raw.ext == 1) (record p { subs = kept raw p.subs }) (cond (raw.ext == 2) (record p { services = kept raw p.services }) (record p { packets = kept raw p.packets }))
+
+or_right : (a b : Bool) → b ≡ true → (a || b) ≡ true
+or_right true b h = refl
+or_right false b h = h
+
+room_by : (raw : Raw) (rs : List Raw) (found : Option Raw) → entry_at identifier_of (identifier_of raw) rs ≡ found → finds_no_room (standing_to raw (length rs) found) ≡ false → has_room raw rs ≡ true
+room_by raw rs None e free = elim (nat_lt (length rs) 64) as (λ t. nat_lt (length rs) 64 ≡ t → finds_no_room (cond t standings.Absent standings.Full) ≡ false → has_room raw rs ≡ true) [
+  | true ↦ λ few n. or_right (is_known raw rs) (nat_lt (length rs) 64) few
+  | false ↦ λ many n. absurd (false≢true (sym n))
+] refl free
+room_by raw rs (Some r) e free = ap (λ t. t || nat_lt (length rs) 64) (present identifier_of (identifier_of raw) rs r e)
+
+room_where : (raw : Raw) (rs : List Raw) → finds_no_room (standing raw rs) ≡ false → has_room raw rs ≡ true
+room_where raw rs free = room_by raw rs (entry_at identifier_of (identifier_of raw) rs) refl free
+
+pub taken_in : (raw : Raw) (p : Pictured) → finds_no_room (standing_in raw p) ≡ false → pictured raw p ≡ Some (picture_with raw p)
+taken_in raw p room = elim (raw.ext == 1) as (λ t. finds_no_room (standing raw (cond t p.subs (cond (raw.ext == 2) p.services p.packets))) ≡ false
+    → cond t (Some (record p { subs = kept raw p.subs })) (cond (raw.ext == 2) (cond (has_room raw p.services) (Some (record p { services = kept raw p.services })) None) (cond (has_room raw p.packets) (Some (record p { packets = kept raw p.packets })) None))
+    ≡ Some (cond t (record p { subs = kept raw p.subs }) (cond (raw.ext == 2) (record p { services = kept raw p.services }) (record p { packets = kept raw p.packets })))) [
+      | true ↦ λ r. refl
+      | false ↦ elim (raw.ext == 2) as (λ t. finds_no_room (standing raw (cond t p.services p.packets)) ≡ false
+          → cond t (cond (has_room raw p.services) (Some (record p { services = kept raw p.services })) None) (cond (has_room raw p.packets) (Some (record p { packets = kept raw p.packets })) None)
+          ≡ Some (cond t (record p { services = kept raw p.services }) (record p { packets = kept raw p.packets }))) [
+            | true ↦ λ r. ap (λ t. cond t (Some (record p { services = kept raw p.services })) None) (room_where raw p.services r)
+            | false ↦ λ r. ap (λ t. cond t (Some (record p { packets = kept raw p.packets })) None) (room_where raw p.packets r)
+          ]
+    ] room
+
+-- the list that an extension names
+abbrev by_ext : ℕ → Pictured → List Raw
+by_ext n p = cond (n == 1) p.subs (cond (n == 2) p.services p.packets)
+
+kind_of : ℕ → ℕ
+kind_of n = cond (n == 1) 1 (cond (n == 2) 2 3)
+
+-- the entry that is kept is found
+pub found_kept : (raw : Raw) (p : Pictured) → entry_like raw (picture_with raw p) ≡ Some raw
+found_kept raw p = elim (raw.ext == 1) as (λ t. entry_at identifier_of (identifier_of raw) (cond t (cond t (record p { subs = kept raw p.subs }) (cond (raw.ext == 2) (record p { services = kept raw p.services }) (record p { packets = kept raw p.packets }))).subs
+    (cond (raw.ext == 2) (cond t (record p { subs = kept raw p.subs }) (cond (raw.ext == 2) (record p { services = kept raw p.services }) (record p { packets = kept raw p.packets }))).services (cond t (record p { subs = kept raw p.subs }) (cond (raw.ext == 2) (record p { services = kept raw p.services }) (record p { packets = kept raw p.packets }))).packets)) ≡ Some raw) [
+      | true ↦ kept_here raw p.subs
+      | false ↦ elim (raw.ext == 2) as (λ t. entry_at identifier_of (identifier_of raw) (cond t (cond t (record p { services = kept raw p.services }) (record p { packets = kept raw p.packets })).services (cond t (record p { services = kept raw p.services }) (record p { packets = kept raw p.packets })).packets) ≡ Some raw) [
+        | true ↦ kept_here raw p.services
+        | false ↦ kept_here raw p.packets
+      ]
+    ]
+
+-- and each entry that was found before is found again, where the one that is kept agrees with what it replaces
+pub found_again : (raw y : Raw) (p : Pictured) → ((known : Raw) → entry_like raw p ≡ Some known → known ≡ raw) → entry_like y p ≡ Some y → entry_like y (picture_with raw p) ≡ Some y
+found_again raw y p agrees found =
+    elim (raw.ext == 1) as (λ t. ((known : Raw) → entry_at identifier_of (identifier_of raw) (cond t p.subs (cond (raw.ext == 2) p.services p.packets)) ≡ Some known → known ≡ raw)
+    → entry_like y (cond t (record p { subs = kept raw p.subs }) (cond (raw.ext == 2) (record p { services = kept raw p.services }) (record p { packets = kept raw p.packets }))) ≡ Some y) [
+      | true ↦ λ ag. elim (y.ext == 1) as (λ t. entry_at identifier_of (identifier_of y) (cond t p.subs (cond (y.ext == 2) p.services p.packets)) ≡ Some y
+          → entry_at identifier_of (identifier_of y) (cond t (kept raw p.subs) (cond (y.ext == 2) p.services p.packets)) ≡ Some y) [
+            | true ↦ λ f. kept_stays raw y p.subs ag f
+            | false ↦ λ f. f
+          ] found
+      | false ↦ elim (raw.ext == 2) as (λ t. ((known : Raw) → entry_at identifier_of (identifier_of raw) (cond t p.services p.packets) ≡ Some known → known ≡ raw)
+          → entry_like y (cond t (record p { services = kept raw p.services }) (record p { packets = kept raw p.packets })) ≡ Some y) [
+            | true ↦ λ ag. elim (y.ext == 1) as (λ t. entry_at identifier_of (identifier_of y) (cond t p.subs (cond (y.ext == 2) p.services p.packets)) ≡ Some y
+                → entry_at identifier_of (identifier_of y) (cond t p.subs (cond (y.ext == 2) (kept raw p.services) p.packets)) ≡ Some y) [
+                  | true ↦ λ f. f
+                  | false ↦ elim (y.ext == 2) as (λ t. entry_at identifier_of (identifier_of y) (cond t p.services p.packets) ≡ Some y → entry_at identifier_of (identifier_of y) (cond t (kept raw p.services) p.packets) ≡ Some y) [
+                    | true ↦ λ f. kept_stays raw y p.services ag f
+                    | false ↦ λ f. f
+                  ]
+                ] found
+            | false ↦ λ ag. elim (y.ext == 1) as (λ t. entry_at identifier_of (identifier_of y) (cond t p.subs (cond (y.ext == 2) p.services p.packets)) ≡ Some y
+                → entry_at identifier_of (identifier_of y) (cond t p.subs (cond (y.ext == 2) p.services (kept raw p.packets))) ≡ Some y) [
+                  | true ↦ λ f. f
+                  | false ↦ elim (y.ext == 2) as (λ t. entry_at identifier_of (identifier_of y) (cond t p.services p.packets) ≡ Some y → entry_at identifier_of (identifier_of y) (cond t p.services (kept raw p.packets)) ≡ Some y) [
+                    | true ↦ λ f. f
+                    | false ↦ λ f. kept_stays raw y p.packets ag f
+                  ]
+                ] found
+          ]
+    ] agrees

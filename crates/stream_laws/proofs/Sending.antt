@@ -1,0 +1,222 @@
+-- The entries of a frame of a run, as the check of a stream hears them.
+use Rattle.std.proofs.Common.{◌≡◌, ℕ, ◌+◌, ◌-◌, ◌*◌, ◌/◌, ◌%◌, ◌≤◌, ◌==◌, Bool, true, false, cond, List, [], ◌∷◌, ◌++◌, length, drop, Option, Some, None, refl, sym, ap, ◌∙◌, subst, arith, inl, inr}
+use Rattle.std.specs.Prelude.{map, IfSome}
+use Rattle.std.specs.List.{AllByRecursion}
+use Rattle.std.proofs.lemmas.List.{append_assoc, drop-drop}
+use Rattle.mux_config.specs.Configuration.{Configuration}
+use Rattle.mux_entries.specs.Entries.{EnsembleInformation}
+use Rattle.mux_entries.specs.Facts.{Marked, marked, facts_of}
+use Rattle.mux_entries.specs.declared.entry.Entry.{Entry}
+use Rattle.mux_entries.specs.declared.entry.Entry.TheVariants.{Ensemble as EnsembleOf, Sub as SubOf, Short as ShortOf, Service as ServiceOf, Packet as PacketOf}
+use Rattle.fib_codec.specs.declared.head.Head.{Head}
+use Rattle.fib_codec.specs.declared.modes.Mode.{Mode}
+use Rattle.fib_codec.specs.declared.modes.Mode.TheVariants.{I, II, III, IV}
+use Rattle.fib_codec.specs.Ranges.{IsEnsembleInformation}
+use Rattle.fib_codec.specs.Spelling.{Written, head_of, head_byte, bit_of, entry_bytes, ext_of, is_long_entry}
+use Rattle.fib_codec.specs.Grammar.{OneList, fig_of, is_next, is_long}
+use Rattle.fib_codec.specs.Heard.{fib_at}
+use Rattle.fib_codec.specs.Modes.{fib_count}
+use Rattle.fib_carousel.specs.Packing.{same_head, entries_where}
+use Rattle.fib_carousel.specs.Greedy.{packing}
+use Rattle.fib_carousel.specs.Pages.{page_set, fib_entries, first_fib, later_fibs}
+use Rattle.fib_carousel.specs.Bytes.{AreFibs, joined, figs_of, ensemble_figs}
+use Rattle.fib_carousel.proofs.Sharing.{same_head_is}
+use Rattle.fib_reader.specs.Raw.{Raw, raw_of, raw_entry, ensemble_in}
+use Rattle.fib_reader.specs.Laws.{EnsembleIsHeard}
+use Rattle.stream_check.specs.Frames.{Fib, Reading}
+use Rattle.stream_check.specs.History.{Item, fig_items, figs_items, fib_items, fibs_items, frame_items, is_ensemble, ensemble_of as said_ensemble}
+use Rattle.plan_code.specs.declared.plan.Plan.{Plan}
+use Rattle.plan_code.specs.Machine.{State}
+use Rattle.plan_runs.specs.Frames.{is_noticed, sent_entries, ensemble_sent, shown_bytes}
+use Rattle.plan_runs.specs.Listening.{fibs_from}
+use Rattle.plan_runs.proofs.Tracked.{Airs}
+use Rattle.plan_runs.proofs.Right.{pageable, sent_within}
+use Rattle.plan_listeners.proofs.Parts.{In}
+use Rattle.plan_listeners.proofs.Pictures.{entries_of, in_append, fact_in}
+use Rattle.plan_listeners.proofs.Tuned.{IsSentOf, AreSentOf}
+use Rattle.plan_listeners.proofs.Contents.{Laws}
+use Rattle.stream_laws.proofs.Framing.{is_read, all_append, first_of_fibs, read_frame}
+
+-- an entry that is sent of these configurations
+pub record IsSentItem (noticed : Bool) (c n : Configuration) (i : Item) : Type 0 where
+  pub m : Marked
+  pub next : i.next ≡ m.next
+  pub raw : i.raw ≡ raw_entry m.entry
+  pub sent : IsSentOf noticed c n m
+
+-- ---- a FIG
+
+flag_low : (b : Bool) → bit_of b ≤ 1
+flag_low true = omega arith
+flag_low false = omega arith
+
+flag_is : (b : Bool) → (bit_of b == 1) ≡ b
+flag_is true = refl
+flag_is false = refl
+
+ext_low : (e : Entry) → ext_of e ≤ 3
+ext_low (EnsembleOf e) = omega arith
+ext_low (SubOf s) = omega arith
+ext_low (ShortOf s) = omega arith
+ext_low (ServiceOf s) = omega arith
+ext_low (PacketOf p) = omega arith
+
+second_ext : (m : Marked) → head_byte (head_of m) % 32 ≡ ext_of m.entry
+second_ext m = omega (arith, ext_low m.entry, flag_low m.next, flag_low (is_long_entry m.entry))
+
+second_next : (m : Marked) → is_next (head_byte (head_of m)) ≡ m.next
+second_next m =
+    let n : head_byte (head_of m) / 128 ≡ bit_of m.next = omega (arith, ext_low m.entry, flag_low m.next, flag_low (is_long_entry m.entry)) in
+    ap (λ (k : ℕ). k == 1) n ∙ flag_is m.next
+
+second_long : (m : Marked) → is_long (head_byte (head_of m)) ≡ is_long_entry m.entry
+second_long m =
+    let n : head_byte (head_of m) / 32 % 2 ≡ bit_of (is_long_entry m.entry) = omega (arith, ext_low m.entry, flag_low m.next, flag_low (is_long_entry m.entry)) in
+    ap (λ (k : ℕ). k == 1) n ∙ flag_is (is_long_entry m.entry)
+
+raw_said : (e : Entry) → raw_of (ext_of e) (is_long_entry e) (entry_bytes e) ≡ raw_entry e
+raw_said (EnsembleOf e) = refl
+raw_said (SubOf s) = refl
+raw_said (ShortOf s) = refl
+raw_said (ServiceOf s) = refl
+raw_said (PacketOf p) = refl
+
+raw_is : (m : Marked) → raw_of (head_byte (head_of m) % 32) (is_long (head_byte (head_of m))) (entry_bytes m.entry) ≡ raw_entry m.entry
+raw_is m =
+    ap (λ (n : ℕ). raw_of n (is_long (head_byte (head_of m))) (entry_bytes m.entry)) (second_ext m)
+    ∙ ap (λ (b : Bool). raw_of (ext_of m.entry) b (entry_bytes m.entry)) (second_long m)
+    ∙ raw_said m.entry
+
+-- ---- FIGs of entries
+
+abbrev under : Head → List Entry → Written
+under head es = record { head = head; entries = es }
+
+-- each entry of the FIG is sent, whichever FIG of its frame it is
+abbrev FigIsSent : Bool → Configuration → Configuration → Written → Type 0
+FigIsSent on c n w = (first : Bool) → AllByRecursion (IsSentItem on c n) (fig_items first (fig_of w))
+
+item_sent : (on : Bool) (c n : Configuration) (m : Marked) (first : Bool) → IsSentOf on c n m
+    → IsSentItem on c n (record { first = first; next = is_next (head_byte (head_of m)); raw = raw_of (head_byte (head_of m) % 32) (is_long (head_byte (head_of m))) (entry_bytes m.entry) })
+item_sent on c n m first sent = record { m = m; next = second_next m; raw = raw_is m; sent = sent }
+
+joined_by : (on : Bool) (c n : Configuration) (m : Marked) (f : Written) (fs : List Written) (b : Bool) → same_head (head_of m) f.head ≡ b → IsSentOf on c n m → FigIsSent on c n f → AllByRecursion (FigIsSent on c n) fs
+    → AllByRecursion (FigIsSent on c n) (cond b (under f.head (m.entry ∷ f.entries) ∷ fs) (under (head_of m) (m.entry ∷ []) ∷ f ∷ fs))
+joined_by on c n m f fs true e sent one rest =
+    let same : head_of m ≡ f.head = same_head_is (head_of m) f.head e in
+    let more : FigIsSent on c n (under (head_of m) f.entries) → FigIsSent on c n (under (head_of m) (m.entry ∷ f.entries)) = λ before first. (item_sent on c n m first sent, before first) in
+    let moved : FigIsSent on c n (under f.head f.entries) → FigIsSent on c n (under f.head (m.entry ∷ f.entries)) =
+    subst (λ (h : Head). FigIsSent on c n (under h f.entries) → FigIsSent on c n (under h (m.entry ∷ f.entries))) same more in
+    (moved one, rest)
+joined_by on c n m f fs false e sent one rest = ((λ first. (item_sent on c n m first sent, tt)), (one, rest))
+
+joined_sent : (on : Bool) (c n : Configuration) (m : Marked) (fs : List Written) → IsSentOf on c n m → AllByRecursion (FigIsSent on c n) fs → AllByRecursion (FigIsSent on c n) (joined m fs)
+joined_sent on c n m [] sent all = ((λ first. (item_sent on c n m first sent, tt)), tt)
+joined_sent on c n m (f ∷ fs) sent all = joined_by on c n m f fs (same_head (head_of m) f.head) refl sent all.0 all.1
+
+figs_sent : (on : Bool) (c n : Configuration) (ms : List Marked) → AllByRecursion (IsSentOf on c n) ms → AllByRecursion (FigIsSent on c n) (figs_of ms)
+figs_sent on c n [] all = tt
+figs_sent on c n (m ∷ ms) all = joined_sent on c n m (figs_of ms) all.0 (figs_sent on c n ms all.1)
+
+items_sent : (on : Bool) (c n : Configuration) (ws : List Written) (first : Bool) → AllByRecursion (FigIsSent on c n) ws → AllByRecursion (IsSentItem on c n) (figs_items first (map fig_of ws))
+items_sent on c n [] first all = tt
+items_sent on c n (w ∷ ws) first all = all_append (IsSentItem on c n) (fig_items first (fig_of w)) (figs_items false (map fig_of ws)) (all.0 first) (items_sent on c n ws false all.1)
+
+-- ---- a frame
+
+-- FIG 0/0, where it is sent
+abbrev pub IsHeadOf : Option EnsembleInformation → List Item → Type 0
+IsHeadOf None heads = heads ≡ []
+IsHeadOf (Some e) heads = (h : Item) × (heads ≡ h ∷ []) × (is_ensemble h ≡ true) × (said_ensemble h ≡ e)
+
+pub record IsFrameSaid (plan : Plan) (u : State) (frame : List Fib) : Type 0 where
+  pub heads : List Item
+  pub members : List Item
+  pub are : frame_items frame ≡ heads ++ members
+  pub header : IsHeadOf (ensemble_sent plan u) heads
+  pub sent : AllByRecursion (IsSentItem (is_noticed plan.notice u.left) u.current u.next) members
+
+head_items : EnsembleIsHeard → (o : Option EnsembleInformation) → IfSome o IsEnsembleInformation → (ws : List Written)
+    → (heads : List Item) × (first : Bool) × (figs_items true (map fig_of (ensemble_figs o ++ ws)) ≡ heads ++ figs_items first (map fig_of ws)) × IsHeadOf o heads
+head_items heard None within ws = ([], true, refl, refl)
+head_items heard (Some e) within ws =
+    let m : Marked = marked false (EnsembleOf e) in
+    let h : Item = record { first = true; next = is_next (head_byte (head_of m)); raw = raw_of (head_byte (head_of m) % 32) (is_long (head_byte (head_of m))) (entry_bytes (EnsembleOf e)) } in
+    let raw : h.raw ≡ raw_entry (EnsembleOf e) = raw_is m in
+    (h ∷ [], false, refl, (h, refl, ap (λ (x : Raw). x.ext == 0) raw, ap ensemble_in raw ∙ heard e within))
+
+fibs_later : OneList → (r : Reading) (on : Bool) (c n : Configuration) (mode : Mode) (es : List Marked) (ns : List ℕ) (place : ℕ) (frame : List ℕ)
+    → AreFibs (map (λ k. figs_of (fib_entries mode k es)) ns) (drop (32 * place) frame) → AreSentOf on c n (map (λ k. fib_entries mode k es) ns)
+    → AllByRecursion (IsSentItem on c n) (fibs_items false (map r.read (fibs_from (length ns) place frame)))
+fibs_later one r on c n mode es [] place frame are sent = tt
+fibs_later one r on c n mode es (k ∷ ks) place frame are sent =
+    let next : drop 32 (drop (32 * place) frame) ≡ drop (32 * (place + 1)) frame = drop-drop 32 (32 * place) frame ∙ ap (λ d. drop d frame) (omega arith) in
+    let rest : AreFibs (map (λ j. figs_of (fib_entries mode j es)) ks) (drop (32 * (place + 1)) frame) = subst (λ (b : List ℕ). AreFibs (map (λ j. figs_of (fib_entries mode j es)) ks) b) next are.1 in
+    let read : r.read (fib_at frame place) ≡ Some (map fig_of (figs_of (fib_entries mode k es))) = is_read one r (fib_at frame place) (map fig_of (figs_of (fib_entries mode k es))) are.0.fib in
+    all_append (IsSentItem on c n) (fib_items false (r.read (fib_at frame place))) _
+    (subst (λ (fib : Fib). AllByRecursion (IsSentItem on c n) (fib_items false fib)) (sym read) (items_sent on c n (figs_of (fib_entries mode k es)) false (figs_sent on c n (fib_entries mode k es) sent.0)))
+    (fibs_later one r on c n mode es ks (place + 1) frame rest sent.1)
+
+-- what is sent
+
+each_from : {T : Type 0} (P : T → Type 0) (xs : List T) → ((x : T) → In x xs → P x) → AllByRecursion P xs
+each_from P [] f = tt
+each_from P (x ∷ xs) f = (f x (inl refl), each_from P xs (λ y h. f y (inr h)))
+
+chosen : (P : Marked → Type 0) (e : Marked) (xs : List Marked) → P e → AllByRecursion P xs → (b : Bool) → AllByRecursion P (cond b (e ∷ xs) xs)
+chosen P e xs h hs true = (h, hs)
+chosen P e xs h hs false = hs
+
+each_where : (P : Marked → Type 0) (test : ℕ → Bool) (es : List Marked) (ns : List ℕ) → AllByRecursion P es → AllByRecursion P (entries_where test es ns)
+each_where P test [] ns h = tt
+each_where P test (e ∷ es) [] h = tt
+each_where P test (e ∷ es) (n ∷ ns) h = chosen P e (entries_where test es ns) h.0 (each_where P test es ns h.1) (test n)
+
+sent_by : (c n : Configuration) (b : Bool) (m : Marked) → In m (page_set c (cond b (Some n) None)) → IsSentOf b c n m
+sent_by c n false m h = (let fact = fact_in false (entries_of c) m h in inl (sym fact.0, fact.1))
+sent_by c n true m h =
+    elim (in_append m (facts_of c false) (facts_of n true) h) [
+      | inl here ↦ (let fact = fact_in false (entries_of c) m here in inl (sym fact.0, fact.1))
+      | inr there ↦ (let fact = fact_in true (entries_of n) m there in inr (refl, sym fact.0, fact.1))
+    ]
+
+fib_sent : (plan : Plan) (u : State) (k : ℕ) → AllByRecursion (IsSentOf (is_noticed plan.notice u.left) u.current u.next) (fib_entries plan.mode k (sent_entries plan u))
+fib_sent plan u k =
+    each_where (IsSentOf (is_noticed plan.notice u.left) u.current u.next) (λ j. j == k) (sent_entries plan u) (packing plan.mode (sent_entries plan u))
+    (each_from (IsSentOf (is_noticed plan.notice u.left) u.current u.next) (sent_entries plan u) (sent_by u.current u.next (is_noticed plan.notice u.left)))
+
+fibs_sent : (plan : Plan) (u : State) (ns : List ℕ) → AreSentOf (is_noticed plan.notice u.left) u.current u.next (map (λ k. fib_entries plan.mode k (sent_entries plan u)) ns)
+fibs_sent plan u [] = tt
+fibs_sent plan u (k ∷ ks) = (fib_sent plan u k, fibs_sent plan u ks)
+
+later_count : (mode : Mode) (k : ℕ) → fib_count mode - 1 ≡ length (later_fibs mode k)
+later_count I k = refl
+later_count II k = refl
+later_count III k = refl
+later_count IV k = refl
+
+pub frame_said : OneList → Laws → (r : Reading) (plan : Plan) (u : State) → Airs plan u → IsFrameSaid plan u (read_frame r plan.mode (shown_bytes plan u))
+frame_said one laws r plan u a =
+    let mode : Mode = plan.mode in
+    let on : Bool = is_noticed plan.notice u.left in
+    let es : List Marked = sent_entries plan u in
+    let o : Option EnsembleInformation = ensemble_sent plan u in
+    let frame : List ℕ = shown_bytes plan u in
+    let ns : List ℕ = later_fibs mode u.turn in
+    let first : List Marked = fib_entries mode (first_fib mode u.turn) es in
+    let are = (laws.pages.valid mode o u.turn es (pageable laws.pages plan u a)).0 in
+    let read : r.read (fib_at frame 0) ≡ Some (map fig_of (ensemble_figs o ++ figs_of first)) = is_read one r (fib_at frame 0) (map fig_of (ensemble_figs o ++ figs_of first)) are.0.fib in
+    let head = head_items laws.ensemble o (sent_within plan u a) (figs_of first) in
+    let later : List Item = fibs_items false (map r.read (fibs_from (length ns) 1 frame)) in
+    let fibs : read_frame r mode frame ≡ r.read (fib_at frame 0) ∷ map r.read (fibs_from (length ns) 1 frame) =
+    ap (map r.read) (first_of_fibs mode frame) ∙ ap (λ k. r.read (fib_at frame 0) ∷ map r.read (fibs_from k 1 frame)) (later_count mode u.turn) in
+    record {
+      heads = head.0;
+      members = figs_items head.1 (map fig_of (figs_of first)) ++ later;
+      are = ap frame_items fibs ∙ ap (λ fib. fib_items true fib ++ later) read ∙ ap (λ is. is ++ later) head.2
+          ∙ append_assoc head.0 (figs_items head.1 (map fig_of (figs_of first))) later;
+      header = head.3;
+      sent = all_append (IsSentItem on u.current u.next) (figs_items head.1 (map fig_of (figs_of first))) later
+          (items_sent on u.current u.next (figs_of first) head.1 (figs_sent on u.current u.next first (fib_sent plan u (first_fib mode u.turn))))
+          (fibs_later one r on u.current u.next mode es ns 1 frame are.1 (fibs_sent plan u ns));
+    }

@@ -1,0 +1,224 @@
+-- Pictures that show configurations.
+use Rattle.std.proofs.Common.{◌≡◌, ℕ, ◌+◌, ◌<◌, ◌≤◌, ◌&&◌, Bool, true, false, cond, not, List, [], ◌∷◌, ◌++◌, Contains, Some, refl, sym, ap, ◌∙◌, subst, arith, inl, inr}
+use Rattle.std.specs.Prelude.{map, IsTrue}
+use Rattle.std.specs.List.{AllByRecursion}
+use Rattle.std.proofs.lemmas.Bool.{false≢true, eq-eqb, ne_eqb}
+use Rattle.std.proofs.lemmas.List.{append_assoc}
+use Rattle.std.proofs.lemmas.List.Elements.{Contains-append_cases}
+use Rattle.mux_types.proofs.Elements.{contains_cases, contains_none, each_contains}
+use Rattle.mux_types.specs.declared.parts.Sub.{Sub}
+use Rattle.mux_types.specs.declared.parts.Service.{Service}
+use Rattle.mux_types.specs.declared.parts.Packet.{Packet}
+use Rattle.mux_types.specs.Sameness.{is_same_list, is_same_sub, is_same_service, is_same_packet}
+use Rattle.mux_config.specs.Tables.{entry_at}
+use Rattle.mux_config.specs.Configuration.{Configuration, IsConfiguration, IsAscending, IsPlaced, IsService, IsAddressed, sub_key, service_key, packet_key}
+use Rattle.mux_config.specs.Change.{ChangeTells, IsChange, change_of, bits_of, has_same_subs, has_same_services}
+use Rattle.mux_config.proofs.Same.{list_same, sub_same, service_same, packet_same}
+use Rattle.mux_config.proofs.FactSets.{same_members}
+use Rattle.mux_entries.specs.declared.entry.Entry.{Entry}
+use Rattle.mux_entries.specs.Facts.{sub_entry, service_entry, packet_entry, sub_entries, service_entries, HaveSameMembers}
+use Rattle.fib_codec.specs.Ranges.{IsWithin}
+use Rattle.fib_codec.specs.Spelling.{SpellingTells, ext_of}
+use Rattle.fib_reader.specs.Raw.{Raw, raw_entry}
+use Rattle.fib_reader.specs.Listening.{Pictured, identifier_of}
+use Rattle.fib_reader.specs.Picture.{IsPictured, IsSubOf, Shows}
+use Rattle.fib_reader.proofs.FromEntries.{sub_within, service_within, packet_within, sub_identified, service_identified, packet_identified}
+use Rattle.fib_reader.proofs.Shown.{ShowsEach, shows_each}
+use Rattle.stream_check.specs.Standing.{agree}
+use Rattle.stream_check.specs.Rules.{are_same, change_between}
+use Rattle.stream_check.proofs.Agreeing.{agree_self, agree_same}
+use Rattle.stream_laws.specs.Keeping.{entry_like}
+use Rattle.stream_laws.proofs.Clean.{all_left}
+use Rattle.stream_laws.proofs.Bytes.{map_contains}
+use Rattle.stream_laws.proofs.PictureKinds.{HasKinds}
+
+-- ---- each kind of its own
+
+-- a sub-channel of a configuration has one of 64 identifiers
+abbrev IsSmall : Raw → Type 0
+IsSmall raw = raw.ext ≡ 1 → identifier_of raw < 64
+
+all_more : {X : Type 0} (P : X → Type 0) (xs ys : List X) → AllByRecursion P xs → AllByRecursion P ys → AllByRecursion P (xs ++ ys)
+all_more P [] ys a b = b
+all_more P (x ∷ xs) ys a b = (a.0, all_more P xs ys a.1 b)
+
+small_subs : (ss : List Sub) → AllByRecursion IsPlaced ss → AllByRecursion IsSmall (map raw_entry (map sub_entry ss))
+small_subs [] all = tt
+small_subs (s ∷ ss) all = ((λ e. (let is = sub_identified s all.0 in let named = all.0.named in omega (arith, is, named))), small_subs ss all.1)
+
+others : {T : Type 0} (f : T → Entry) (xs : List T) → ((x : T) → (raw_entry (f x)).ext ≡ 1 → ⊥) → AllByRecursion IsSmall (map raw_entry (map f xs))
+others f [] not_so = tt
+others f (x ∷ xs) not_so = ((λ e. absurd (not_so x e)), others f xs not_so)
+
+maps : (xs ys : List Entry) → map raw_entry (xs ++ ys) ≡ map raw_entry xs ++ map raw_entry ys
+maps [] ys = refl
+maps (x ∷ xs) ys = ap (λ zs. raw_entry x ∷ zs) (maps xs ys)
+
+small_entries : (c : Configuration) → IsConfiguration c → AllByRecursion IsSmall (map raw_entry (sub_entries c ++ service_entries c))
+small_entries c is =
+    subst (AllByRecursion IsSmall) (sym (maps (sub_entries c) (service_entries c)))
+    (all_more IsSmall (map raw_entry (sub_entries c)) (map raw_entry (service_entries c)) (small_subs c.subs is.subs_placed)
+    (subst (AllByRecursion IsSmall) (sym (maps (map service_entry c.services) (map packet_entry c.packets)))
+    (all_more IsSmall (map raw_entry (map service_entry c.services)) (map raw_entry (map packet_entry c.packets))
+    (others service_entry c.services (λ x e. omega (arith, e))) (others packet_entry c.packets (λ x e. omega (arith, e))))))
+
+subs_of : (rs : List Raw) → AllByRecursion (λ r. r.ext ≡ 1) rs → AllByRecursion IsSmall rs → AllByRecursion IsSubOf rs
+subs_of [] ext small = tt
+subs_of (r ∷ rs) ext small = ((ext.0, small.0 ext.0), subs_of rs ext.1 small.1)
+
+pub shows_kinds : (p : Pictured) (c : Configuration) → HasKinds p → IsConfiguration c → Shows p c → ShowsEach p c
+shows_kinds p c k is shows =
+    let all : AllByRecursion IsSmall (p.subs ++ (p.services ++ p.packets)) = subst (AllByRecursion IsSmall) (sym shows ∙ append_assoc p.subs p.services p.packets) (small_entries c is) in
+    let pictured : IsPictured p = record { subs = subs_of p.subs k.subs (all_left IsSmall p.subs (p.services ++ p.packets) all); services = k.services; packets = k.packets } in
+    shows_each p c pictured shows
+
+-- ---- its entries are found
+
+found_of : {T : Type 0} (key : T → ℕ) (f : T → Raw) (P : T → Type 0) (xs : List T) (y : T) → ((x : T) → P x → identifier_of (f x) ≡ key x) → AllByRecursion P xs → IsAscending key xs → Contains xs y
+    → entry_at identifier_of (identifier_of (f y)) (map f xs) ≡ Some (f y)
+found_of key f P [] y same all up h = absurd (contains_none y h)
+found_of key f P (x ∷ xs) y same all up h = elim (contains_cases x xs y h) [
+  | inl is ↦ ap (λ t. cond t (Some (f x)) (entry_at identifier_of (identifier_of (f y)) (map f xs))) (eq-eqb (identifier_of (f x)) (identifier_of (f y)) (ap (λ z. identifier_of (f z)) is)) ∙ ap (λ z. Some (f z)) is
+  | inr later ↦ (
+      let less : key x < key y = each_contains (λ z. key x < key z) xs y up.0 later in
+      let one : identifier_of (f x) ≡ key x = same x all.0 in
+      let two : identifier_of (f y) ≡ key y = same y (each_contains P xs y all.1 later) in
+      ap (λ t. cond t (Some (f x)) (entry_at identifier_of (identifier_of (f y)) (map f xs))) (ne_eqb (identifier_of (f x)) (identifier_of (f y)) (λ e. omega (arith, less, one, two, e)))
+      ∙ found_of key f P xs y same all.1 up.1 later
+      )
+]
+
+pub record IsEntryOf (p : Pictured) (e : Entry) : Type 0 where
+  pub found : entry_like (raw_entry e) p ≡ Some (raw_entry e)
+  pub some : 1 ≤ ext_of e
+  pub small : ext_of e < 4
+  pub within : IsWithin e
+
+sub_shown : (p : Pictured) (c : Configuration) → IsConfiguration c → ShowsEach p c → (s : Sub) → Contains c.subs s → IsEntryOf p (sub_entry s)
+sub_shown p c is h s inside = record {
+  found = ap (entry_at identifier_of (identifier_of (raw_entry (sub_entry s)))) (sym h.subs) ∙ found_of sub_key (λ x. raw_entry (sub_entry x)) IsPlaced c.subs s sub_identified is.subs_placed is.subs_ascend inside;
+  some = omega arith;
+  small = omega arith;
+  within = sub_within s (each_contains IsPlaced c.subs s is.subs_placed inside);
+}
+
+service_shown : (p : Pictured) (c : Configuration) → IsConfiguration c → ShowsEach p c → (s : Service) → Contains c.services s → IsEntryOf p (service_entry s)
+service_shown p c is h s inside = record {
+  found = ap (entry_at identifier_of (identifier_of (raw_entry (service_entry s)))) (sym h.services) ∙ found_of service_key (λ x. raw_entry (service_entry x)) IsService c.services s service_identified is.services_formed is.services_ascend inside;
+  some = omega arith;
+  small = omega arith;
+  within = service_within s (each_contains IsService c.services s is.services_formed inside);
+}
+
+packet_shown : (p : Pictured) (c : Configuration) → IsConfiguration c → ShowsEach p c → (s : Packet) → Contains c.packets s → IsEntryOf p (packet_entry s)
+packet_shown p c is h s inside = record {
+  found = ap (entry_at identifier_of (identifier_of (raw_entry (packet_entry s)))) (sym h.packets) ∙ found_of packet_key (λ x. raw_entry (packet_entry x)) IsAddressed c.packets s packet_identified is.packets_addressed is.packets_ascend inside;
+  some = omega arith;
+  small = omega arith;
+  within = packet_within s (each_contains IsAddressed c.packets s is.packets_addressed inside);
+}
+
+pub entry_shown : (p : Pictured) (c : Configuration) → IsConfiguration c → ShowsEach p c → (e : Entry) → Contains (sub_entries c ++ service_entries c) e → IsEntryOf p e
+entry_shown p c is h e inside = elim (Contains-append_cases (sub_entries c) (service_entries c) e inside) [
+  | inl sub ↦ (let there = map_contains sub_entry c.subs e sub in subst (IsEntryOf p) there.2 (sub_shown p c is h there.0 there.1))
+  | inr rest ↦ elim (Contains-append_cases (map service_entry c.services) (map packet_entry c.packets) e rest) [
+    | inl service ↦ (let there = map_contains service_entry c.services e service in subst (IsEntryOf p) there.2 (service_shown p c is h there.0 there.1))
+    | inr packet ↦ (let there = map_contains packet_entry c.packets e packet in subst (IsEntryOf p) there.2 (packet_shown p c is h there.0 there.1))
+  ]
+]
+
+-- ---- the flags of a change
+
+same_lists : (xs ys : List Raw) → are_same xs ys ≡ true → xs ≡ ys
+same_lists [] [] e = refl
+same_lists [] (y ∷ ys) e = absurd (false≢true e)
+same_lists (x ∷ xs) [] e = absurd (false≢true e)
+same_lists (x ∷ xs) (y ∷ ys) e =
+    let head : x ≡ y = agree_same x y (first (agree x y) (are_same xs ys) e) in
+    let tail : xs ≡ ys = same_lists xs ys (second (agree x y) (are_same xs ys) e) in
+    ap (λ z. z ∷ xs) head ∙ ap (λ zs. y ∷ zs) tail
+  where
+    first : (a b : Bool) → (a && b) ≡ true → a ≡ true
+    first true b h = refl
+    first false b h = absurd (false≢true h)
+
+    second : (a b : Bool) → (a && b) ≡ true → b ≡ true
+    second true b h = h
+    second false b h = absurd (false≢true h)
+
+same_itself : (xs : List Raw) → are_same xs xs ≡ true
+same_itself [] = refl
+same_itself (x ∷ xs) = ap (λ b. b && are_same xs xs) (agree_self x) ∙ same_itself xs
+
+same_equal : (xs ys : List Raw) → xs ≡ ys → are_same xs ys ≡ true
+same_equal xs ys e = ap (are_same xs) (sym e) ∙ same_itself xs
+
+bools_equal : (a b : Bool) → (a ≡ true → b ≡ true) → (b ≡ true → a ≡ true) → a ≡ b
+bools_equal true true f g = refl
+bools_equal true false f g = sym (f refl)
+bools_equal false true f g = g refl
+bools_equal false false f g = refl
+
+-- what its entries say is told by their bytes
+entries_told : {T : Type 0} (f : T → Entry) (P : T → Type 0) (xs ys : List T) → SpellingTells → ((x : T) → P x → IsWithin (f x)) → AllByRecursion P xs → AllByRecursion P ys
+    → map (λ x. raw_entry (f x)) xs ≡ map (λ x. raw_entry (f x)) ys → map f xs ≡ map f ys
+entries_told f P [] [] tells within all other e = refl
+entries_told f P [] (y ∷ ys) tells within all other e = absurd cc
+entries_told f P (x ∷ xs) [] tells within all other e = absurd cc
+entries_told f P (x ∷ xs) (y ∷ ys) tells within all other e =
+    let whole : raw_entry (f x) ∷ map (λ z. raw_entry (f z)) xs ≡ raw_entry (f y) ∷ map (λ z. raw_entry (f z)) ys = e in
+    let heads : raw_entry (f x) ≡ raw_entry (f y) = cc in
+    let tails : map (λ z. raw_entry (f z)) xs ≡ map (λ z. raw_entry (f z)) ys = cc in
+    let one : f x ≡ f y = tells (f x) (f y) (within x all.0) (within y other.0) (ap (λ (r : Raw). r.ext) heads) (ap (λ (r : Raw). r.long) heads) (ap (λ (r : Raw). r.bytes) heads) in
+    ap (λ z. z ∷ map f xs) one ∙ ap (λ zs. f y ∷ zs) (entries_told f P xs ys tells within all.1 other.1 tails)
+
+is_no_other : {T : Type 0} (xs ys : List T) (b : Bool) → (IsTrue (not b) → (HaveSameMembers xs ys → ⊥)) → xs ≡ ys → b ≡ true
+is_no_other xs ys true h e = refl
+is_no_other xs ys false h e = absurd (h refl (same_members e))
+
+both_true : (a b : Bool) → a ≡ true → b ≡ true → (a && b) ≡ true
+both_true true b x y = y
+both_true false b x y = absurd (false≢true x)
+
+first_true : (a b : Bool) → (a && b) ≡ true → a ≡ true
+first_true true b h = refl
+first_true false b h = absurd (false≢true h)
+
+second_true : (a b : Bool) → (a && b) ≡ true → b ≡ true
+second_true true b h = h
+second_true false b h = absurd (false≢true h)
+
+flipped : (b : Bool) (n : ℕ) → cond b 0 n ≡ cond (not b) n 0
+flipped true n = refl
+flipped false n = refl
+
+subs_same : SpellingTells → ChangeTells → (p q : Pictured) (c d : Configuration) → IsConfiguration c → IsConfiguration d → ShowsEach p c → ShowsEach q d → are_same p.subs q.subs ≡ has_same_subs c d
+subs_same tells change p q c d is_c is_d h k =
+    let right : IsChange c d (change_of c d) = (change c d (change_of c d) is_c is_d).1 refl in
+    bools_equal (are_same p.subs q.subs) (has_same_subs c d)
+    (λ e. is_no_other (sub_entries c) (sub_entries d) (has_same_subs c d) right.subs.0
+    (entries_told sub_entry IsPlaced c.subs d.subs tells sub_within is_c.subs_placed is_d.subs_placed (h.subs ∙ same_lists p.subs q.subs e ∙ sym k.subs)))
+    (λ e. same_equal p.subs q.subs (sym h.subs ∙ ap (map (λ s. raw_entry (sub_entry s))) (list_same is_same_sub sub_same c.subs d.subs e) ∙ k.subs))
+
+services_same : SpellingTells → ChangeTells → (p q : Pictured) (c d : Configuration) → IsConfiguration c → IsConfiguration d → ShowsEach p c → ShowsEach q d
+    → (are_same p.services q.services && are_same p.packets q.packets) ≡ has_same_services c d
+services_same tells change p q c d is_c is_d h k =
+    let right : IsChange c d (change_of c d) = (change c d (change_of c d) is_c is_d).1 refl in
+    bools_equal (are_same p.services q.services && are_same p.packets q.packets) (has_same_services c d)
+    (λ e.
+    let one : map service_entry c.services ≡ map service_entry d.services = entries_told service_entry IsService c.services d.services tells service_within is_c.services_formed is_d.services_formed
+    (h.services ∙ same_lists p.services q.services (first_true (are_same p.services q.services) _ e) ∙ sym k.services) in
+    let two : map packet_entry c.packets ≡ map packet_entry d.packets = entries_told packet_entry IsAddressed c.packets d.packets tells packet_within is_c.packets_addressed is_d.packets_addressed
+    (h.packets ∙ same_lists p.packets q.packets (second_true (are_same p.services q.services) _ e) ∙ sym k.packets) in
+    is_no_other (service_entries c) (service_entries d) (has_same_services c d) right.services.0
+    (ap (λ xs. xs ++ map packet_entry c.packets) one ∙ ap (λ ys. map service_entry d.services ++ ys) two))
+    (λ e. both_true (are_same p.services q.services) (are_same p.packets q.packets)
+    (same_equal p.services q.services (sym h.services ∙ ap (map (λ s. raw_entry (service_entry s))) (list_same is_same_service service_same c.services d.services (first_true (is_same_list is_same_service c.services d.services) _ e)) ∙ k.services))
+    (same_equal p.packets q.packets (sym h.packets ∙ ap (map (λ s. raw_entry (packet_entry s))) (list_same is_same_packet packet_same c.packets d.packets (second_true (is_same_list is_same_service c.services d.services) _ e)) ∙ k.packets)))
+
+pub flags_of_change : SpellingTells → ChangeTells → (p q : Pictured) (c d : Configuration) → IsConfiguration c → IsConfiguration d → ShowsEach p c → ShowsEach q d → change_between p q ≡ bits_of (change_of c d)
+flags_of_change tells change p q c d is_c is_d h k =
+    ap (λ b. cond b 0 1 + cond (are_same p.services q.services && are_same p.packets q.packets) 0 2) (subs_same tells change p q c d is_c is_d h k)
+    ∙ ap (λ b. cond (has_same_subs c d) 0 1 + cond b 0 2) (services_same tells change p q c d is_c is_d h k)
+    ∙ ap (λ n. n + cond (has_same_services c d) 0 2) (flipped (has_same_subs c d) 1)
+    ∙ ap (λ n. cond (not (has_same_subs c d)) 1 0 + n) (flipped (has_same_services c d) 2)

@@ -1,0 +1,5 @@
+use Rattle.stream_laws.proofs.Cutting.{frames_are_of_bytes}
+use Rattle.stream_laws.proofs.laws.cutting.Goals as goal
+
+pub returns : goal.returns
+returns c = frames_are_of_bytes

@@ -1,0 +1,28 @@
+-- The frames of a run, as the check of a stream cuts them.
+use Rattle.std.specs.Prelude.{◌≡◌, ℕ, ◌%◌, List, [], ◌++◌, map}
+use Rattle.fib_codec.specs.declared.modes.Mode.{Mode}
+use Rattle.fib_codec.specs.Modes.{fib_count, count_step}
+use Rattle.stream_check.specs.Frames.{Reading, IsFramed}
+use Rattle.plan_code.specs.Program.{Program}
+use Rattle.plan_code.specs.Machine.{State}
+use Rattle.plan_runs.specs.declared.event.Event.{Event}
+use Rattle.plan_runs.specs.Runs.{run, run_frames}
+use Rattle.plan_runs.specs.TypedRuns.{IsPlayed}
+use Rattle.plan_runs.specs.Listening.{fibs_from, fibs_of, HasCount}
+use Rattle.stream_laws.specs.Notices.{read_frames}
+
+-- frames of bytes, each as its FIBs
+abbrev pub frames_of : Mode → List (List ℕ) → List (List (List ℕ))
+frames_of mode frames = map (fibs_from (fib_count mode) 0) frames
+
+-- the law of frames: of the FIBs of a run those before the first FIG 0/0 are skipped, the others are cut into just the
+-- frames of the run, and none is left over
+abbrev pub RunsAreFramed : Type 0
+RunsAreFramed =
+    (r : Reading) (p : Program) (s : State) (waiting events : List Event) → IsPlayed p s
+    → (HasCount p s waiting → ⊥) → (run p s waiting).count % count_step p.plan.mode ≡ 0
+    → IsFramed (fib_count p.plan.mode)
+    (map r.read (fibs_of p.plan.mode (run_frames p s (waiting ++ events))))
+    (map r.read (fibs_of p.plan.mode (run_frames p s waiting)))
+    (read_frames r (frames_of p.plan.mode (run_frames p (run p s waiting) events)))
+    []

@@ -1,0 +1,115 @@
+//! What holds of all streams without a fault, and of the streams of typed codes. Each law is a
+//! function that does nothing; its contract is the law.
+
+ghost use Rattle.stream_laws.specs.Agreeing.{RunsAgree};
+ghost use Rattle.stream_laws.specs.Announcing.{SwapsAreAnnounced};
+ghost use Rattle.stream_laws.specs.Entries.{ChangesAreAnnounced};
+ghost use Rattle.stream_laws.specs.Framing.{RunsAreFramed};
+ghost use Rattle.stream_laws.specs.InPlace.{RunsAreInPlace};
+ghost use Rattle.stream_laws.specs.Keeping.{CurrentIsKept};
+ghost use Rattle.stream_laws.specs.Naming.{SwapsAreNamed};
+ghost use Rattle.stream_laws.specs.Notices.{FramesAreOfBytes};
+ghost use Rattle.stream_laws.specs.Times.{RunsAreTimely};
+
+/// The law of the current configuration: in a stream without a fault each entry with C/N 0 agrees
+/// with the one of its identifier in the picture of the current configuration before it, and is in
+/// that picture from the frame on from which the current configuration is settled.
+pub fn current()
+    ensures { CurrentIsKept }
+{}
+
+/// The law of swaps: in a stream without a fault, at each swap but that of a notice whose beginning
+/// was not heard, where the pictures before it show two configurations, the bytes of the notice's
+/// frames announce the change from one to the other for the low part of the swap's count. They are
+/// three successive parts, each of which has the whole next configuration, and FIG 0/0 is in three
+/// of them or more and always gives the flags of the change and that low part.
+pub fn swaps()
+    ensures { SwapsAreAnnounced }
+{
+    fib_codec::laws::one_list();
+    fib_codec::laws::fib_length();
+    fib_codec::laws::spelling();
+    fib_reader::laws::ensemble();
+    mux_config::laws::changes();
+    stream_check::laws::parts();
+}
+
+/// The law of notices: the same of any pictures, entry by entry. Each entry of the next picture is
+/// sent with C/N 1 in each of three successive parts of the notice's frames, and each FIG 0/0 in
+/// them, of which there are three or more, gives the flags by which the two pictures differ and the
+/// low part of the swap's count.
+pub fn notices()
+    ensures { ChangesAreAnnounced }
+{
+    fib_codec::laws::one_list();
+    fib_codec::laws::fib_length();
+    fib_codec::laws::spelling();
+    fib_reader::laws::ensemble();
+    stream_check::laws::parts();
+}
+
+/// The law of cutting: the frames into which the check of a stream cuts FIBs are frames of their
+/// bytes.
+pub fn cutting()
+    ensures { FramesAreOfBytes }
+{}
+
+/// The law of frames: of the FIBs of a run of a typed code those before the first FIG 0/0 are
+/// skipped, and the check of a stream cuts the others into just the frames of the run, with none
+/// left over.
+pub fn frames()
+    ensures { RunsAreFramed }
+{
+    fib_codec::laws::one_list();
+    fib_reader::laws::ensemble();
+    plan_runs::laws::headline();
+    plan_runs::laws::runs();
+}
+
+/// The law of places: in the frames of a run of a typed code, from one with a FIG 0/0 on, the check
+/// of a stream finds no frame that is short or damaged, and no FIG 0/0 that is missing, out of
+/// place, of another ensemble or at another count than is due.
+pub fn places()
+    ensures { RunsAreInPlace }
+{
+    fib_codec::laws::one_list();
+    fib_reader::laws::ensemble();
+    plan_runs::laws::headline();
+}
+
+/// The law of entries and announcements: in the frames of a run of a typed code, from one with a
+/// FIG 0/0 on, the check of a stream always has room, and finds no entry that is not as it was, no
+/// entry of the next configuration without change flags, no announcement that is not as it was or
+/// is for a count at which no swap can fall, no swap at another count than was announced, and none
+/// to sub-channels that share a capacity unit or end past the last one.
+pub fn agreement()
+    ensures { RunsAgree }
+{
+    fib_codec::laws::one_list();
+    fib_reader::laws::ensemble();
+    fib_carousel::laws::pages();
+    fib_carousel::laws::carried();
+}
+
+/// The law of named swaps: in the frames of a run of a typed code, from one with a FIG 0/0 on, the
+/// check of a stream names exactly the swaps that the run makes after that frame, each in its
+/// frame.
+pub fn named_swaps()
+    ensures { SwapsAreNamed }
+{
+    fib_codec::laws::one_list();
+    fib_reader::laws::ensemble();
+    fib_carousel::laws::pages();
+    fib_carousel::laws::carried();
+}
+
+/// The law of announcements: in the frames of a run of a typed code, from one with a FIG 0/0 on,
+/// the check of a stream finds no swap after fewer than three announcements.
+pub fn announcements()
+    ensures { RunsAreTimely }
+{
+    fib_codec::laws::one_list();
+    fib_reader::laws::ensemble();
+    fib_carousel::laws::pages();
+    fib_carousel::laws::carried();
+}
