@@ -7,3 +7,8 @@ pub mod Places
 mod Vectors
 mod VectorsOfBursts
 mod VectorsOfPhases
+mod VectorsOfQuiet
+pub mod Joining
+pub mod OneFrame
+pub mod Quiet
+pub mod QuietFacts

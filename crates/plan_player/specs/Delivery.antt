@@ -20,6 +20,13 @@ played_bytes p events = concat (frames_of p events)
 abbrev pub next_frame : Playing → List ℕ
 next_frame p = frame_bytes p.code p.state
 
+-- playing came to the end of these events: the player is as they leave it, the sink has their bytes, and this many frames
+-- went out
+pub record Delivered (old new : Playing) (events : List Event) (before after : Option (List ℕ)) (frames : ℕ) : Type 0 where
+  pub state : new ≡ played old events
+  pub out : Appends before after (played_bytes old events)
+  pub whole : frames ≡ length (frames_of old events)
+
 -- playing stopped in a frame that the sink didn't take whole: the events before it are done and it too, no later one
 -- is; this many frames went out before it, and this many of its bytes, fewer than all
 pub record Stopped (old new : Playing) (events : List Event) (before after : Option (List ℕ)) (frames bytes : ℕ) : Type 0 where

@@ -1,6 +1,6 @@
 //! One frame, from its swap to its counts.
 
-ghost use Rattle.std.specs.Prelude.{◌≡◌, ℕ, ◌<◌, ◌≤◌, List, true, false};
+ghost use Rattle.std.specs.Prelude.{◌≡◌, ℕ, ◌<◌, ◌≤◌, List, Some, true, false};
 ghost use Rattle.mux_entries.specs.Facts.{Marked};
 ghost use Rattle.fib_codec.specs.declared.modes.Mode.{Mode};
 ghost use Rattle.fib_carousel.specs.Pages.{page_after};
@@ -32,6 +32,21 @@ fn make_page_to_send<S: Store>(plan: &Plan, machine: &Machine<S>, pages: &mut Ph
     make_if_new(pages, plan.mode, machine.turn(), machine.current(), next);
 }
 
+/// Makes a frame of the page of this number, which was made, with this FIG 0/0.
+#[inline(never)]
+fn show_headed(pages: &mut PhasePages, number: u8, ensemble: Ensemble)
+    requires { (mode : Mode) × (ms : List Marked) × HasPage mode ms number pages.old.pages }
+    ensures bytes { (mode : Mode) (ms : List Marked) → HasPage mode ms number pages.old.pages
+        → ShowsBytes pages.new (page_bytes mode (Some ensemble) number ms) }
+    ensures keeps { (mode : Mode) (ms : List Marked) (turn : ℕ) →
+        Keeps mode ms turn pages.old → Keeps mode ms turn pages.new }
+    ensures made { pages.new.made ≡ pages.old.made }
+    ensures change { pages.new.change ≡ pages.old.change }
+{
+    held(&pages.pages, number).with_ensemble(ensemble, &mut pages.headed);
+    pages.sent = Sent::Headed;
+}
+
 /// Makes a frame of the page of this number, which was made: with this FIG 0/0 where there is one.
 fn show(pages: &mut PhasePages, number: u8, ensemble: Option<Ensemble>)
     requires { (mode : Mode) × (ms : List Marked) × HasPage mode ms number pages.old.pages }
@@ -43,16 +58,13 @@ fn show(pages: &mut PhasePages, number: u8, ensemble: Option<Ensemble>)
     ensures change { pages.new.change ≡ pages.old.change }
 {
     match ensemble {
-        Some(ensemble) => {
-            held(&pages.pages, number).with_ensemble(ensemble, &mut pages.headed);
-            pages.sent = Sent::Headed;
-        }
+        Some(ensemble) => show_headed(pages, number, ensemble),
         None => pages.sent = Sent::Kept(number),
     }
 }
 
-/// Makes a frame of the page in turn, and takes the counts forward.
-fn send<S: Store>(plan: &Plan, machine: &mut Machine<S>, pages: &mut PhasePages)
+/// Makes a frame of the page in turn, and takes the counts forward: all that a quiet frame does.
+pub(crate) fn send<S: Store>(plan: &Plan, machine: &mut Machine<S>, pages: &mut PhasePages)
     requires sent { CanBeSent plan.now (state_of S.content machine.old) }
     requires few { sent_rounds plan.now (state_of S.content machine.old) ≤ 60 }
     requires keeps { let s = state_of S.content machine.old in

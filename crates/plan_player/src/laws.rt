@@ -1,7 +1,8 @@
-//! What holds of runs of typed codes, of interleaved contacts and of listeners: the laws of the crates below, and the law
+//! What holds of runs of typed codes, of interleaved contacts and of listeners: the laws of the crates below, and the laws
 //! on which the player rests. Such a law is a function that does nothing; its contract is the law.
 
 ghost use Rattle.plan_player.specs.Positions.{TypedCodeGoesOn};
+ghost use Rattle.plan_player.specs.Quiet.{QuietFramesAreCopied};
 
 pub use plan_listeners::laws::listener;
 pub use plan_runs::laws::{
@@ -13,4 +14,10 @@ pub use plan_runs::laws::{
 /// without a test of any trap or of the budget, and then what the frame sends can be sent, in 60 pages or fewer.
 pub fn goes_on()
     ensures { TypedCodeGoesOn }
+{}
+
+/// The law of quiet frames: frames that make no swap, carry out no instruction and begin no phase are pages in turn of what
+/// the state sends, whatever the code is, and after n of them the counts are those of n frames.
+pub fn quiet()
+    ensures { QuietFramesAreCopied }
 {}

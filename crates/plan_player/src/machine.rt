@@ -5,6 +5,7 @@ mod commit;
 mod counts;
 mod instruction;
 mod opening;
+mod quiet;
 mod sending;
 
 ghost use Rattle.std.specs.Prelude.{◌≡◌};
@@ -20,12 +21,14 @@ pub(crate) use opening::begin;
 use plan_code::{ContactId, Contacts, Hold};
 use plan_runs::Start;
 use plan_verifier::Verified;
+pub(crate) use quiet::quiet_frames;
 pub(crate) use sending::{begin_notice, ensemble, is_first_noticed, next_sent};
 
 /// A machine between two steps of a frame: its current and its next configuration in two stores, what it waits for,
 /// and its counts. Contracts see it as a `State`. The steps of a frame are functions of their own: `begin` makes a
 /// swap that is due and ends a hold, `run` carries out the frame's instructions without a test of any trap,
-/// `begin_notice` and `ensemble` give what is sent, and `pass` takes the counts forward.
+/// `begin_notice` and `ensemble` give what is sent, and `pass` takes the counts forward. `quiet_frames` says in how
+/// many frames from now on the first three have nothing to do.
 #[derive(Drop)]
 pub(crate) struct Machine<S: Store> {
     /// The current configuration.

@@ -53,6 +53,7 @@ pub(crate) fn held(pages: &[Option<KeptPage>; MOST_PAGES], number: u8) -> &KeptP
 }
 
 /// Makes the next page.
+#[inline(never)]
 fn make<'a, 'b, S: Store>(pages: &mut PhasePages, mode: Mode, current: &'a S, next: Option<&'b S>)
     requires keeps { let ms = page_set_of S.content current.now (option_copied next) in
         Keeps mode ms pages.old.made pages.old }

@@ -16,16 +16,17 @@ ghost use Rattle.plan_runs.specs.Headline.{KeepsCount};
 ghost use Rattle.plan_player.specs.Positions.{state_of};
 ghost use Rattle.plan_player.specs.Playing.{start_fault, IsAtStart, played};
 ghost use Rattle.plan_player.specs.Delivery.{next_frame};
+ghost use Rattle.plan_player.specs.Quiet.{IsQuiet, AreQuiet};
 
 use crate::fault::StartFault;
-use crate::frame_step::make_frame;
-use crate::machine::Machine;
+use crate::frame_step::{make_frame, send};
+use crate::machine::{Machine, quiet_frames};
 use crate::phase_pages::PhasePages;
 use crate::sink::{Sink, put_all};
 use fib_codec::FibFrame;
 use mux_config::Store;
 use plan_code::limits::{COUNTS, FRAMES_A_DAY};
-use plan_code::{Code, ContactId};
+use plan_code::{Code, ContactId, Plan};
 use plan_runs::{Start, laws};
 use plan_verifier::Verified;
 use std::marker::Model;
@@ -158,6 +159,45 @@ impl<'a, S: Store> Player<'a, S> {
     {
         let code = self.code.code();
         self.steps = make_frame(code, &mut self.machine, &mut self.pages);
+        put_all(sink, self.pages.frame().bytes())
+    }
+
+    /// The plan of the code.
+    pub(crate) fn plan(&self) -> Plan
+        ensures value { result ≡ self.now.code.plan }
+    {
+        self.code.code().plan()
+    }
+
+    /// How many frames from the next one on are quiet, of at most this many.
+    pub(crate) fn quiet_frames(&self, most: u32) -> u32
+        ensures quiet { AreQuiet self.now.code result self.now.state }
+        ensures bound { result ≤ most }
+    {
+        quiet_frames(self.code.code(), &self.machine, most)
+    }
+
+    /// Makes the next frame where it is quiet, and puts it into the sink: what [`Player::put_frame`] does, without asking
+    /// for a swap, instructions and the begin of a phase.
+    pub(crate) fn put_quiet_frame<K: Sink>(
+        &mut self,
+        plan: &Plan,
+        sink: &mut K,
+    ) -> Result<(), usize>
+        requires working { K.has_failed sink.old ≡ false }
+        requires plan { plan.now ≡ self.old.code.plan }
+        requires quiet { IsQuiet self.old.code self.old.state }
+        ensures state { self.new ≡ played self.old (Frame ∷ []) }
+        ensures bytes { OnOk result
+            (Appends (K.taken sink.old) (K.taken sink.new) (next_frame self.old)) }
+        ensures works { OnOk result (K.has_failed sink.new ≡ false) }
+        ensures bound { IfErr result (λ n. n < length (next_frame self.old)) }
+        ensures part { IfErr result (λ n.
+            Appends (K.taken sink.old) (K.taken sink.new) (take n (next_frame self.old))) }
+        ensures fails { OnErr result (K.has_failed sink.new ≡ true) }
+    {
+        send(plan, &mut self.machine, &mut self.pages);
+        self.steps = 0;
         put_all(sink, self.pages.frame().bytes())
     }
 

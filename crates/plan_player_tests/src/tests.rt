@@ -4,6 +4,7 @@ mod codes;
 mod commits;
 mod contacts;
 mod faults;
+mod in_row;
 mod laws;
 mod listening;
 mod modes;

@@ -10,7 +10,7 @@ use Rattle.plan_code.specs.Program.{Program}
 use Rattle.plan_runs.specs.declared.event.Start.{Start as Starting}
 use Rattle.plan_runs.specs.Runs.{IsStart}
 use Rattle.plan_player.specs.Playing.{Playing, IsAtStart, start_fault}
-use Rattle.plan_player.specs.Delivery.{frames_of, played_bytes, Stopped}
+use Rattle.plan_player.specs.Delivery.{frames_of, played_bytes, Delivered, Stopped}
 use Rattle.plan_session.specs.declared.event_fault.EventFault.{EventFault}
 use Rattle.plan_session.specs.declared.event_fault.EventFault.TheVariants.{Byte, Number, Expected, Memory}
 use Rattle.plan_session.specs.declared.step.Step.{Step}
@@ -18,7 +18,7 @@ use Rattle.plan_session.specs.Events.{events_of}
 use Rattle.plan_session.specs.declared.run_fault.RunFault.{RunFault}
 use Rattle.plan_session.specs.declared.run_fault.RunFault.TheVariants.{Code, Refused, Start as StartFault, Events, Write}
 use Rattle.plan_session.specs.Playback.{Request, start_of, IsTypedFileOf, IsPlayback, IsStarted, IsPlayFault, IsRunFault}
-use Rattle.plan_session.specs.Parts.{Delivered, IsCodeFault}
+use Rattle.plan_session.specs.Parts.{IsCodeFault}
 
 -- ---- one start
 

@@ -6,7 +6,7 @@ use Rattle.plan_runs.specs.declared.event.Event.{Event}
 use Rattle.plan_session.specs.declared.step.Step.{Step}
 use Rattle.plan_session.specs.declared.step.Step.TheVariants.{Contact, Frames}
 use Rattle.plan_session.specs.Events.{IsStep, events_of_step, events_of}
-use Rattle.plan_session.proofs.Joining.{length_replicate}
+use Rattle.plan_player.proofs.Joining.{length_replicate}
 
 events_join : (xs ys : List Step) → events_of (xs ++ ys) ≡ events_of xs ++ events_of ys
 events_join [] ys = refl

@@ -1,6 +1,6 @@
 //! Bytes that wait to be handed on.
 
-ghost use Rattle.std.specs.Prelude.{◌≡◌, ◌+◌, ◌<◌, ◌≤◌, [], ◌++◌, length, take, drop, false};
+ghost use Rattle.std.specs.Prelude.{◌≡◌, ◌+◌, ◌<◌, ◌≤◌, [], ◌++◌, length, take, drop, true, false};
 
 use std::marker::Model;
 
@@ -66,6 +66,22 @@ impl Block {
         &self.bytes[..self.len]
     }
 
+    /// Whether there is room for this many bytes more.
+    pub(crate) fn has_room(&self, count: usize) -> bool
+        ensures { result ≡ true → length self.now + count ≤ 98304 }
+    {
+        count <= SIZE - self.len
+    }
+
+    /// Takes these bytes, for which there has to be room.
+    pub(crate) fn append(&mut self, bytes: &[u8])
+        requires { length self.old + length bytes.now ≤ 98304 }
+        ensures { self.new ≡ self.old ++ bytes.now }
+    {
+        write_at(&mut self.bytes, self.len, bytes);
+        self.len += bytes.len();
+    }
+
     /// Takes as many of these bytes as there is room for; how many is the result.
     pub(crate) fn fill(&mut self, bytes: &[u8]) -> usize
         ensures taken { self.new ≡ self.old ++ take result bytes.now }
@@ -73,8 +89,7 @@ impl Block {
         ensures some { length self.old < 98304 → 0 < length bytes.now → 1 ≤ result }
     {
         let count = bytes.len().min(SIZE - self.len);
-        write_at(&mut self.bytes, self.len, &bytes[..count]);
-        self.len += count;
+        self.append(&bytes[..count]);
         count
     }
 

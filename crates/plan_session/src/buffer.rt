@@ -1,7 +1,7 @@
 //! A sink that gathers the bytes of frames, and hands them to another sink in large pieces.
 
-ghost use Rattle.std.specs.Prelude.{◌≡◌, ◌+◌, ◌*◌, ◌<◌, ◌≤◌, length, true, false};
-ghost use Rattle.std.specs.Io.KnownBytes.{Keeps};
+ghost use Rattle.std.specs.Prelude.{◌≡◌, ◌+◌, ◌*◌, ◌<◌, ◌≤◌, length, take, true, false, IfSome, IfNone};
+ghost use Rattle.std.specs.Io.KnownBytes.{Appends, Keeps};
 
 use crate::block::Block;
 use plan_player::{Sink, put_all};
@@ -45,7 +45,29 @@ impl<K: Sink> Buffer<K> {
         self.out
     }
 
+    /// Holds as many of these bytes as there is room for, at least one, once all that filled the room is handed on; how
+    /// many is the result. `None`: the sink below failed at what was held.
+    #[inline(never)]
+    fn put_part(&mut self, bytes: &[u8]) -> Option<usize>
+        requires working { K.has_failed self.old.out ≡ false }
+        requires one { 0 < length bytes.now }
+        ensures bound { IfSome result (λ n. (1 ≤ n) × (n ≤ length bytes.now)) }
+        ensures some { IfSome result (λ n.
+            Appends (taken_by K.taken self.old) (taken_by K.taken self.new) (take n bytes.now)) }
+        ensures works { IfSome result (λ _. K.has_failed self.new.out ≡ false) }
+        ensures keeps { IfNone result (Keeps (taken_by K.taken self.old) (taken_by K.taken self.new)) }
+        ensures fails { IfNone result (K.has_failed self.new.out ≡ true) }
+    {
+        if self.held.is_full() {
+            if !self.deliver() {
+                return None;
+            }
+        }
+        Some(self.held.fill(bytes))
+    }
+
     /// Hands all that is held to the sink below, which must not have failed; whether it took all.
+    #[inline(never)]
     pub(crate) fn deliver(&mut self) -> bool
         requires working { K.has_failed self.old.out ≡ false }
         ensures bytes { Keeps (taken_by K.taken self.old) (taken_by K.taken self.new) }
@@ -74,17 +96,17 @@ impl<K: Sink> Sink for Buffer<K> {
 
     ghost has_failed = { λ b. K.has_failed b.out };
 
-    /// Holds as many bytes as there is room for, once all that filled the room is handed on.
+    /// Holds the bytes where there is room for them; else as many as there is room for, once all that filled the room is
+    /// handed on.
     fn put(&mut self, bytes: &[u8]) -> Option<usize> {
         if self.out.failed() {
             return None;
         }
-        if self.held.is_full() {
-            if !self.deliver() {
-                return None;
-            }
+        if self.held.has_room(bytes.len()) {
+            self.held.append(bytes);
+            return Some(bytes.len());
         }
-        Some(self.held.fill(bytes))
+        self.put_part(bytes)
     }
 
     fn failed(&self) -> bool {

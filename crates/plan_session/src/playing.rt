@@ -1,15 +1,14 @@
 //! The steps of an event file, played into a sink.
 
-ghost use Rattle.std.specs.Prelude.{◌≡◌, ◌≤◌, false, true, replicate, IfOk, OnOk, IfErr, OnErr};
+ghost use Rattle.std.specs.Prelude.{◌≡◌, false, true, replicate, IfOk, OnOk, IfErr, OnErr};
 ghost use Rattle.std.specs.List.{AllByRecursion};
 ghost use Rattle.plan_runs.specs.declared.event.Event.TheVariants.{Frame};
-ghost use Rattle.plan_player.specs.Delivery.{Stopped};
+ghost use Rattle.plan_player.specs.Delivery.{Delivered, Stopped};
 ghost use Rattle.plan_session.specs.Events.{IsStep, events_of_step, events_of};
-ghost use Rattle.plan_session.specs.Parts.{Delivered};
 
 use crate::step::Step;
 use mux_config::Store;
-use plan_player::{Event, PlayFault, Player, Sink, play};
+use plan_player::{Event, PlayFault, Player, Sink, play, play_frames};
 
 /// How far playing came where the sink failed: this many frames went out whole, and this many bytes of the one after them.
 #[derive(Clone, Copy, Debug, PartialEq, Eq)]
@@ -42,27 +41,8 @@ fn play_events<'a, S: Store, K: Sink>(
     }
 }
 
-/// Plays up to 64 frames.
-fn play_some<'a, S: Store, K: Sink>(
-    player: &mut Player<'a, S>,
-    count: u32,
-    sink: &mut K,
-) -> Result<u128, Cut>
-    requires working { K.has_failed sink.old ≡ false }
-    requires few { count ≤ 64 }
-    ensures done { IfOk result (λ n. Delivered player.old player.new (replicate count Frame)
-        (K.taken sink.old) (K.taken sink.new) n) }
-    ensures works { OnOk result (K.has_failed sink.new ≡ false) }
-    ensures stopped { IfErr result (λ cut. Stopped player.old player.new (replicate count Frame)
-        (K.taken sink.old) (K.taken sink.new) cut.frames cut.bytes) }
-    ensures fails { OnErr result (K.has_failed sink.new ≡ true) }
-{
-    let frames = [Event::Frame; 64];
-    play_events(player, &frames[..count as usize], sink)
-}
-
-/// Plays this many frames, up to 64 of them at a time.
-fn play_frames<'a, S: Store, K: Sink>(
+/// Plays this many frames.
+fn play_many<'a, S: Store, K: Sink>(
     player: &mut Player<'a, S>,
     count: u32,
     sink: &mut K,
@@ -75,22 +55,13 @@ fn play_frames<'a, S: Store, K: Sink>(
         (K.taken sink.old) (K.taken sink.new) cut.frames cut.bytes) }
     ensures fails { OnErr result (K.has_failed sink.new ≡ true) }
 {
-    let mut done = 0u32;
-    let mut frames = 0u128;
-    while done < count {
-        let next = (count - done).min(64);
-        match play_some(player, next, sink) {
-            Ok(made) => frames += made,
-            Err(cut) => {
-                return Err(Cut {
-                    frames: frames + cut.frames,
-                    bytes: cut.bytes,
-                });
-            }
-        }
-        done += next;
+    match play_frames(player, count, sink) {
+        Ok(frames) => Ok(u128::from(frames)),
+        Err(PlayFault::Write { frames, bytes }) => Err(Cut {
+            frames: u128::from(frames),
+            bytes,
+        }),
     }
-    Ok(frames)
 }
 
 /// Plays a step.
@@ -111,7 +82,7 @@ fn play_step<'a, S: Store, K: Sink>(
         Step::Contact(contact, closed) => {
             play_events(player, &[Event::Contact(contact, closed)], sink)
         }
-        Step::Frames(count) => play_frames(player, count, sink),
+        Step::Frames(count) => play_many(player, count, sink),
     }
 }
 

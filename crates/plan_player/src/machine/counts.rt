@@ -38,6 +38,9 @@ fn hold_after_frame(hold: Hold) -> Hold
 fn count_after(count: u16) -> u16
     ensures { result ≡ (count + 1) % COUNTS }
 {
+    if count < COUNTS - 1 {
+        return count + 1;
+    }
     ((u32::from(count) + 1) % u32::from(COUNTS)) as u16
 }
 
@@ -45,6 +48,9 @@ fn count_after(count: u16) -> u16
 fn day_after(day: u32) -> u32
     ensures { result ≡ (day + 1) % FRAMES_A_DAY }
 {
+    if day < FRAMES_A_DAY - 1 {
+        return day + 1;
+    }
     ((u64::from(day) + 1) % u64::from(FRAMES_A_DAY)) as u32
 }
 

@@ -1,16 +1,17 @@
 //! What a frame says of its notice, and its FIG 0/0.
 
-ghost use Rattle.std.specs.Prelude.{◌≡◌, ◌≤◌, IfSome, true};
+ghost use Rattle.std.specs.Prelude.{◌≡◌, ◌≤◌, ◌%◌, ◌==◌, IfSome, true};
 ghost use Rattle.std.specs.Option.{option_map, option_copied};
 ghost use Rattle.mux_config.specs.Change.{change_of, bits_of};
+ghost use Rattle.fib_codec.specs.Modes.{count_step};
 ghost use Rattle.fib_codec.specs.Ranges.{IsEnsembleInformation};
 ghost use Rattle.plan_runs.specs.Frames.{is_noticed, is_first_noticed, low_of_swap, announced_next, ensemble_sent};
 ghost use Rattle.plan_player.specs.Positions.{state_of, with_notice_begun};
 
 use super::Machine;
 use mux_config::{Ensemble, Store};
-use plan_code::Plan;
 use plan_code::limits::COUNTS;
+use plan_code::{Mode, Plan};
 
 /// Whether a frame is one of the notice: from this many frames before the swap to the last one before it.
 pub(crate) fn is_noticed(notice: u8, left: Option<u16>) -> bool
@@ -68,6 +69,18 @@ fn low_of_swap(count: u16, left: Option<u16>) -> u8
     }
 }
 
+/// Whether FIG 0/0 is sent in a frame of this CIF count: the mode's step divides it.
+fn is_on_step(mode: Mode, count: u16) -> bool
+    ensures { result ≡ (count % count_step mode == 0) }
+{
+    match mode {
+        Mode::I => count % 4 == 0,
+        Mode::II => true,
+        Mode::III => true,
+        Mode::IV => count % 2 == 0,
+    }
+}
+
 /// The FIG 0/0 of the frame (EN 300 401 clause 6.4): the change flags and the low part of the count of the swap in a
 /// notice, neither elsewhere. In a notice `change` has to be the flags of what the swap changes. None where the CIF
 /// count is no multiple of the mode's step. Its fields must be within their bits.
@@ -79,7 +92,7 @@ pub(crate) fn ensemble<S: Store>(plan: &Plan, machine: &Machine<S>, change: u8) 
         (S.content machine.now.next)) }
     ensures { result ≡ ensemble_sent plan.now (state_of S.content machine.now) }
 {
-    if machine.count % plan.mode.step() != 0 {
+    if !is_on_step(plan.mode, machine.count) {
         return None;
     }
     if is_noticed(plan.notice, machine.left) {

@@ -16,7 +16,7 @@ use std::test::Fail;
 
 /// Takes up to `most` bytes a call, and in all no more than there is room for, in this many calls.
 #[derive(Drop)]
-struct Limited {
+pub struct Limited {
     bytes: Vec<u8>,
     most: usize,
     room: usize,
@@ -25,7 +25,8 @@ struct Limited {
 }
 
 impl Limited {
-    fn new(alloc: Global, most: usize, room: usize, calls: u32) -> Limited
+    /// A sink of these limits, which has taken nothing.
+    pub fn new(alloc: Global, most: usize, room: usize, calls: u32) -> Limited
         ensures { result.is_failed ≡ false }
     {
         Limited {
@@ -35,6 +36,11 @@ impl Limited {
             calls,
             is_failed: false,
         }
+    }
+
+    /// How many bytes it has taken.
+    pub fn taken_bytes(&self) -> usize {
+        self.bytes.len()
     }
 
     /// Takes these bytes; false where it doesn't, and takes none.
@@ -86,7 +92,7 @@ fn put_into(
 }
 
 /// The fault of three frames into a sink of these limits, and how many bytes were taken.
-fn three_into(
+pub fn three_into(
     alloc: Global,
     player: &mut Player<Config>,
     limits: (usize, usize, u32),

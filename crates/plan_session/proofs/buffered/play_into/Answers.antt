@@ -1,4 +1,4 @@
-use Rattle.std.proofs.Common.{rules, ◌≡◌, ℕ, ◌+◌, ◌*◌, ◌<◌, ◌≤◌, List, length, Err, sym, ap, subst, ◌∙◌, arith}
+use Rattle.std.proofs.Common.{rules, ◌≡◌, ℕ, ◌+◌, ◌*◌, ◌≤◌, Err, subst, arith}
 use Rattle.fib_codec.specs.Modes.{fib_count}
 use Rattle.plan_player.specs.Delivery.{played_bytes}
 use Rattle.plan_session.specs.Events.{events_of}

@@ -1,11 +1,10 @@
 use Rattle.std.proofs.Common.{◌≡◌, ◌+◌, ◌++◌, ◌∷◌, [], ℕ, List, take, drop, subst, sym, ap, arith, ◌∙◌}
 use Rattle.std.proofs.lemmas.List.{take_more}
 use Rattle.plan_runs.specs.declared.event.Event.{Event}
-use Rattle.plan_player.specs.Delivery.{Stopped}
+use Rattle.plan_player.specs.Delivery.{Delivered, Stopped}
 use Rattle.plan_session.specs.declared.step.Step.{Step}
 use Rattle.plan_session.specs.Events.{events_of, events_of_step}
-use Rattle.plan_session.specs.Parts.{Delivered}
-use Rattle.plan_session.proofs.Joining.{joined, stopped_later, stopped_before, few_delivered, few_stopped}
+use Rattle.plan_player.proofs.Joining.{joined, stopped_later, stopped_before, few_delivered, few_stopped}
 use Rattle.plan_session.proofs.Steps.{events_more, events_cut, few_events}
 use Rattle.plan_session.proofs.playing.play_steps.Goals as goal
 

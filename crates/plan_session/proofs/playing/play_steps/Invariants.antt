@@ -1,6 +1,6 @@
 use Rattle.std.proofs.Common.{◌≡◌, ◌≤◌, ◌*◌, false, take}
+use Rattle.plan_player.specs.Delivery.{Delivered}
 use Rattle.plan_session.specs.Events.{events_of}
-use Rattle.plan_session.specs.Parts.{Delivered}
 use Rattle.plan_session.proofs.playing.play_steps.Given as goal
 
 abbrev pub invariant-loop-step : goal.invariant-loop-step

@@ -11,9 +11,8 @@ use Rattle.plan_runs.specs.Frames.{after_frame}
 use Rattle.plan_runs.specs.Runs.{happens, run_frames}
 use Rattle.plan_runs.proofs.Joined.{runs_join}
 use Rattle.plan_player.specs.Playing.{Playing, played}
-use Rattle.plan_player.specs.Delivery.{frames_of, played_bytes, next_frame, Stopped}
+use Rattle.plan_player.specs.Delivery.{frames_of, played_bytes, next_frame, Delivered, Stopped}
 use Rattle.plan_player.proofs.Delivering.{played_join, bytes_join}
-use Rattle.plan_session.specs.Parts.{Delivered}
 
 frames_join : (p : Playing) (events more : List Event) → frames_of p (events ++ more) ≡ frames_of p events ++ frames_of (played p events) more
 frames_join p events more = (runs_join p.code p.state [] events more).frames

@@ -1,0 +1,209 @@
+-- Quiet frames: what they are by the state alone, and how many there are before something comes.
+use Rattle.std.specs.Prelude.{◌||◌, replicate}
+use Rattle.std.proofs.Common.{◌≡◌, ℕ, zero, suc, ◌+◌, ◌%◌, ◌≤◌, ◌==◌, Bool, true, false, cond, List, ◌∷◌, Option, Some, None, refl, sym, ap, subst, ◌∙◌, arith}
+use Rattle.std.proofs.lemmas.Bool.{eqb-true}
+use Rattle.std.proofs.Math.Nat.{mod-eq_of_lt}
+use Rattle.mux_config.specs.Sameness.{is_same_flag}
+use Rattle.plan_code.specs.declared.hold.Hold.{Hold}
+use Rattle.plan_code.specs.declared.hold.Hold.TheVariants.{Waits, WaitsDay, WaitsContact, WaitsSwap, Ended}
+use Rattle.plan_code.specs.declared.limits.TheConstants.{FRAMES_A_DAY}
+use Rattle.plan_code.specs.declared.plan.Plan.{Plan}
+use Rattle.plan_code.specs.Flags.{is_closed}
+use Rattle.plan_code.specs.Program.{Program}
+use Rattle.plan_code.specs.Machine.{State}
+use Rattle.plan_runs.specs.declared.event.Event.TheVariants.{Frame}
+use Rattle.plan_runs.specs.Frames.{is_due, with_swap, with_due_swap, is_running, is_here, with_hold_ended, ready, burst, burst_steps, after_burst, frame_steps, is_first_noticed, shown, shown_bytes, left_after_frame, hold_after_frame, with_next_counts, frame_bytes, after_frame}
+use Rattle.plan_runs.specs.Runs.{run_frames}
+use Rattle.plan_runs.specs.Announced.{notice_frames}
+use Rattle.plan_player.specs.Playing.{last_steps}
+use Rattle.plan_player.specs.Quiet.{IsQuiet, AreQuiet, counted_on, QuietFramesAreCopied, SwapIsAway, HoldIsAway}
+
+-- ---- a quiet frame
+
+abbrev resumed : State → State
+resumed s = record s { hold = Waits 0 }
+
+no_swap_due : (s : State) (b : Bool) → b ≡ false → cond b (with_swap s) s ≡ s
+no_swap_due s true e = absurd cc
+no_swap_due s false e = refl
+
+not_resumed : (s : State) (b : Bool) → is_running (cond b (resumed s) s).hold ≡ false → cond b (resumed s) s ≡ s
+not_resumed s true e = absurd cc
+not_resumed s false e = refl
+
+is_ready : (p : Program) (s : State) → is_due s.left ≡ false → is_running (ready s).hold ≡ false → ready s ≡ s
+is_ready p s no_swap suspended =
+    let unswapped : with_due_swap s ≡ s = no_swap_due s (is_due s.left) no_swap in
+    let stays : is_running (with_hold_ended s).hold ≡ false = subst (λ (t : State). is_running (with_hold_ended t).hold ≡ false) unswapped suspended in
+    ap (λ (t : State). with_hold_ended t) unswapped ∙ not_resumed s (is_here s s.hold) stays
+
+held_burst : (most : ℕ) (p : Program) (s : State) → is_running s.hold ≡ false → burst most p s ≡ s
+held_burst zero p s held = refl
+held_burst (suc most) p s held = rw held refl
+
+held_steps : (most : ℕ) (p : Program) (s : State) → is_running s.hold ≡ false → burst_steps most p s ≡ 0
+held_steps zero p s held = refl
+held_steps (suc most) p s held = rw held refl
+
+abbrev at_first_page : State → State
+at_first_page s = record s { turn = 0 }
+
+no_phase_begun : (s : State) (b : Bool) → b ≡ false → cond b (at_first_page s) s ≡ s
+no_phase_begun s true e = absurd cc
+no_phase_begun s false e = refl
+
+left_kept : (s : State) (b : Bool) → (cond b (at_first_page s) s).left ≡ s.left
+left_kept s true = refl
+left_kept s false = refl
+
+or_false : (a b : Bool) → (a || b) ≡ false → b ≡ false
+or_false true b e = absurd cc
+or_false false b e = e
+
+-- what a quiet frame is by the state alone
+pub record Stays (p : Program) (s : State) : Type 0 where
+  pub shows : shown p s ≡ s
+  pub bytes : frame_bytes p s ≡ shown_bytes p.plan s
+  pub after : after_frame p s ≡ with_next_counts p.plan s
+  pub no_steps : frame_steps p s ≡ 0
+  pub no_notice : is_first_noticed p.plan.notice s.left ≡ false
+
+pub stays : (p : Program) (s : State) → IsQuiet p s → Stays p s
+stays p s quiet =
+    let at : ready s ≡ s = is_ready p s quiet.no_swap quiet.suspended in
+    let held : is_running s.hold ≡ false = subst (λ (t : State). is_running t.hold ≡ false) at quiet.suspended in
+    let ran : after_burst p s ≡ s = ap (λ (t : State). burst p.plan.budget p t) at ∙ held_burst p.plan.budget p s held in
+    let notice = p.plan.notice in
+    let left : (shown p s).left ≡ s.left = left_kept (after_burst p s) (is_first_noticed notice (after_burst p s).left) ∙ ap (λ (t : State). t.left) ran in
+    let later : is_first_noticed notice s.left ≡ false =
+    subst (λ (o : Option ℕ). is_first_noticed notice o ≡ false) left (or_false (is_due s.left) (is_first_noticed notice (shown p s).left) quiet.no_phase) in
+    let same : shown p s ≡ s =
+    ap (λ (t : State). cond (is_first_noticed notice t.left) (at_first_page t) t) ran ∙ no_phase_begun s (is_first_noticed notice s.left) later in
+    record {
+      shows = same;
+      bytes = ap (λ (t : State). shown_bytes p.plan t) same;
+      after = ap (λ (t : State). with_next_counts p.plan t) same;
+      no_steps = ap (λ (t : State). burst_steps p.plan.budget p t) at ∙ held_steps p.plan.budget p s held;
+      no_notice = later;
+    }
+
+-- ---- quiet frames one after another
+
+pub quiet_frames_are_copied : QuietFramesAreCopied
+quiet_frames_are_copied p zero s quiet = record { frames = refl; state = refl; no_steps = refl }
+quiet_frames_are_copied p (suc n) s quiet =
+    let now = stays p s quiet.0 in
+    let later = quiet_frames_are_copied p n (after_frame p s) quiet.1 in
+    record {
+      frames = ap (λ (f : List ℕ). f ∷ run_frames p (after_frame p s) (replicate n Frame)) now.bytes
+          ∙ ap (λ (fs : List (List ℕ)). shown_bytes p.plan s ∷ fs) (later.frames ∙ ap (λ (t : State). notice_frames p.plan n t) now.after);
+      state = later.state ∙ ap (λ (t : State). counted_on p.plan n t) now.after;
+      no_steps = ap (λ (k : ℕ). last_steps p (after_frame p s) k (replicate n Frame)) now.no_steps ∙ later.no_steps;
+    }
+
+-- ---- how many there are
+
+pub fewer_swap : (notice : ℕ) (left : Option ℕ) (m n : ℕ) → n ≤ m → SwapIsAway notice left m → SwapIsAway notice left n
+fewer_swap notice None m n le away = tt
+fewer_swap notice (Some l) m n le away = (omega (arith, le, away.0), λ from. omega (arith, le, away.1 from))
+
+pub fewer_hold : (s : State) (hold : Hold) (m n : ℕ) → n ≤ m → HoldIsAway s hold m → HoldIsAway s hold n
+fewer_hold s (Waits frames) m n le away = omega (arith, le, away)
+fewer_hold s (WaitsDay t) m n le away = λ some.
+    let day = away (omega (arith, le, some)) in
+    (omega (arith, le, day.0), λ before. omega (arith, le, day.1 before))
+fewer_hold s (WaitsContact c closed) m n le away = λ here. omega (arith, le, away here)
+fewer_hold s WaitsSwap m n le away = tt
+fewer_hold s Ended m n le away = tt
+
+not_zero : (l : ℕ) → 1 ≤ l → (b : Bool) → (l == 0) ≡ b → b ≡ false
+not_zero l some true e = absurd (omega (arith, some, eqb-true l 0 e))
+not_zero l some false e = refl
+
+not_due : (notice : ℕ) (left : Option ℕ) (n : ℕ) → SwapIsAway notice left (suc n) → is_due left ≡ false
+not_due notice None n away = refl
+not_due notice (Some l) n away = not_zero l (omega (arith, away.0)) (l == 0) refl
+
+not_noticed : (notice : ℕ) (left : Option ℕ) (n : ℕ) → SwapIsAway notice left (suc n) → (b : Bool) → is_first_noticed notice left ≡ b → b ≡ false
+not_noticed notice None n away b e = sym e
+not_noticed notice (Some l) n away true e =
+    let same : l ≡ notice = eqb-true l notice e in
+    absurd (omega (arith, same, away.1 (omega (arith, same))))
+not_noticed notice (Some l) n away false e = refl
+
+swap_nearer : (notice : ℕ) (left : Option ℕ) (n : ℕ) → SwapIsAway notice left (suc n) → SwapIsAway notice (left_after_frame left) n
+swap_nearer notice None n away = tt
+swap_nearer notice (Some l) n away = (omega (arith, away.0), λ from. omega (arith, from, away.1 (omega (arith, from))))
+
+day_not_here : (day t n : ℕ) → (day ≤ t → day + suc n ≤ t) → (b : Bool) → (day == t) ≡ b → b ≡ false
+day_not_here day t n before true e =
+    let same : day ≡ t = eqb-true day t e in
+    absurd (omega (arith, same, before (omega (arith, same))))
+day_not_here day t n before false e = refl
+
+contact_not_here : (here : Bool) (n : ℕ) → (here ≡ true → suc n ≡ 0) → here ≡ false
+contact_not_here true n away = let none : suc n ≡ 0 = away refl in absurd (omega (arith, none))
+contact_not_here false n away = refl
+
+not_here : (s : State) (hold : Hold) (n : ℕ) → HoldIsAway s hold (suc n) → is_here s hold ≡ false
+not_here s (Waits k) n away = not_zero k (omega (arith, away)) (k == 0) refl
+not_here s (WaitsDay t) n away = day_not_here s.day t n (away (omega arith)).1 (s.day == t) refl
+not_here s (WaitsContact c closed) n away = contact_not_here (is_same_flag (is_closed s.contacts c) closed) n away
+not_here s WaitsSwap n away = refl
+not_here s Ended n away = refl
+
+not_ended : (s : State) (b : Bool) → b ≡ false → cond b (resumed s) s ≡ s
+not_ended s true e = absurd cc
+not_ended s false e = refl
+
+neither : (a b : Bool) → a ≡ false → b ≡ false → (a || b) ≡ false
+neither true b e f = absurd cc
+neither false b e f = f
+
+-- what isn't here holds the machine
+not_running : (s : State) (hold : Hold) → is_here s hold ≡ false → is_running hold ≡ false
+not_running s (Waits k) e = e
+not_running s (WaitsDay t) e = refl
+not_running s (WaitsContact c closed) e = refl
+not_running s WaitsSwap e = refl
+not_running s Ended e = refl
+
+-- nothing that is looked for comes with the next frame
+pub is_quiet : (p : Program) (s : State) (n : ℕ) → SwapIsAway p.plan.notice s.left (suc n) → HoldIsAway s s.hold (suc n) → IsQuiet p s
+is_quiet p s n swap hold =
+    let notice = p.plan.notice in
+    let due : is_due s.left ≡ false = not_due notice s.left n swap in
+    let here : is_here s s.hold ≡ false = not_here s s.hold n hold in
+    let unswapped : with_due_swap s ≡ s = no_swap_due s (is_due s.left) due in
+    let unheld : with_hold_ended s ≡ s = not_ended s (is_here s s.hold) here in
+    let at : ready s ≡ s = ap (λ (t : State). with_hold_ended t) unswapped ∙ unheld in
+    let held : is_running s.hold ≡ false = not_running s s.hold here in
+    let ran : after_burst p s ≡ s = ap (λ (t : State). burst p.plan.budget p t) at ∙ held_burst p.plan.budget p s held in
+    let left : (shown p s).left ≡ s.left = left_kept (after_burst p s) (is_first_noticed notice (after_burst p s).left) ∙ ap (λ (t : State). t.left) ran in
+    let later : is_first_noticed notice (shown p s).left ≡ false =
+    ap (λ (o : Option ℕ). is_first_noticed notice o) left ∙ not_noticed notice s.left n swap (is_first_noticed notice s.left) refl in
+    record {
+      no_swap = due;
+      suspended = ap (λ (t : State). is_running t.hold) at ∙ held;
+      no_phase = neither (is_due s.left) (is_first_noticed notice (shown p s).left) due later;
+    }
+
+hold_nearer : (plan : Plan) (s : State) (hold : Hold) (n : ℕ) → HoldIsAway s hold (suc n) → HoldIsAway (with_next_counts plan s) (hold_after_frame hold) n
+hold_nearer plan s (Waits k) n away = omega (arith, away)
+hold_nearer plan s (WaitsDay t) n away = λ some.
+    let day = away (omega arith) in
+    let next : (s.day + 1) % FRAMES_A_DAY ≡ s.day + 1 = mod-eq_of_lt (omega (arith, some, day.0)) in
+    (omega (arith, next, day.0), λ before. omega (arith, next, day.1 (omega (arith, next, before))))
+hold_nearer plan s (WaitsContact c closed) n away = λ here.
+    let none : suc n ≡ 0 = away here in
+    absurd (omega (arith, none))
+hold_nearer plan s WaitsSwap n away = tt
+hold_nearer plan s Ended n away = tt
+
+pub are_quiet : (p : Program) (s : State) (n : ℕ) → SwapIsAway p.plan.notice s.left n → HoldIsAway s s.hold n → AreQuiet p n s
+are_quiet p s zero swap hold = tt
+are_quiet p s (suc n) swap hold =
+    let quiet = is_quiet p s n swap hold in
+    let on : State = with_next_counts p.plan s in
+    let later : AreQuiet p n on = are_quiet p on n (swap_nearer p.plan.notice s.left n swap) (hold_nearer p.plan s s.hold n hold) in
+    (quiet, subst (λ (t : State). AreQuiet p n t) (sym (stays p s quiet).after) later)

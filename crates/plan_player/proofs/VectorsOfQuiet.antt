@@ -1,0 +1,126 @@
+-- Quiet frames, by a code that waits over an empty multiplex: each definition where it holds, and where it fails.
+use Rattle.std.proofs.Common.{◌≡◌, ℕ, zero, suc, true, false, [], ◌∷◌, Option, Some, None, replicate, refl, arith}
+use Rattle.mux_config.specs.Configuration.{nothing}
+use Rattle.fib_codec.specs.declared.modes.Mode.TheVariants.{I}
+use Rattle.plan_code.specs.declared.plan.Plan.{Plan}
+use Rattle.plan_code.specs.declared.flags.Contacts.{Contacts}
+use Rattle.plan_code.specs.declared.hold.Hold.{Hold}
+use Rattle.plan_code.specs.declared.hold.Hold.TheVariants.{Waits, WaitsDay, WaitsContact, WaitsSwap, Ended}
+use Rattle.plan_code.specs.declared.instr.Instr.TheVariants.{Wait, End}
+use Rattle.plan_code.specs.Program.{Program}
+use Rattle.plan_code.specs.Machine.{State}
+use Rattle.plan_player.specs.Quiet.{IsQuiet, AreQuiet, counted_on, AreCopied, SwapIsAway, HoldIsAway}
+use Rattle.plan_player.proofs.Quiet.{quiet_frames_are_copied}
+
+abbrev plan : Plan
+plan = record { eid = 0xe1c5; mode = I; period = 4; notice = 24; budget = 20 }
+
+abbrev waits : Program
+waits = record {
+  plan = plan;
+  configurations = nothing ∷ [];
+  labels = [];
+  lines = record { number = 1; instr = Wait 1 } ∷ record { number = 2; instr = End } ∷ [];
+}
+
+abbrev all_open : Contacts
+all_open = record { 0 = 0 }
+
+-- suspended in this way, with this swap pending
+abbrev at : Hold → Option ℕ → State
+at hold left =
+    record {
+      current = nothing;
+      next = nothing;
+      left = left;
+      pc = 0;
+      hold = hold;
+      counters = replicate 8 0;
+      contacts = all_open;
+      count = 4999;
+      day = 3599998;
+      eid = 0xe1c5;
+      turn = 0;
+    }
+
+-- ---- one frame
+
+waiting : IsQuiet waits (at (Waits 2) None)
+waiting = record { no_swap = refl; suspended = refl; no_phase = refl }
+
+in_the_notice : IsQuiet waits (at WaitsSwap (Some 23))
+in_the_notice = record { no_swap = refl; suspended = refl; no_phase = refl }
+
+at_a_swap : IsQuiet waits (at Ended (Some 0)) → ⊥
+at_a_swap h = let e : true ≡ false = h.no_swap in absurd cc
+
+with_an_instruction : IsQuiet waits (at (Waits 0) None) → ⊥
+with_an_instruction h = let e : true ≡ false = h.suspended in absurd cc
+
+at_the_frame_of_the_day : IsQuiet waits (at (WaitsDay 3599998) None) → ⊥
+at_the_frame_of_the_day h = let e : true ≡ false = h.suspended in absurd cc
+
+as_a_notice_begins : IsQuiet waits (at Ended (Some 24)) → ⊥
+as_a_notice_begins h = let e : true ≡ false = h.no_phase in absurd cc
+
+-- ---- frames one after another
+
+two_frames : AreQuiet waits (suc (suc zero)) (at (Waits 2) None)
+two_frames =
+    (record { no_swap = refl; suspended = refl; no_phase = refl }, (record { no_swap = refl; suspended = refl; no_phase = refl }, tt))
+
+-- the third carries out an instruction
+no_third : AreQuiet waits (suc (suc (suc zero))) (at (Waits 2) None) → ⊥
+no_third h = let third = h.1.1.0 in let e : true ≡ false = third.suspended in absurd cc
+
+counts_wrap : (counted_on plan (suc (suc zero)) (at (Waits 2) None)).count ≡ 1
+counts_wrap = refl
+
+days_wrap : (counted_on plan (suc (suc zero)) (at (Waits 2) None)).day ≡ 0
+days_wrap = refl
+
+two_copied : AreCopied waits (suc (suc zero)) (at (Waits 2) None)
+two_copied = quiet_frames_are_copied waits (suc (suc zero)) (at (Waits 2) None) two_frames
+
+-- it carries out an instruction
+not_copied : AreCopied waits (suc zero) (at (Waits 0) None) → ⊥
+not_copied h = let e : 1 ≡ 0 = h.no_steps in omega (arith, e)
+
+-- ---- how many there are
+
+six_before_the_notice : SwapIsAway 24 (Some 30) 6
+six_before_the_notice = (omega arith, λ from. omega arith)
+
+no_seventh : SwapIsAway 24 (Some 30) 7 → ⊥
+no_seventh h = omega (arith, h.1 (omega arith))
+
+five_in_the_notice : SwapIsAway 24 (Some 5) 5
+five_in_the_notice = (omega arith, λ from. omega (arith, from))
+
+no_sixth : SwapIsAway 24 (Some 5) 6 → ⊥
+no_sixth h = omega (arith, h.0)
+
+three_of_three : HoldIsAway (at (Waits 3) None) (Waits 3) 3
+three_of_three = omega arith
+
+no_fourth : HoldIsAway (at (Waits 3) None) (Waits 3) 4 → ⊥
+no_fourth h = omega (arith, h)
+
+one_before_it : HoldIsAway (at Ended None) (WaitsDay 3599999) 1
+one_before_it = λ some. (omega arith, λ before. omega arith)
+
+not_two : HoldIsAway (at Ended None) (WaitsDay 3599999) 2 → ⊥
+not_two h = let e = (h (omega arith)).1 (omega arith) in omega (arith, e)
+
+-- a later day is not looked at
+two_to_midnight : HoldIsAway (at Ended None) (WaitsDay 7) 2
+two_to_midnight = λ some. (omega arith, λ before. omega (arith, before))
+
+not_beyond : HoldIsAway (at Ended None) (WaitsDay 7) 3 → ⊥
+not_beyond h = omega (arith, (h (omega arith)).0)
+
+open_as_long_as_it_is : HoldIsAway (at Ended None) (WaitsContact 3 true) 1000
+open_as_long_as_it_is = λ here. let e : false ≡ true = here in absurd cc
+
+is_open_now : HoldIsAway (at Ended None) (WaitsContact 3 false) 1 → ⊥
+is_open_now h = let e : 1 ≡ 0 = h refl in omega (arith, e)

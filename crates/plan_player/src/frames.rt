@@ -1,0 +1,147 @@
+//! Frames played one after another into a sink, with no event between them.
+
+ghost use Rattle.std.specs.Prelude.{◌≡◌, ◌≤◌, List, false, true, length, replicate, IfOk, OnOk, IfErr, OnErr};
+ghost use Rattle.std.specs.Io.KnownBytes.{Appends};
+ghost use Rattle.plan_runs.specs.declared.event.Event.{Event};
+ghost use Rattle.plan_runs.specs.declared.event.Event.TheVariants.{Frame};
+ghost use Rattle.plan_runs.specs.Headline.{KeepsItsWord};
+ghost use Rattle.plan_player.specs.Playing.{played};
+ghost use Rattle.plan_player.specs.Delivery.{frames_of, played_bytes, Delivered, Stopped, StoppedBy};
+ghost use Rattle.plan_player.specs.Quiet.{AreQuiet};
+
+use crate::fault::PlayFault;
+use crate::player::Player;
+use crate::sink::Sink;
+use mux_config::Store;
+use plan_runs::laws;
+
+/// How far playing came where the sink failed: this many frames went out whole, and this many bytes of the one after them.
+#[derive(Clone, Copy, Debug, PartialEq, Eq)]
+struct Cut {
+    frames: u32,
+    bytes: usize,
+}
+
+/// The headline, of any events.
+fn promise<'a, S: Store>(player: &Player<'a, S>)
+    ensures { (events : List Event) → KeepsItsWord player.now.code player.now.state events }
+{
+    let _current = player.current();
+    laws::headline();
+}
+
+/// Plays this many frames, all of them quiet.
+#[inline(never)]
+fn play_quiet<'a, S: Store, K: Sink>(
+    player: &mut Player<'a, S>,
+    count: u32,
+    sink: &mut K,
+) -> Result<(), Cut>
+    requires working { K.has_failed sink.old ≡ false }
+    requires quiet { AreQuiet player.old.code count player.old.state }
+    ensures done { OnOk result (Delivered player.old player.new (replicate count Frame)
+        (K.taken sink.old) (K.taken sink.new) count) }
+    ensures works { OnOk result (K.has_failed sink.new ≡ false) }
+    ensures stopped { IfErr result (λ cut. Stopped player.old player.new
+        (replicate count Frame) (K.taken sink.old) (K.taken sink.new) cut.frames cut.bytes) }
+    ensures fails { OnErr result (K.has_failed sink.new ≡ true) }
+{
+    let plan = player.plan();
+    let mut done = 0u32;
+    while done < count {
+        match player.put_quiet_frame(&plan, sink) {
+            Ok(()) => done += 1,
+            Err(bytes) => {
+                return Err(Cut {
+                    frames: done,
+                    bytes,
+                });
+            }
+        }
+    }
+    Ok(())
+}
+
+/// Plays the next frame.
+#[inline(never)]
+fn play_one<'a, S: Store, K: Sink>(player: &mut Player<'a, S>, sink: &mut K) -> Result<(), Cut>
+    requires working { K.has_failed sink.old ≡ false }
+    ensures done { OnOk result (Delivered player.old player.new (replicate 1 Frame)
+        (K.taken sink.old) (K.taken sink.new) 1) }
+    ensures works { OnOk result (K.has_failed sink.new ≡ false) }
+    ensures stopped { IfErr result (λ cut. Stopped player.old player.new
+        (replicate 1 Frame) (K.taken sink.old) (K.taken sink.new) cut.frames cut.bytes) }
+    ensures fails { OnErr result (K.has_failed sink.new ≡ true) }
+{
+    match player.put_frame(sink) {
+        Ok(()) => Ok(()),
+        Err(bytes) => Err(Cut { frames: 0, bytes }),
+    }
+}
+
+/// Plays the quiet frames from the next one on, at most this many; or the next frame, where it isn't quiet. How many
+/// frames it played is the result.
+fn play_some<'a, S: Store, K: Sink>(
+    player: &mut Player<'a, S>,
+    most: u32,
+    sink: &mut K,
+) -> Result<u32, Cut>
+    requires working { K.has_failed sink.old ≡ false }
+    requires one { 1 ≤ most }
+    ensures done { IfOk result (λ n. Delivered player.old player.new (replicate n Frame)
+        (K.taken sink.old) (K.taken sink.new) n) }
+    ensures some { IfOk result (λ n. (1 ≤ n) × (n ≤ most)) }
+    ensures works { OnOk result (K.has_failed sink.new ≡ false) }
+    ensures stopped { IfErr result (λ cut. Stopped player.old player.new
+        (replicate most Frame) (K.taken sink.old) (K.taken sink.new) cut.frames cut.bytes) }
+    ensures fails { OnErr result (K.has_failed sink.new ≡ true) }
+{
+    let quiet = player.quiet_frames(most);
+    if quiet == 0 {
+        return match play_one(player, sink) {
+            Ok(()) => Ok(1),
+            Err(cut) => Err(cut),
+        };
+    }
+    match play_quiet(player, quiet, sink) {
+        Ok(()) => Ok(quiet),
+        Err(cut) => Err(cut),
+    }
+}
+
+/// Plays this many frames one after another, and puts each into the sink, which must not have failed: what
+/// [`play`](crate::play) does with as many frame events. How many frames it made is the result. A stretch of frames in
+/// which no swap is made, no instruction carried out and no phase begun is looked for once, and not frame by frame.
+///
+/// `Write`: the sink failed. The frame that it didn't take whole has been made, and later ones have not.
+pub fn play_frames<'a, S: Store, K: Sink>(
+    player: &mut Player<'a, S>,
+    count: u32,
+    sink: &mut K,
+) -> Result<u64, PlayFault>
+    requires working { K.has_failed sink.old ≡ false }
+    ensures bytes { OnOk result (Appends (K.taken sink.old) (K.taken sink.new)
+        (played_bytes player.old (replicate count Frame))) }
+    ensures state { OnOk result (player.new ≡ played player.old (replicate count Frame)) }
+    ensures frames { IfOk result (λ n. n ≡ length (frames_of player.old (replicate count Frame))) }
+    ensures works { OnOk result (K.has_failed sink.new ≡ false) }
+    ensures stopped { IfErr result (λ fault. StoppedBy player.old player.new
+        (replicate count Frame) (K.taken sink.old) (K.taken sink.new) fault) }
+    ensures fails { OnErr result (K.has_failed sink.new ≡ true) }
+    ensures headline { KeepsItsWord player.old.code player.old.state (replicate count Frame) }
+{
+    promise(player);
+    let mut done = 0u32;
+    while done < count {
+        match play_some(player, count - done, sink) {
+            Ok(made) => done += made,
+            Err(cut) => {
+                return Err(PlayFault::Write {
+                    frames: u64::from(done + cut.frames),
+                    bytes: cut.bytes,
+                });
+            }
+        }
+    }
+    Ok(u64::from(count))
+}

@@ -1,0 +1,72 @@
+//! How many frames are quiet: they make no swap, carry out no instruction and begin no phase.
+
+ghost use Rattle.std.specs.Prelude.{◌≡◌, ◌≤◌, ◌<◌, ◌+◌};
+ghost use Rattle.plan_player.specs.Positions.{state_of};
+ghost use Rattle.plan_player.specs.Quiet.{AreQuiet, SwapIsAway, HoldIsAway};
+
+use super::Machine;
+use mux_config::Store;
+use plan_code::limits::FRAMES_A_DAY;
+use plan_code::{Code, Hold};
+
+/// How many frames come before the swap and before the first frame of its notice.
+fn before_swap(notice: u8, left: Option<u16>) -> u32
+    ensures { SwapIsAway notice left result }
+{
+    let notice = u16::from(notice);
+    match left {
+        None => u32::MAX,
+        Some(left) => {
+            if notice <= left {
+                u32::from(left - notice)
+            } else {
+                u32::from(left)
+            }
+        }
+    }
+}
+
+/// How many frames come before this frame of the day and before the end of the day.
+fn before_day(day: u32, frame: u32) -> u32
+    requires { frame < FRAMES_A_DAY }
+    ensures within { 1 ≤ result → day + result ≤ FRAMES_A_DAY }
+    ensures before { day ≤ frame → day + result ≤ frame }
+{
+    if day <= frame {
+        frame - day
+    } else {
+        FRAMES_A_DAY.saturating_sub(day)
+    }
+}
+
+/// How many frames come before what the machine waits for.
+fn before_resuming<S: Store>(machine: &Machine<S>) -> u32
+    ensures { HoldIsAway (state_of S.content machine.now) machine.now.hold result }
+{
+    match machine.hold {
+        Hold::Waits(frames) => u32::from(frames),
+        Hold::WaitsDay(frame) => before_day(machine.day, frame.get()),
+        Hold::WaitsContact { contact, closed } => {
+            if machine.contacts.is_closed(contact) == closed {
+                0
+            } else {
+                u32::MAX
+            }
+        }
+        Hold::WaitsSwap => u32::MAX,
+        Hold::Ended => u32::MAX,
+    }
+}
+
+/// How many frames from this one on are quiet, of at most this many: where frames are not looked at one by one, some
+/// that are quiet may not be counted.
+pub(crate) fn quiet_frames<S: Store>(code: &Code, machine: &Machine<S>, most: u32) -> u32
+    ensures quiet { AreQuiet code.now result (state_of S.content machine.now) }
+    ensures bound { result ≤ most }
+{
+    let plan = code.plan();
+    let swap = before_swap(plan.notice, machine.left);
+    let hold = before_resuming(machine);
+    let nearer = swap.min(hold);
+    nearer.min(most)
+}
