@@ -107,6 +107,10 @@ pub record IsCodeOf (s : Tree) (code : Program) : Type 0 where
 abbrev pub CostsItsNeeds : Program → Type 0
 CostsItsNeeds code = (l : Label) → Contains code.labels l → IsNeed (instrs_of code.lines) l.pc l.cost
 
+-- the law of codes: a script has one code at most whose labels cost their needs
+abbrev pub ScriptsHaveOneCode : Type 0
+ScriptsHaveOneCode = (s : Tree) (a b : Program) → IsCodeOf s a → IsCodeOf s b → CostsItsNeeds a → CostsItsNeeds b → a ≡ b
+
 -- ---- scripts that can be compiled
 
 -- how many repeats stand one inside another

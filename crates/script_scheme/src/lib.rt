@@ -4,9 +4,10 @@
 //! what is known there (`specs/Scheme.antt`), and so are the labels, but for what they cost. Which scripts have a code
 //! that never goes wrong is judged by cases on statements (`specs/Judged.antt`); what a label is to cost is defined by
 //! paths of the code (`specs/Need.antt`). What is known is a flow of `plan_flow`; a [`Spot`] is that, and whether a label
-//! stands there.
+//! stands there. The function of `laws` does nothing: its contract is the law that a script has one code.
 #![tactic(auto)]
 
 pub mod flow;
+pub mod laws;
 
 pub use flow::{Mark, Spot};
