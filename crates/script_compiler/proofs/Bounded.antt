@@ -6,11 +6,11 @@ use Rattle.plan_code.specs.declared.instr.Instr.TheVariants.{Wait, Until, WaitCo
 use Rattle.plan_code.specs.declared.label.Swap.{Swap}
 use Rattle.plan_code.specs.declared.label.Swap.TheVariants.{Idle, Within, Perhaps}
 use Rattle.plan_code.specs.declared.plan.Plan.{Plan}
-use Rattle.plan_verifier.specs.Typing.{Known, IsFine, known_after_swap, waited, paused, perhaps_swapped, settled}
+use Rattle.plan_flow.specs.Rules.{Known, IsFine, known_after_swap, waited, paused, perhaps_swapped, settled}
+use Rattle.plan_flow.specs.Flows.{Flow, known_at, moved, widest}
 use Rattle.script_front.specs.Block.{Block, nothing, basic, stop, when, either, repeat, forever, apply}
-use Rattle.script_scheme.specs.declared.flow.Flow.{Flow}
 use Rattle.script_scheme.specs.declared.flow.Spot.{Spot}
-use Rattle.script_scheme.specs.Scheme.{Place, known_at, moved, past, at_label, widest, meet, join, onward, head, spot_after, place_of_instr, alone, places, instr_of_act, falls_out}
+use Rattle.script_scheme.specs.Scheme.{Place, past, at_label, meet, join, onward, head, spot_after, place_of_instr, alone, places, instr_of_act, falls_out}
 use Rattle.script_scheme.specs.Judged.{IsJudged, Reached}
 
 -- the least is 1 or more, and not above the greatest

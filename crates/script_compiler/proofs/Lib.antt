@@ -4,10 +4,12 @@ mod Weight
 mod Arms
 mod Leading
 mod Laid
+mod Judging
 mod Putting
 mod Blocks
 mod Steps
 mod Tabling
+mod Printing
 mod Marking
 mod Whole
 mod Accepting

@@ -5,8 +5,8 @@ use Rattle.std.proofs.lemmas.Bool.{cases_lt}
 use Rattle.std.proofs.lemmas.Option.{slice_get_past}
 use Rattle.std.proofs.lemmas.List.{get_or_past, get_or_push, get_or_append_left}
 use Rattle.plan_code.specs.declared.instr.Instr.{Instr}
-use Rattle.plan_verifier.specs.Typing.{continues, target_of}
-use Rattle.script_scheme.specs.Need.{suspends, GoesTo, HasPath, IsWithinBudget, IsNeed}
+use Rattle.plan_flow.specs.Rules.{continues, target_of, suspends}
+use Rattle.script_scheme.specs.Need.{GoesTo, HasPath, IsWithinBudget, IsNeed}
 use Rattle.plan_code.specs.declared.instr.Line.{Line}
 use Rattle.script_scheme.specs.Compiled.{instrs_of}
 use Rattle.script_compiler.specs.Longest.{need_to, need_at, longest}

@@ -3,13 +3,14 @@ use Rattle.std.proofs.Common.{◌≡◌, ℕ, ◌+◌, ◌<◌, arith, Result, O
 use Rattle.std.specs.Prelude.{IfErr}
 use Rattle.plan_code.specs.declared.instr.Instr.TheVariants.{Test}
 use Rattle.plan_code.specs.declared.plan.Plan.{Plan}
-use Rattle.plan_verifier.specs.Typing.{IsFine}
+use Rattle.plan_flow.specs.Rules.{IsFine}
+use Rattle.plan_flow.specs.Flows.{known_at}
 use Rattle.script_front.specs.declared.tree.Act.{Act}
 use Rattle.script_front.specs.declared.tree.Statement.{Statement}
 use Rattle.script_front.specs.declared.tree.Statement.TheOpen.{Statement-F}
 use Rattle.script_front.specs.Block.{Block, nothing, basic, when, either, repeat, forever, apply, Before, statement_step, before, block_of}
 use Rattle.script_scheme.specs.declared.flow.Spot.{Spot}
-use Rattle.script_scheme.specs.Scheme.{known_at, past, at_label, head, instr_of_act, spot_after, falls_out}
+use Rattle.script_scheme.specs.Scheme.{past, at_label, head, instr_of_act, spot_after, falls_out}
 use Rattle.script_scheme.specs.Judged.{IsJudged, IsDone, Reached, WaysAgree, BranchesAgree, ComesRound}
 use Rattle.script_compiler.specs.declared.work.Work.{Work}
 use Rattle.plan_code.specs.declared.instr.Line.{Line}

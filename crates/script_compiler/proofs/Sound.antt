@@ -10,16 +10,17 @@ use Rattle.plan_code.specs.declared.instr.Instr.TheVariants.{End, Test, Jump, Se
 use Rattle.plan_code.specs.declared.label.Swap.{Swap}
 use Rattle.plan_code.specs.declared.label.Swap.TheVariants.{Idle, Within, Perhaps}
 use Rattle.plan_code.specs.declared.plan.Plan.{Plan}
-use Rattle.plan_code.specs.Flags.{is_set, with_counter, without_counter}
+use Rattle.plan_code.specs.Flags.{is_set, without_counter}
 use Rattle.plan_code.proofs.Bits.{counters_change_alone}
-use Rattle.plan_verifier.specs.Typing.{Known, CanCommit, IsFine, FitsSwap, continues, target_of}
+use Rattle.plan_flow.specs.Rules.{Known, IsFine, FitsSwap, continues, target_of}
+use Rattle.plan_flow.specs.Flows.{Flow, known_at, known_with, moved, set_after, merged, FitsFlow}
+use Rattle.plan_flow.proofs.Finding.{commit_fine}
 use Rattle.script_front.specs.declared.tree.Act.{Act}
 use Rattle.script_front.specs.declared.tree.Act.TheVariants.{Edit as Edits, Wait as Waits, WaitContact as WaitsContact, Until as WaitsUntil, CommitIn as CommitsIn, CommitAt as CommitsAt, Join as Joins, Settle as Settles}
 use Rattle.script_front.specs.Block.{Block, nothing, basic, stop, when, either, repeat, forever, apply}
-use Rattle.script_scheme.specs.declared.flow.Flow.{Flow}
 use Rattle.script_scheme.specs.declared.flow.Spot.{Spot}
-use Rattle.script_scheme.specs.Scheme.{Place, known_at, moved, past, at_label, merged, meet, join, onward, head, spot_after, place_of_instr, alone, places, all_places, instr_of_act, falls_out}
-use Rattle.script_scheme.specs.Judged.{IsJudged, FitsFlow, WaysAgree, BranchesAgree, ComesRound, Reached}
+use Rattle.script_scheme.specs.Scheme.{Place, past, at_label, meet, join, onward, head, spot_after, place_of_instr, alone, places, all_places, instr_of_act, falls_out}
+use Rattle.script_scheme.specs.Judged.{IsJudged, WaysAgree, BranchesAgree, ComesRound, Reached}
 use Rattle.script_scheme.specs.Compiled.{first_counters, nested}
 use Rattle.script_compiler.proofs.Leading.{after_falls}
 
@@ -107,16 +108,6 @@ meets_right v w t h e = subst (λ x. WaysAgree v x → Meeting (meet v x) t.flow
     by : (v : Option Spot) → WaysAgree v (Some t) → Meeting (meet v (Some t)) t.flow
     by None h = record { flow = t.flow; there = refl; fits = fits_same t.flow }
     by (Some s) h = record { flow = merged s.flow t.flow; there = refl; fits = h.1 }
-
--- what is known, with counters and an allowance
-abbrev pub known_with : Flow → Counters → ℕ → Known
-known_with t c a = record { current = t.current; next = t.next; pending = t.pending; counters = c; allowance = a }
-
--- the counters after an instruction
-abbrev pub set_after : Instr → Counters → Counters
-set_after (Set counter times) c = with_counter counter c
-set_after (Loop counter target) c = without_counter counter c
-set_after _ c = c
 
 -- how many counters are set after an instruction
 abbrev pub counted : Instr → ℕ → ℕ
@@ -273,21 +264,13 @@ module _ (plan : Plan) (code : List Place) where
   act_sets Joins c = refl
   act_sets Settles c = refl
 
-  commit_fine : (t : Flow) (c : Counters) (a : ℕ) → CanCommit plan (known_at t) → CanCommit plan (known_with t c a)
-  commit_fine t c a h = record {
-    idle = h.idle;
-    sound = h.sound;
-    changes = h.changes;
-    room = record { within_period = h.room.within_period; three_times = h.room.three_times; alone = h.room.alone };
-  }
-
   act_fine : (a : Act) (t : Flow) (c : Counters) (n : ℕ) → IsFine plan (instr_of_act a) (known_at t) → IsFine plan (instr_of_act a) (known_with t c n)
   act_fine (Edits edit) t c n h = h
   act_fine (Waits frames) t c n h = h
   act_fine (WaitsContact contact closed) t c n h = h
   act_fine (WaitsUntil second) t c n h = h
-  act_fine (CommitsIn delay) t c n h = (commit_fine t c n h.0, h.1)
-  act_fine (CommitsAt count) t c n h = (commit_fine t c n h.0, h.1)
+  act_fine (CommitsIn delay) t c n h = (commit_fine plan t _ c 0 n h.0, h.1)
+  act_fine (CommitsAt count) t c n h = (commit_fine plan t _ c 0 n h.0, h.1)
   act_fine Joins t c n h = h
   act_fine Settles t c n h = h
 

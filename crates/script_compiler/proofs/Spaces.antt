@@ -7,13 +7,12 @@ use Rattle.plan_code.specs.declared.instr.Instr.TheVariants.{Jump}
 use Rattle.plan_code.specs.declared.label.Swap.{Swap}
 use Rattle.plan_code.specs.declared.label.Swap.TheVariants.{Idle, Within, Perhaps}
 use Rattle.plan_code.specs.declared.plan.Plan.{Plan}
+use Rattle.plan_flow.specs.Flows.{Flow, known_at, merged, FitsFlow}
+use Rattle.plan_flow.specs.Rules.{FitsSwap}
 use Rattle.script_front.specs.Block.{Block}
-use Rattle.script_scheme.specs.declared.flow.Flow.{Flow}
 use Rattle.script_scheme.specs.declared.flow.Mark.{Mark}
 use Rattle.script_scheme.specs.declared.flow.Spot.{Spot}
-use Rattle.plan_verifier.specs.Typing.{FitsSwap}
-use Rattle.script_scheme.specs.Scheme.{Place, known_at, place_of_instr, alone, onward, spot_after, places, mark_of, marks_of}
-use Rattle.script_scheme.specs.Judged.{FitsFlow}
+use Rattle.script_scheme.specs.Scheme.{Place, place_of_instr, alone, onward, at_label, meet, spot_after, places, mark_of, marks_of}
 use Rattle.script_scheme.specs.Compiled.{StandsIn, Added, Tabled, lines_of_places}
 use Rattle.script_compiler.specs.declared.work.Work.{Work}
 use Rattle.script_compiler.specs.declared.fault.CompileFault.{CompileFault}
@@ -113,6 +112,14 @@ covered_here s p ps e = λ l. record {
   labelled = ap (λ (t : Spot). t.labelled) e ∙ l;
   names = λ c h. subst (λ (t : Spot). StandsIn c (t.flow.current ∷ t.flow.next ∷ [])) (sym e) h;
 }
+
+pub some_of : (w : Option Spot) → true ≡ is_some w → (s : Spot) × (w ≡ Some s)
+some_of None e = absurd cc
+some_of (Some s) e = (s, refl)
+
+pub met_labelled : (v : Option Spot) (t u : Spot) → meet v (Some t) ≡ Some u → u.labelled ≡ true
+met_labelled None t u e = let is : at_label t.flow ≡ u = cc in ap (λ (s : Spot). s.labelled) (sym is)
+met_labelled (Some s) t u e = let is : at_label (merged s.flow t.flow) ≡ u = cc in ap (λ (s : Spot). s.labelled) (sym is)
 
 pub covered_flow : (s : Spot) (t : Flow) (ps : List Place) → s.flow ≡ t → IsCovered s.flow ps → IsCovered t ps
 covered_flow s t ps e h = subst (λ x. IsCovered x ps) e h

@@ -3,12 +3,13 @@ use Rattle.std.proofs.Common.{◌≡◌, ℕ, zero, suc, ◌+◌, map, take, Vec
 use Rattle.std.specs.Prelude.{IfOk, OnOk}
 use Rattle.plan_code.specs.declared.instr.Instr.TheVariants.{Test, Jump, Set, Loop}
 use Rattle.plan_code.specs.declared.plan.Plan.{Plan}
+use Rattle.plan_flow.specs.Flows.{known_at, moved}
+use Rattle.plan_flow.specs.Rules.{IsFine}
 use Rattle.script_front.specs.declared.tree.Act.{Act}
 use Rattle.script_front.specs.declared.tree.Statement.{Statement}
 use Rattle.script_front.specs.Block.{Block, nothing, basic, stop, when, either, repeat, forever, apply, named_at, before, block_of}
 use Rattle.script_scheme.specs.declared.flow.Spot.{Spot}
-use Rattle.script_scheme.specs.Scheme.{known_at, moved, past, onward, alone, spot_after, places, instr_of_act, falls_out}
-use Rattle.plan_verifier.specs.Typing.{IsFine}
+use Rattle.script_scheme.specs.Scheme.{past, onward, alone, spot_after, places, instr_of_act, falls_out}
 use Rattle.script_scheme.specs.Judged.{IsJudged, Reached}
 use Rattle.script_scheme.specs.Compiled.{nested}
 use Rattle.script_compiler.specs.declared.work.Work.{Work}

@@ -15,86 +15,27 @@ use Rattle.plan_code.specs.declared.label.Swap.TheVariants.{Idle, Within, Perhap
 use Rattle.plan_code.specs.declared.plan.Plan.{Plan}
 use Rattle.plan_code.specs.Flags.{is_set}
 use Rattle.plan_code.specs.Program.{Program, instr_at, label_at}
-use Rattle.plan_verifier.specs.Typing.{Known, FitsSwap, IsFine, known_after_swap, waited, perhaps_swapped, paused, settled, spent, rested, leaves, target_of, continues, pages_alone, Declares, ComesTo, Arrives, HasOpening, LabelStands, Reaches, IsAfter, IsSafe, IsTyped}
+use Rattle.plan_flow.specs.Rules.{Known, FitsSwap, IsFine, spent, leaves, target_of, continues, pages_alone, suspends}
+use Rattle.plan_flow.specs.Flows.{Flow, known_at, moved, FitsFlow, known_with, set_after, rests, left_over}
+use Rattle.plan_flow.proofs.Leaving.{leaves_known}
+use Rattle.plan_verifier.specs.Typing.{Declares, ComesTo, Arrives, HasOpening, LabelStands, Reaches, IsAfter, IsSafe, IsTyped}
 use Rattle.script_front.specs.Block.{Block}
 use Rattle.script_front.specs.Tree.{Tree}
-use Rattle.script_scheme.specs.declared.flow.Flow.{Flow}
 use Rattle.script_scheme.specs.declared.flow.Spot.{Spot}
-use Rattle.script_scheme.specs.Scheme.{Place, known_at, flow_of, moved, past, all_places, mark_of, marks_of}
-use Rattle.script_scheme.specs.Judged.{IsJudged, FitsFlow}
-use Rattle.script_scheme.specs.Need.{suspends, GoesTo, IsNeed, IsWithinBudget}
+use Rattle.script_scheme.specs.Scheme.{Place, past, all_places, mark_of, marks_of}
+use Rattle.script_scheme.specs.Judged.{IsJudged}
+use Rattle.script_scheme.specs.Need.{GoesTo, IsNeed, IsWithinBudget}
 use Rattle.script_scheme.specs.Compiled.{beginning, plan_of, opening_of, body_of, places_of, lines_of_places, instrs_of, first_counters, nested, IsLabelOf, AreLabelsOf, IsCodeOf, CostsItsNeeds, IsAccepted}
 use Rattle.script_compiler.specs.Longest.{longest}
 use Rattle.script_compiler.proofs.Paths.{one_least, need_most, need_onward, is_need}
 use Rattle.script_compiler.proofs.Laid.{length_lines}
-use Rattle.script_compiler.proofs.Sound.{Stand, stand_all, known_with, set_after, counted, Lands, Meets, Holds, AllHold, all_hold, opens, fits_same}
+use Rattle.script_compiler.proofs.Sound.{Stand, stand_all, counted, Lands, Meets, Holds, AllHold, all_hold, opens, fits_same}
 use Rattle.script_compiler.proofs.Connected.{Connected, all_connected}
 use Rattle.script_compiler.proofs.Labelled.{Found, label_found, label_contained, found_contained, label_place}
 use Rattle.script_compiler.proofs.First.{first_of_all}
 
 some_same : {A : Type 0} (x y : A) → Some x ≡ Some y → x ≡ y
 some_same x y e = cc
-
--- ---- what an instruction leaves
-
--- the next instruction runs in a later frame, which has the whole budget
-abbrev rests : Instr → Bool
-rests (Wait frames) = true
-rests (Until day) = true
-rests (WaitContact contact closed) = true
-rests Join = true
-rests _ = false
-
-abbrev left_over : Plan → Instr → ℕ → ℕ
-left_over plan i allowance = if rests i then plan.budget else allowance - 1
-
-waited_known : (plan : Plan) (frames : ℕ) (p : Swap) (f : Flow) (c : Counters) (a : ℕ) → rested plan (waited frames p (known_with f c a)) ≡ known_with (flow_of (waited frames p (known_at f))) c plan.budget
-waited_known plan frames Idle f c a = refl
-waited_known plan frames (Within lo hi) f c a = by (nat_lt frames lo)
-  where
-    by : (b : Bool) → rested plan (if b then record (known_with f c a) { pending = Within (lo - frames) (hi - frames) } else known_after_swap (known_with f c a))
-        ≡ known_with (flow_of (if b then record (known_at f) { pending = Within (lo - frames) (hi - frames) } else known_after_swap (known_at f))) c plan.budget
-    by true = refl
-    by false = refl
-waited_known plan frames (Perhaps hi) f c a = by (nat_lt frames hi)
-  where
-    by : (b : Bool) → rested plan (if b then record (known_with f c a) { pending = Perhaps (hi - frames) } else known_after_swap (known_with f c a))
-        ≡ known_with (flow_of (if b then record (known_at f) { pending = Perhaps (hi - frames) } else known_after_swap (known_at f))) c plan.budget
-    by true = refl
-    by false = refl
-
-perhaps_known : (plan : Plan) (hi : ℕ) (f : Flow) (c : Counters) (a : ℕ) → rested plan (perhaps_swapped hi (known_with f c a)) ≡ known_with (flow_of (perhaps_swapped hi (known_at f))) c plan.budget
-perhaps_known plan hi f c a = by (nat_lt 1 hi)
-  where
-    by : (b : Bool) → rested plan (if b then record (known_with f c a) { pending = Perhaps (hi - 1) } else known_after_swap (known_with f c a))
-        ≡ known_with (flow_of (if b then record (known_at f) { pending = Perhaps (hi - 1) } else known_after_swap (known_at f))) c plan.budget
-    by true = refl
-    by false = refl
-
-paused_known : (plan : Plan) (p : Swap) (f : Flow) (c : Counters) (a : ℕ) → rested plan (paused p (known_with f c a)) ≡ known_with (flow_of (paused p (known_at f))) c plan.budget
-paused_known plan Idle f c a = refl
-paused_known plan (Within lo hi) f c a = perhaps_known plan hi f c a
-paused_known plan (Perhaps hi) f c a = perhaps_known plan hi f c a
-
-settled_known : (p : Swap) (f : Flow) (c : Counters) (a : ℕ) → spent (settled p (known_with f c a)) ≡ known_with (flow_of (settled p (known_at f))) c (a - 1)
-settled_known Idle f c a = refl
-settled_known (Within lo hi) f c a = refl
-settled_known (Perhaps hi) f c a = refl
-
-leaves_known : (plan : Plan) (i : Instr) (f : Flow) (c : Counters) (a : ℕ) → leaves plan i (known_with f c a) ≡ known_with (moved plan i f) (set_after i c) (left_over plan i a)
-leaves_known plan (Wait frames) f c a = waited_known plan frames f.pending f c a
-leaves_known plan (Until day) f c a = paused_known plan f.pending f c a
-leaves_known plan (WaitContact contact closed) f c a = paused_known plan f.pending f c a
-leaves_known plan (CommitIn delay) f c a = refl
-leaves_known plan (CommitAt count) f c a = refl
-leaves_known plan Join f c a = refl
-leaves_known plan Settle f c a = settled_known f.pending f c a
-leaves_known plan End f c a = refl
-leaves_known plan (Edit edit) f c a = refl
-leaves_known plan (Test contact target) f c a = refl
-leaves_known plan (Jump target) f c a = refl
-leaves_known plan (Set counter times) f c a = refl
-leaves_known plan (Loop counter target) f c a = refl
 
 -- ---- where an instruction goes
 

@@ -1,4 +1,10 @@
--- Which faults refuse a script. No public contract needs this to be believed.
+-- Which faults refuse a script, and why. No public contract needs this to be believed.
+use Rattle.std.specs.Prelude.{◌≡◌, ℕ}
+use Rattle.plan_code.specs.declared.plan.Plan.{Plan}
+use Rattle.plan_code.specs.declared.instr.Instr.{Instr}
+use Rattle.plan_flow.specs.declared.cause.Cause.{Cause}
+use Rattle.plan_flow.specs.Flows.{Flow, known_at}
+use Rattle.plan_flow.specs.Causes.{FlowRefused}
 use Rattle.script_compiler.specs.declared.fault.CompileFault.{CompileFault}
 use Rattle.script_compiler.specs.declared.fault.CompileFault.TheVariants.{Refused, Limit, Memory}
 
@@ -7,3 +13,7 @@ abbrev pub IsRefusal : CompileFault → Type 0
 IsRefusal (Refused line cause) = Unit {0}
 IsRefusal Limit = ⊥
 IsRefusal Memory = ⊥
+
+-- at this line, with the first cause why the instruction is refused
+abbrev pub IsRefusedAs : Plan → ℕ → Instr → Flow → CompileFault → Type 0
+IsRefusedAs plan line i t e = (cause : Cause) × (e ≡ Refused line cause) × FlowRefused plan i (known_at t) cause

@@ -1,6 +1,7 @@
 //! From scripts to codes.
 
 ghost use Rattle.std.specs.Prelude.{◌≡◌, ◌≢◌, ℕ, ◌<◌, ◌≤◌, [], length, map, slice_index, IsOk, IfOk, IfErr};
+ghost use Rattle.plan_flow.specs.Rules.{pages_alone};
 ghost use Rattle.script_scheme.specs.Scheme.{falls_out, all_places, marks_of};
 ghost use Rattle.script_scheme.specs.Compiled.{plan_of, lines_of_places, body_of, beginning, opening_of, places_of, instrs_of, nested, AreFine, Tabled, IsCodeOf, CostsItsNeeds, IsAccepted};
 ghost use Rattle.script_scheme.specs.Judged.{IsJudged};
@@ -12,7 +13,7 @@ ghost use Rattle.script_compiler.specs.Refusals.{IsRefusal};
 ghost use Rattle.script_compiler.specs.Space.{AreFew};
 ghost use Rattle.script_compiler.specs.declared.fault.CompileFault.TheVariants.{Limit, Memory};
 ghost use Rattle.plan_code.specs.Program.{IsProgram};
-ghost use Rattle.plan_verifier.specs.Typing.{IsTyped, pages_alone};
+ghost use Rattle.plan_verifier.specs.Typing.{IsTyped};
 ghost use Rattle.script_meaning.specs.Meaning.{PlaysAsItReads};
 
 use crate::cost::first_round;
@@ -21,13 +22,14 @@ use crate::fault::CompileFault;
 use crate::marks::Marks;
 use crate::needs::{first_over, needs};
 use crate::opening::{built, test};
-use crate::work::{Work, refused};
+use crate::refusal::refused;
+use crate::work::Work;
 use mux_config::Config;
 use plan_code::{Code, Line, Plan};
-use plan_verifier::Cause;
+use plan_flow::Cause;
 use script_front::{Script, Statement};
 use script_meaning::laws;
-use script_scheme::{Flow, Spot};
+use script_scheme::Spot;
 use std::alloc::{AllocError, Global};
 
 /// Whether what follows each of these blocks can be reached.
@@ -91,10 +93,7 @@ fn lay(alloc: Global, plan: &Plan, script: &Script, config: &Config) -> Result<W
     let mut work = Work {
         lines: Vec::new(alloc),
         marks: Marks::new(alloc),
-        now: Spot {
-            flow: Flow::opening(config),
-            labelled: true,
-        },
+        now: Spot::opening(config),
         saved: Vec::new(alloc),
     };
     let falls = match work.block(

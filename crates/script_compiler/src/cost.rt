@@ -3,6 +3,7 @@
 ghost use Rattle.std.specs.Prelude.{◌<◌, length};
 
 use plan_code::{Instr, Line};
+use plan_flow::ways::{continues, suspends, target_of};
 use std::alloc::{AllocError, Global};
 
 /// Places that can be reached, and those of them from which it has still to be looked on.
@@ -39,24 +40,17 @@ impl Reached {
     }
 
     /// The places to which the machine can go from an instruction in the same frame.
-    fn add_following(&mut self, instr: Instr, pc: usize) -> Result<(), AllocError> {
-        match instr {
-            Instr::Wait(_) => Ok(()),
-            Instr::Until(_) => Ok(()),
-            Instr::WaitContact { .. } => Ok(()),
-            Instr::Join => Ok(()),
-            Instr::End => Ok(()),
-            Instr::Jump(target) => self.add(usize::from(target)),
-            Instr::Test { target, .. } => {
-                self.add(usize::from(target))?;
-                self.add(pc.saturating_add(1))
-            }
-            Instr::Loop { target, .. } => {
-                self.add(usize::from(target))?;
-                self.add(pc.saturating_add(1))
-            }
-            _ => self.add(pc.saturating_add(1)),
+    fn add_following(&mut self, instr: &Instr, pc: usize) -> Result<(), AllocError> {
+        if suspends(*instr) {
+            return Ok(());
         }
+        if let Some(target) = target_of(*instr) {
+            self.add(usize::from(target))?;
+        }
+        if continues(*instr) {
+            self.add(pc.saturating_add(1))?;
+        }
+        Ok(())
     }
 }
 
@@ -64,14 +58,14 @@ impl Reached {
 fn comes_back(alloc: Global, lines: &[Line], pc: usize) -> Result<bool, AllocError> {
     let mut reached = Reached::none(alloc, lines.len())?;
     if let Some(line) = lines.get(pc) {
-        reached.add_following(line.instr, pc)?;
+        reached.add_following(&line.instr, pc)?;
     }
     for _step in 0..lines.len() {
         match reached.waiting.pop() {
             None => break,
             Some(place) => {
                 if let Some(line) = lines.get(place) {
-                    reached.add_following(line.instr, place)?;
+                    reached.add_following(&line.instr, place)?;
                 }
             }
         }
@@ -82,12 +76,11 @@ fn comes_back(alloc: Global, lines: &[Line], pc: usize) -> Result<bool, AllocErr
     })
 }
 
-/// Whether an instruction goes back: a loop, or a jump to its own or an earlier place.
+/// Whether an instruction goes back: it can jump to its own or an earlier place.
 fn goes_back(instr: Instr, pc: usize) -> bool {
-    match instr {
-        Instr::Loop { .. } => true,
-        Instr::Jump(target) => usize::from(target) <= pc,
-        _ => false,
+    match target_of(instr) {
+        Some(target) => usize::from(target) <= pc,
+        None => false,
     }
 }
 

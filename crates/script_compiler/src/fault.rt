@@ -1,6 +1,6 @@
 //! Why a script is not compiled.
 
-use plan_verifier::Cause;
+use plan_flow::Cause;
 use std::alloc::AllocError;
 use thiserror::Error;
 

@@ -3,8 +3,9 @@
 ghost use Rattle.std.specs.Prelude.{◌≡◌};
 ghost use Rattle.script_compiler.specs.Fingerprint.{mixed, mixed_all, sub_word, service_word, component_number, packet_word, print_of};
 
-use mux_config::{Component, Config, Keyed, Packet, Service, Sub};
+use mux_config::{Component, Keyed, Packet, Service, Store, Sub};
 use mux_eep::EepSet;
+use mux_tables::Tables;
 
 /// An odd number, so that prints that differ still do after the same word: 2 to the power of 64, divided by the
 /// golden ratio.
@@ -63,44 +64,44 @@ fn packet_word(packet: &Packet) -> u64
     mixed(typed, u64::from(packet.address))
 }
 
-/// A fingerprint of what came before, and then sub-channels.
-fn mixed_subs(before: u64, subs: &[Sub]) -> u64
-    ensures { result ≡ mixed_all sub_word before subs.now }
+/// A fingerprint of what came before, and then the sub-channels.
+fn mixed_subs(before: u64, tables: &Tables) -> u64
+    ensures { result ≡ mixed_all sub_word before tables.now.subs }
 {
     let mut print = before;
-    for sub in subs {
-        print = mixed(print, sub_word(sub));
+    for place in 0..tables.sub_count() {
+        print = mixed(print, sub_word(&tables.sub_at(place)));
     }
     print
 }
 
-/// A fingerprint of what came before, and then services.
-fn mixed_services(before: u64, services: &[Service]) -> u64
-    ensures { result ≡ mixed_all service_word before services.now }
+/// A fingerprint of what came before, and then the services.
+fn mixed_services(before: u64, tables: &Tables) -> u64
+    ensures { result ≡ mixed_all service_word before tables.now.services }
 {
     let mut print = before;
-    for service in services {
-        print = mixed(print, service_word(service));
+    for place in 0..tables.service_count() {
+        print = mixed(print, service_word(tables.service_at(place)));
     }
     print
 }
 
-/// A fingerprint of what came before, and then packet components.
-fn mixed_packets(before: u64, packets: &[Packet]) -> u64
-    ensures { result ≡ mixed_all packet_word before packets.now }
+/// A fingerprint of what came before, and then the packet components.
+fn mixed_packets(before: u64, tables: &Tables) -> u64
+    ensures { result ≡ mixed_all packet_word before tables.now.packets }
 {
     let mut print = before;
-    for packet in packets {
-        print = mixed(print, packet_word(packet));
+    for place in 0..tables.packet_count() {
+        print = mixed(print, packet_word(&tables.packet_at(place)));
     }
     print
 }
 
 /// The fingerprint of a configuration, into which all of its parts go.
-pub(crate) fn print_of(config: &Config) -> u64
-    ensures { result ≡ print_of config.now }
+pub(crate) fn print_of(tables: &Tables) -> u64
+    ensures { result ≡ print_of tables.now }
 {
-    let subs = mixed_subs(0, config.subs());
-    let services = mixed_services(subs, config.services());
-    mixed_packets(services, config.packets())
+    let subs = mixed_subs(0, tables);
+    let services = mixed_services(subs, tables);
+    mixed_packets(services, tables)
 }

@@ -13,6 +13,7 @@ use crate::labels::labels_of;
 use crate::short::ShortMark;
 use crate::table::{ConfigTable, has_room_for_both, index_of};
 use mux_config::Config;
+use mux_tables::Tables;
 use plan_code::Label;
 use std::alloc::Global;
 use std::marker::Model;
@@ -62,7 +63,7 @@ impl Marks {
     /// # Errors
     ///
     /// `Limit` where the table is full, `Memory`.
-    pub(crate) fn index_of(&mut self, config: &Config) -> Result<u16, CompileFault>
+    pub(crate) fn index_of(&mut self, config: &Tables) -> Result<u16, CompileFault>
         requires { length self.old.table ≤ 256 }
         ensures items { self.new.items ≡ self.old.items }
         ensures room { OnOk result (length self.new.table ≤ 256) }
@@ -76,7 +77,7 @@ impl Marks {
     }
 
     /// Whether the table has room for those of these two that it does not have.
-    pub(crate) fn has_room_for_both(&self, first: &Config, second: &Config) -> bool
+    pub(crate) fn has_room_for_both(&self, first: &Tables, second: &Tables) -> bool
         ensures limited { result ≡ false → HasRoomFor self.now.table (first.now ∷ second.now ∷ [])
             → ⊥ }
     {

@@ -1,10 +1,12 @@
 //! How many instructions can run from each place of a code in one frame.
 
-ghost use Rattle.std.specs.Prelude.{◌≡◌, ◌+◌, ◌≤◌, ◌<◌, ℕ, length, slice_get, slice_index, true, Some, None, IfOk, IfSome, max};
+ghost use Rattle.std.specs.Prelude.{◌≡◌, ◌+◌, ◌≤◌, ◌<◌, ℕ, length, slice_get, slice_index, if◌then◌else◌, true, Some, None, IfOk, IfSome, max};
 ghost use Rattle.script_scheme.specs.Compiled.{instrs_of};
-ghost use Rattle.script_compiler.specs.Longest.{need_at, longest};
+ghost use Rattle.script_compiler.specs.Longest.{need_at, need_to, longest};
+ghost use Rattle.plan_flow.specs.Rules.{continues, target_of};
 
 use plan_code::{Instr, Line};
+use plan_flow::ways::{continues, suspends, target_of};
 use std::alloc::{AllocError, Global};
 
 /// The number at a place; 0 past the end.
@@ -24,27 +26,41 @@ fn greater(a: u16, b: u16) -> u16
     if a < b { b } else { a }
 }
 
+/// The number at the place after an instruction; 0 where it does not continue there.
+fn at_next(numbers: &[u16], instr: &Instr, pc: usize) -> u16
+    requires bound { (to : ℕ) → slice_index numbers.now to ≤ 256 }
+    requires place { pc < 4096 }
+    ensures value { result ≡ if continues instr.now then slice_index numbers.now (pc + 1) else 0 }
+    ensures bound { result ≤ 256 }
+{
+    if !continues(*instr) {
+        return 0;
+    }
+    at(numbers, pc + 1)
+}
+
+/// The number at the place to which an instruction can jump; 0 where it does not jump.
+fn at_target(numbers: &[u16], instr: &Instr) -> u16
+    requires bound { (to : ℕ) → slice_index numbers.now to ≤ 256 }
+    ensures value { result ≡ need_to (λ to. slice_index numbers.now to) (target_of instr.now) }
+    ensures bound { result ≤ 256 }
+{
+    match target_of(*instr) {
+        Some(target) => at(numbers, usize::from(target)),
+        None => 0,
+    }
+}
+
 /// The longest path from one place, where those of one instruction less are known.
-fn need_of(instr: Instr, pc: usize, further: &[u16]) -> u16
+fn need_of(instr: &Instr, pc: usize, further: &[u16]) -> u16
     requires bound { (to : ℕ) → slice_index further.now to ≤ 256 }
     requires place { pc < 4096 }
-    ensures { result ≡ need_at (Some instr) pc (λ to. slice_index further.now to) }
+    ensures { result ≡ need_at (Some instr.now) pc (λ to. slice_index further.now to) }
 {
-    match instr {
-        Instr::Wait(_) => 1,
-        Instr::Until(_) => 1,
-        Instr::WaitContact { .. } => 1,
-        Instr::Join => 1,
-        Instr::End => 1,
-        Instr::Jump(target) => 1 + at(further, usize::from(target)),
-        Instr::Test { target, .. } => {
-            1 + greater(at(further, pc + 1), at(further, usize::from(target)))
-        }
-        Instr::Loop { target, .. } => {
-            1 + greater(at(further, pc + 1), at(further, usize::from(target)))
-        }
-        _ => 1 + at(further, pc + 1),
+    if suspends(*instr) {
+        return 1;
     }
+    1 + greater(at_next(further, instr, pc), at_target(further, instr))
 }
 
 /// The longest paths by one instruction more.
@@ -56,7 +72,7 @@ fn round(alloc: Global, lines: &[Line], further: &[u16]) -> Result<Vec<u16>, All
 {
     let mut next = Vec::new(alloc);
     for (pc, line) in lines.iter().enumerate() {
-        next.push(need_of(line.instr, pc, further))?;
+        next.push(need_of(&line.instr, pc, further))?;
     }
     Ok(next)
 }

@@ -4,16 +4,15 @@ ghost use Rattle.std.specs.Prelude.{◌≡◌, ◌≢◌, ◌≤◌, ◌↔◌, 
 ghost use Rattle.mux_config.specs.Configuration.{nothing};
 ghost use Rattle.mux_config.specs.Edits.{changed, edit_fault};
 ghost use Rattle.mux_config.specs.Sound.{IsSound};
-ghost use Rattle.plan_verifier.specs.Typing.{pages_alone};
+ghost use Rattle.plan_flow.specs.Rules.{pages_alone};
 ghost use Rattle.script_scheme.specs.Compiled.{with_items, AreFine};
 ghost use Rattle.script_compiler.specs.declared.fault.CompileFault.TheVariants.{Limit};
 
 use crate::fault::CompileFault;
-use crate::judge::pages_alone;
-use crate::work::refused;
-use mux_config::{Config, Store, soundness};
+use crate::refusal::refused;
+use mux_config::{Config, Store};
 use plan_code::Plan;
-use plan_verifier::Cause;
+use plan_flow::{Cause, test_opening};
 use script_front::Item;
 
 /// One item: refused is `Edit` at its line.
@@ -43,19 +42,14 @@ pub(crate) fn built(items: &[Item]) -> Result<Config, CompileFault>
     Ok(config)
 }
 
-/// Whether a script can begin so: refused are `Config` and `Round`.
+/// Whether a script can begin so: refused are `Config` and `Round`, at this line.
 pub(crate) fn test(plan: &Plan, config: &Config, line: u16) -> Result<(), CompileFault>
-    ensures sound { IsOk result → IsSound config.now }
-    ensures within { IsOk result → pages_alone plan.now config.now ≤ plan.now.period }
-    ensures refused { IsSound config.now → pages_alone plan.now config.now ≤ plan.now.period
-        → IsOk result }
+    ensures fine { IsOk result ↔ (IsSound config.now × (pages_alone plan.now config.now
+        ≤ plan.now.period)) }
     ensures unlimited { IfErr result (λ e. e ≢ Limit) }
 {
-    if let Err(fault) = soundness(config) {
-        return Err(refused(line, Cause::Config(fault)));
+    match test_opening(plan, config) {
+        Ok(()) => Ok(()),
+        Err(cause) => Err(refused(line, cause)),
     }
-    if usize::from(plan.period) < pages_alone(plan, config) {
-        return Err(refused(line, Cause::Round));
-    }
-    Ok(())
 }

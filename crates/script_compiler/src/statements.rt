@@ -11,9 +11,10 @@ ghost use Rattle.script_compiler.specs.declared.fault.CompileFault.TheVariants.{
 
 use crate::falls::all_fall;
 use crate::fault::CompileFault;
-use crate::work::{Work, refused};
+use crate::refusal::refused;
+use crate::work::Work;
 use plan_code::{ContactId, CounterId, Instr, Plan, Times};
-use plan_verifier::Cause;
+use plan_flow::Cause;
 use script_front::Statement;
 
 /// The line of a statement's first token.

@@ -10,7 +10,9 @@ ghost use Rattle.script_compiler.specs.declared.fault.CompileFault.TheVariants.{
 use crate::fault::CompileFault;
 use crate::fingerprint::print_of;
 use mux_config::{Config, Store};
+use mux_tables::Tables;
 use plan_code::limits::MOST_CONFIGURATIONS;
+use plan_flow::flow::is_same;
 use std::alloc::Global;
 use std::marker::Model;
 
@@ -63,13 +65,13 @@ impl ConfigTable {
     }
 
     /// Where a configuration stands, if that is one of the places that were found last.
-    fn recall(&self, config: &Config) -> Option<usize>
+    fn recall(&self, config: &Tables) -> Option<usize>
         ensures within { IfSome result (λ i. i < length self.now.items) }
         ensures some { IfSome result (λ i. slice_get self.now.items i ≡ Some config.now) }
     {
         for place in self.recent {
             if place < self.configs.len() {
-                if self.configs[place].same(config) {
+                if is_same(&self.configs[place], config) {
                     return Some(place);
                 }
             }
@@ -78,7 +80,7 @@ impl ConfigTable {
     }
 
     /// Where a configuration stands; None where it does not.
-    fn find(&self, config: &Config) -> Option<usize>
+    fn find(&self, config: &Tables) -> Option<usize>
         ensures within { IfSome result (λ i. i < length self.now.items) }
         ensures some { IfSome result (λ i. slice_get self.now.items i ≡ Some config.now) }
         ensures none { result ≡ None → (i : ℕ) → slice_get self.now.items i ≢ Some config.now }
@@ -99,7 +101,7 @@ impl ConfigTable {
     }
 
     /// One configuration more.
-    fn add(&mut self, config: &Config) -> Result<(), CompileFault>
+    fn add(&mut self, config: &Tables) -> Result<(), CompileFault>
         ensures added { OnOk result (self.new.items ≡ self.old.items ++ config.now ∷ []) }
         ensures unchanged { IfErr result (λ _. self.new.items ≡ self.old.items) }
         ensures memory { IfErr result (λ e. e ≡ Memory) }
@@ -108,7 +110,7 @@ impl ConfigTable {
         if self.prints.push(print_of(config)).is_err() {
             return Err(CompileFault::Memory);
         }
-        if self.configs.push(Config::from_config(config)).is_err() {
+        if self.configs.push(config.to_config()).is_err() {
             self.prints.pop();
             return Err(CompileFault::Memory);
         }
@@ -118,7 +120,7 @@ impl ConfigTable {
 }
 
 /// Where a configuration stands among others, by their fingerprints; None where it does not.
-fn find(prints: &[u64], table: &[Config], print: u64, config: &Config) -> Option<usize>
+fn find(prints: &[u64], table: &[Config], print: u64, config: &Tables) -> Option<usize>
     requires prints { prints.now ≡ map print_of table.now }
     requires print { print ≡ print_of config.now }
     ensures within { IfSome result (λ i. i < length table.now) }
@@ -127,7 +129,7 @@ fn find(prints: &[u64], table: &[Config], print: u64, config: &Config) -> Option
 {
     for (index, other) in prints.iter().enumerate() {
         if *other == print {
-            if table[index].same(config) {
+            if is_same(&table[index], config) {
                 return Some(index);
             }
         }
@@ -140,7 +142,7 @@ fn find(prints: &[u64], table: &[Config], print: u64, config: &Config) -> Option
 /// # Errors
 ///
 /// `Limit` where the table is full, `Memory`.
-pub(crate) fn index_of(table: &mut ConfigTable, config: &Config) -> Result<u16, CompileFault>
+pub(crate) fn index_of(table: &mut ConfigTable, config: &Tables) -> Result<u16, CompileFault>
     requires { length table.old.items ≤ 256 }
     ensures room { OnOk result (length table.new.items ≤ 256) }
     ensures added { OnOk result (Added config.now table.old.items table.new.items) }
@@ -165,7 +167,7 @@ pub(crate) fn index_of(table: &mut ConfigTable, config: &Config) -> Result<u16, 
 }
 
 /// Whether the table has room for a configuration, or has it.
-fn has_room_for(table: &ConfigTable, config: &Config) -> bool
+fn has_room_for(table: &ConfigTable, config: &Tables) -> bool
     ensures limited { result ≡ false → HasRoomFor table.now.items (config.now ∷ []) → ⊥ }
 {
     if table.len() < usize::from(MOST_CONFIGURATIONS) {
@@ -175,14 +177,14 @@ fn has_room_for(table: &ConfigTable, config: &Config) -> bool
 }
 
 /// Whether the table has room for those of these two that it does not have.
-pub(crate) fn has_room_for_both(table: &ConfigTable, first: &Config, second: &Config) -> bool
+pub(crate) fn has_room_for_both(table: &ConfigTable, first: &Tables, second: &Tables) -> bool
     ensures limited { result ≡ false → HasRoomFor table.now.items (first.now ∷ second.now ∷ [])
         → ⊥ }
 {
     if table.len() <= usize::from(MOST_CONFIGURATIONS - 2) {
         return true;
     }
-    if second.same(first) {
+    if is_same(second, first) {
         return has_room_for(table, first);
     }
     if table.find(second).is_some() {

@@ -3,10 +3,11 @@
 ghost use Rattle.std.specs.Prelude.{◌≡◌, ◌≢◌, ℕ, ◌+◌, ◌<◌, ◌≤◌, true, false, if◌then◌else◌, [], ◌∷◌, ◌++◌, length, slice_set, List, Option, Some, is_some, OnOk, IfOk, IfErr};
 ghost use Rattle.plan_code.specs.declared.instr.Instr.{Instr};
 ghost use Rattle.plan_code.specs.declared.instr.Instr.TheVariants.{End};
+ghost use Rattle.plan_flow.specs.Flows.{known_at, moved};
+ghost use Rattle.plan_flow.specs.Rules.{IsFine};
 ghost use Rattle.script_scheme.specs.declared.flow.Spot.{Spot};
-ghost use Rattle.script_scheme.specs.Scheme.{Place, past, at_label, known_at, moved, alone, onward, meet, join, marks_of, instr_of_act};
+ghost use Rattle.script_scheme.specs.Scheme.{Place, past, at_label, alone, onward, meet, join, marks_of, instr_of_act};
 ghost use Rattle.script_scheme.specs.Judged.{WaysAgree, BranchesAgree, ComesRound};
-ghost use Rattle.plan_verifier.specs.Typing.{IsFine};
 ghost use Rattle.script_scheme.specs.Compiled.{lines_of_places};
 ghost use Rattle.script_compiler.specs.Refusals.{IsRefusal};
 ghost use Rattle.script_compiler.specs.Space.{HasSpace, HasTable, IsCovered, Covers};
@@ -16,11 +17,11 @@ ghost use Rattle.script_compiler.specs.Laying.{Lays, Forks, ClosesIf, Turns, Goe
 use crate::fault::CompileFault;
 use crate::judge::{instr_of, judge};
 use crate::marks::Marks;
-use crate::merge::{fits, meet};
+use crate::refusal::refused;
 use crate::short::ShortMark;
 use plan_code::limits::{MOST_INSTRUCTIONS, MOST_LABELS};
 use plan_code::{ContactId, Instr, Line, Plan};
-use plan_verifier::Cause;
+use plan_flow::Cause;
 use script_front::Act;
 use script_scheme::Spot;
 
@@ -33,13 +34,6 @@ pub(crate) struct Work {
     pub(crate) now: Spot,
     /// What is known where branches and loops come back to.
     pub(crate) saved: Vec<Spot>,
-}
-
-/// A refusal at a line.
-pub(crate) fn refused(line: u16, cause: Cause) -> CompileFault
-    ensures { result ≢ Limit }
-{
-    CompileFault::Refused { line, cause }
 }
 
 impl Work {
@@ -312,7 +306,9 @@ impl Work {
         if !falls {
             return Ok(());
         }
-        if !fits(&self.now.flow, &entry.flow) {
+        let flow = &self.now.flow;
+        let head = &entry.flow;
+        if !flow.fits(&head.current, &head.next, head.pending) {
             return Err(refused(line, Cause::Mismatch));
         }
         self.put(line, counters, back)
@@ -338,7 +334,7 @@ impl Work {
             self.now.labelled = false;
             return self.mark();
         }
-        if !meet(&mut self.now.flow, &other.flow) {
+        if !self.now.flow.meet(&other.flow) {
             return Err(refused(line, Cause::Mismatch));
         }
         self.mark()

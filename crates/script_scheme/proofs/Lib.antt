@@ -1,1 +1,2 @@
+pub mod OneCode
 mod Vectors

@@ -15,16 +15,17 @@ use Rattle.plan_code.specs.declared.instr.Instr.{Instr}
 use Rattle.plan_code.specs.declared.instr.Instr.TheVariants.{Wait, Settle, End, Test, Jump, Set, Loop}
 use Rattle.plan_code.specs.Program.{Program}
 use Rattle.plan_code.specs.declared.limits.TheConstants.{MOST_CONFIGURATIONS}
+use Rattle.plan_flow.specs.Flows.{Flow, widest, FitsFlow}
+use Rattle.plan_flow.specs.Rules.{suspends}
 use Rattle.script_front.specs.declared.tree.Act.TheVariants.{Wait as Waits, Join as Joins}
 use Rattle.script_front.specs.declared.tree.Item.{Item}
 use Rattle.script_front.specs.Block.{Block, nothing, basic, stop, either, repeat, forever}
 use Rattle.script_front.specs.Tree.{Tree}
-use Rattle.script_scheme.specs.declared.flow.Flow.{Flow}
 use Rattle.script_scheme.specs.declared.flow.Mark.{Mark}
 use Rattle.script_scheme.specs.declared.flow.Spot.{Spot}
-use Rattle.script_scheme.specs.Scheme.{at_label, past, widest, falls_out, spot_after, all_places, marks_of}
-use Rattle.script_scheme.specs.Judged.{FitsFlow, WaysAgree, BranchesAgree, ComesRound, IsDone, Reached, IsJudged}
-use Rattle.script_scheme.specs.Need.{suspends, GoesTo, HasPath, IsWithinBudget, IsNeed}
+use Rattle.script_scheme.specs.Scheme.{at_label, past, falls_out, spot_after, all_places, marks_of}
+use Rattle.script_scheme.specs.Judged.{WaysAgree, BranchesAgree, ComesRound, IsDone, Reached, IsJudged}
+use Rattle.script_scheme.specs.Need.{GoesTo, HasPath, IsWithinBudget, IsNeed}
 use Rattle.script_scheme.specs.Compiled.{AreFine, StandsIn, Added, Tabled, IsLabelOf, AreLabelsOf, IsCodeOf, CostsItsNeeds, IsAccepted, beginning, lines_of_places, instrs_of, nested, places_of}
 
 -- ---- values shared by these vectors

@@ -12,7 +12,7 @@ use Rattle.plan_code.specs.declared.instr.Instr.{Instr}
 use Rattle.plan_code.specs.declared.instr.Line.{Line}
 use Rattle.plan_code.specs.Flags.{with_counter}
 use Rattle.plan_code.specs.Program.{Program}
-use Rattle.plan_verifier.specs.Typing.{pages_alone}
+use Rattle.plan_flow.specs.Rules.{pages_alone}
 use Rattle.script_front.specs.declared.tree.Item.{Item}
 use Rattle.script_front.specs.Block.{Block, nothing, basic, stop, when, either, repeat, forever, apply, table_of, block_of}
 use Rattle.script_front.specs.Tree.{Tree}
@@ -106,6 +106,10 @@ pub record IsCodeOf (s : Tree) (code : Program) : Type 0 where
 -- each label costs what the code needs from there
 abbrev pub CostsItsNeeds : Program → Type 0
 CostsItsNeeds code = (l : Label) → Contains code.labels l → IsNeed (instrs_of code.lines) l.pc l.cost
+
+-- the law of codes: a script has one code at most whose labels cost their needs
+abbrev pub ScriptsHaveOneCode : Type 0
+ScriptsHaveOneCode = (s : Tree) (a b : Program) → IsCodeOf s a → IsCodeOf s b → CostsItsNeeds a → CostsItsNeeds b → a ≡ b
 
 -- ---- scripts that can be compiled
 

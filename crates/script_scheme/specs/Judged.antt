@@ -1,15 +1,11 @@
 -- The judgement of a block of statements: from what is known before it, it leads to what is known after it.
 use Rattle.std.specs.Prelude.{Option, Some, None}
 use Rattle.plan_code.specs.declared.plan.Plan.{Plan}
-use Rattle.plan_verifier.specs.Typing.{IsFine, FitsSwap}
+use Rattle.plan_flow.specs.Rules.{IsFine}
+use Rattle.plan_flow.specs.Flows.{known_at, moved, merged, FitsFlow}
 use Rattle.script_front.specs.Block.{Block, nothing, basic, stop, when, either, repeat, forever, apply}
-use Rattle.script_scheme.specs.declared.flow.Flow.{Flow}
 use Rattle.script_scheme.specs.declared.flow.Spot.{Spot}
-use Rattle.script_scheme.specs.Scheme.{known_at, moved, at_label, past, merged, meet, join, head, instr_of_act, spot_after}
-
--- a state fits another: it knows as much or more
-abbrev pub FitsFlow : Flow → Flow → Type 0
-FitsFlow s t = FitsSwap s.pending t.pending (known_at s) (known_at t)
+use Rattle.script_scheme.specs.Scheme.{at_label, past, meet, join, head, instr_of_act, spot_after}
 
 -- ways that meet fit what is known at the label there; where one way comes alone, it is what is known
 abbrev pub WaysAgree : Option Spot → Option Spot → Type 0

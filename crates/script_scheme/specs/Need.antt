@@ -1,17 +1,7 @@
 -- The need of an instruction in a code: the greatest number of instructions that can run from there in one frame.
-use Rattle.std.specs.Prelude.{◌≡◌, ℕ, zero, suc, ◌+◌, ◌≤◌, ◌⊎◌, Bool, true, false, List, slice_get, Some, IsSome}
+use Rattle.std.specs.Prelude.{◌≡◌, ℕ, zero, suc, ◌+◌, ◌≤◌, ◌⊎◌, true, false, List, slice_get, Some, IsSome}
 use Rattle.plan_code.specs.declared.instr.Instr.{Instr}
-use Rattle.plan_code.specs.declared.instr.Instr.TheVariants.{Wait, Until, WaitContact, Join, End}
-use Rattle.plan_verifier.specs.Typing.{continues, target_of}
-
--- whatever comes, the next instruction runs in a later frame, if any does
-abbrev pub suspends : Instr → Bool
-suspends (Wait frames) = true
-suspends (Until day) = true
-suspends (WaitContact contact closed) = true
-suspends Join = true
-suspends End = true
-suspends _ = false
+use Rattle.plan_flow.specs.Rules.{continues, target_of, suspends}
 
 -- the machine can go from an instruction to this place in the same frame
 abbrev pub GoesTo : Instr → ℕ → ℕ → Type 0

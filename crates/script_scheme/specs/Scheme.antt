@@ -1,31 +1,17 @@
 -- The code of a block of statements: its instructions, with what is known at each and where labels stand.
-use Rattle.std.specs.Prelude.{ℕ, ◌+◌, Bool, true, false, if◌then◌else◌, ◌&&◌, ◌||◌, min, max, List, [], ◌∷◌, ◌++◌, length, Option, Some, None}
+use Rattle.std.specs.Prelude.{ℕ, ◌+◌, Bool, true, false, if◌then◌else◌, ◌&&◌, ◌||◌, List, [], ◌∷◌, ◌++◌, length, Option, Some, None}
 use Rattle.plan_code.specs.declared.plan.Plan.{Plan}
-use Rattle.plan_code.specs.declared.label.Swap.{Swap}
-use Rattle.plan_code.specs.declared.label.Swap.TheVariants.{Idle, Within, Perhaps}
 use Rattle.plan_code.specs.declared.instr.Instr.{Instr}
 use Rattle.plan_code.specs.declared.instr.Instr.TheVariants.{Wait, Until, WaitContact, CommitIn, CommitAt, Join, Settle, End, Edit, Test, Jump, Set, Loop}
-use Rattle.plan_verifier.specs.Typing.{Known, leaves}
+use Rattle.plan_flow.specs.Flows.{Flow, moved, merged}
 use Rattle.script_front.specs.declared.tree.Act.{Act}
 use Rattle.script_front.specs.declared.tree.Act.TheVariants.{Edit as Edits, Wait as Waits, WaitContact as WaitsContact, Until as WaitsUntil, CommitIn as CommitsIn, CommitAt as CommitsAt, Join as Joins, Settle as Settles}
 use Rattle.script_front.specs.Block.{Block, nothing, basic, stop, when, either, repeat, forever, apply}
 use Rattle.script_front.specs.Times.{frame_at}
-use Rattle.script_scheme.specs.declared.flow.Flow.{Flow}
 use Rattle.script_scheme.specs.declared.flow.Mark.{Mark}
 use Rattle.script_scheme.specs.declared.flow.Spot.{Spot}
 
 -- ---- what is known
-
--- what a statement needs and leaves depends on the configurations and the swap alone
-abbrev pub known_at : Flow → Known
-known_at t = record { current = t.current; next = t.next; pending = t.pending; counters = record { 0 = 0 }; allowance = 0 }
-
-abbrev pub flow_of : Known → Flow
-flow_of t = record { current = t.current; next = t.next; pending = t.pending }
-
--- after an instruction
-abbrev pub moved : Plan → Instr → Flow → Flow
-moved plan i t = flow_of (leaves plan i (known_at t))
 
 abbrev pub at_label : Flow → Spot
 at_label t = record { flow = t; labelled = true }
@@ -35,26 +21,6 @@ abbrev pub past : Flow → Spot
 past t = record { flow = t; labelled = false }
 
 -- ---- ways that meet at a label
-
--- the most frames until a swap that is pending or may be; 0 where none is
-abbrev pub latest : Swap → ℕ
-latest Idle = 0
-latest (Within lo hi) = hi
-latest (Perhaps hi) = hi
-
--- of two swaps that are pending, the widest bounds; of two of which only one surely is, or none surely, the latest
-abbrev pub widest : Swap → Swap → Swap
-widest Idle Idle = Idle
-widest (Within lo hi) (Within least most) = Within (min lo least) (max hi most)
-widest s t = Perhaps (max (latest s) (latest t))
-
--- where a swap is pending, or may be, that way says which configurations are known
-abbrev pub telling : Swap → Flow → Flow → Flow
-telling Idle s t = t
-telling _ s t = s
-
-abbrev pub merged : Flow → Flow → Flow
-merged s t = record (telling s.pending s t) { pending = widest s.pending t.pending }
 
 -- a way that doesn't come there is None
 abbrev pub meet : Option Spot → Option Spot → Option Spot

@@ -1,61 +1,59 @@
 //! What is known where the code of a script has come to.
 
-ghost use Rattle.std.specs.Prelude.{◌≡◌};
+ghost use Rattle.std.specs.Prelude.{◌≡◌, true};
+ghost use Rattle.plan_code.specs.declared.label.Swap.TheVariants.{Idle};
 
 use mux_config::{Config, Store};
+use mux_tables::Tables;
 use plan_code::Swap;
-
-/// What is known of the configurations and of the swap from the current one to the next.
-#[derive(Drop)]
-pub struct Flow {
-    /// The current configuration.
-    pub current: Config,
-    /// The next configuration.
-    pub next: Config,
-    /// Whether a swap is pending, and when it comes.
-    pub pending: Swap,
-}
-
-impl Flow {
-    /// What is known at the beginning: this configuration, and no swap is pending.
-    pub fn opening(config: &Config) -> Flow
-        ensures { result ≡ record { current = config.now; next = config.now; pending = Swap.Idle } }
-    {
-        Flow {
-            current: Config::from_config(config),
-            next: Config::from_config(config),
-            pending: Swap::Idle,
-        }
-    }
-
-    /// The same.
-    pub fn copied(&self) -> Flow
-        ensures { result ≡ self.now }
-    {
-        Flow {
-            current: Config::from_config(&self.current),
-            next: Config::from_config(&self.next),
-            pending: self.pending,
-        }
-    }
-}
+use plan_flow::Flow;
 
 /// What is known where the code has come to, and whether a label stands there.
 #[derive(Drop)]
 pub struct Spot {
-    /// What is known.
-    pub flow: Flow,
+    /// What is known of the configurations and of the swap from the current one to the next.
+    pub flow: Flow<Tables>,
     /// Whether a label stands there.
     pub labelled: bool,
 }
 
+/// The same configuration.
+fn copied(tables: &Tables) -> Tables
+    ensures { result ≡ tables.now }
+{
+    let mut copy = Tables::empty();
+    copy.copy_from(tables);
+    copy
+}
+
 impl Spot {
+    /// What is known at the beginning: this configuration, and no swap is pending. A label stands there.
+    pub fn opening(config: &Config) -> Spot
+        ensures { result ≡ record {
+          flow = record { current = config.now; next = config.now; pending = Idle };
+          labelled = true;
+        } }
+    {
+        Spot {
+            flow: Flow {
+                current: Tables::from_config(config),
+                next: Tables::from_config(config),
+                pending: Swap::Idle,
+            },
+            labelled: true,
+        }
+    }
+
     /// The same.
     pub fn copied(&self) -> Spot
         ensures { result ≡ self.now }
     {
         Spot {
-            flow: self.flow.copied(),
+            flow: Flow {
+                current: copied(&self.flow.current),
+                next: copied(&self.flow.next),
+                pending: self.flow.pending,
+            },
             labelled: self.labelled,
         }
     }
@@ -67,7 +65,7 @@ pub struct Mark {
     /// The place of the instruction in the code, from 0.
     pub pc: u16,
     /// What is known there.
-    pub flow: Flow,
+    pub flow: Flow<Tables>,
     /// How many repeats stand around it: this many counters are set, the first ones.
     pub repeats: u8,
 }

@@ -61,7 +61,7 @@ promise-requires c =
     let same = sym c.in-Some.ensures.value in
     let formed = c.in-Some.ensures.within.0 refl in
     let fine : AreFine s.items nothing = subst (λ (xs : List Item). AreFine xs nothing) c.items.ensures.value (c.in_ok-config.ensures.fine.0 refl) in
-    let accepted : IsAccepted s = parts_accepted s plan config lines marks needs configs labels parts formed fine (c.in_ok-test.ensures.sound refl) (c.in_ok-test.ensures.within refl) (c.in_ok-work.ensures.judged refl) (c.in_ok-work.ensures.repeats refl) in
+    let accepted : IsAccepted s = parts_accepted s plan config lines marks needs configs labels parts formed fine (c.in_ok-test.ensures.fine.0 refl).0 (c.in_ok-test.ensures.fine.0 refl).1 (c.in_ok-work.ensures.judged refl) (c.in_ok-work.ensures.repeats refl) in
     record {
       formed = subst IsProgram same formed;
       code = subst (λ (p : Program). IsCodeOf s p) same (parts_code s plan config lines marks needs configs labels parts);

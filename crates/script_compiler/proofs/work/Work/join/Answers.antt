@@ -1,6 +1,6 @@
 use Rattle.std.proofs.Common.{◌≡◌, Some, refl, sym, ap, subst}
-use Rattle.script_scheme.specs.declared.flow.Flow.{Flow}
-use Rattle.script_scheme.specs.Scheme.{at_label, meet, merged}
+use Rattle.plan_flow.specs.Flows.{Flow, merged}
+use Rattle.script_scheme.specs.Scheme.{at_label, meet}
 use Rattle.script_compiler.specs.Laying.{way}
 use Rattle.script_compiler.specs.Space.{IsCovered}
 use Rattle.script_compiler.proofs.Spaces.{err_each, space_as}

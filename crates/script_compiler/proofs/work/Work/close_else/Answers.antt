@@ -1,0 +1,23 @@
+use Rattle.std.proofs.Common.{◌≡◌, ◌++◌, Some, None, if◌then◌else◌, length, sym, ap, ◌∙◌}
+use Rattle.std.proofs.lemmas.List.{length-set}
+use Rattle.script_scheme.specs.declared.flow.Spot.{Spot}
+use Rattle.script_scheme.specs.Scheme.{meet, join}
+use Rattle.script_compiler.specs.Laying.{way, spots_of}
+use Rattle.script_compiler.proofs.Putting.{snoc_last}
+use Rattle.script_compiler.proofs.Spaces.{space_as, some_of, met_labelled}
+use Rattle.script_compiler.proofs.work.Work.close_else.Goals as goal
+
+pub returns-in-Err-clause-limited : goal.returns-in-Err-clause-limited
+returns-in-Err-clause-limited c = λ is front a first saved ps cover space.
+    let w = c.args.self.now in
+    let v = c.restore-exit.new.self in
+    let u = c.aim.new.self in
+    let some = some_of a (sym c.if-not-first.false ∙ first) in
+    let kept = saved ∙ ap (λ x. front ++ spots_of x) some.1 in
+    let same : c.restore-exit.result ≡ some.0 = snoc_last v.saved.items front c.restore-exit.result some.0 (c.restore-exit.ensures.saved ∙ kept) in
+    let lines = ap length c.aim.ensures.lines ∙ length-set v.lines.items c.args.jump _ ∙ ap (λ x. length x.items) c.restore-exit.ensures.lines in
+    let marks = ap (λ x. x.items) (c.aim.ensures.marks ∙ c.restore-exit.ensures.marks) in
+    let now : u.now ≡ w.now = c.aim.ensures.now ∙ c.restore-exit.ensures.now in
+    let met : meet (way c.args.second u) (Some c.restore-exit.result) ≡ join a (way c.args.second w) =
+    ap (λ (s : Spot). meet (if c.args.second then Some s else None) (Some c.restore-exit.result)) now ∙ ap (λ (s : Spot). meet (way c.args.second w) (Some s)) same ∙ ap (λ x. join x (way c.args.second w)) (sym some.1) in
+    c.in-Err.ensures.limited is ps (λ x e. cover x (sym met ∙ e) (met_labelled (way c.args.second u) c.restore-exit.result x e)) (space_as w u ps lines marks space)

@@ -1,0 +1,14 @@
+//! Refusals at a line.
+
+ghost use Rattle.std.specs.Prelude.{◌≡◌};
+ghost use Rattle.script_compiler.specs.declared.fault.CompileFault.TheVariants.{Refused};
+
+use crate::fault::CompileFault;
+use plan_flow::Cause;
+
+/// A refusal at this line.
+pub(crate) fn refused(line: u16, cause: Cause) -> CompileFault
+    ensures { result ≡ Refused line cause }
+{
+    CompileFault::Refused { line, cause }
+}
