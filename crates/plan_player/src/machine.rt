@@ -115,6 +115,13 @@ impl<S: Store> Machine<S> {
         self.pc
     }
 
+    /// What has to come before that instruction is carried out.
+    pub(crate) fn hold(&self) -> Hold
+        ensures { result ≡ self.now.hold }
+    {
+        self.hold
+    }
+
     /// The CIF count of the next frame, 0 to 4999 (EN 300 401 clause 5.1).
     pub(crate) fn count(&self) -> u16
         ensures { result ≡ self.now.count }

@@ -4,7 +4,7 @@ ghost use Rattle.std.specs.Prelude.{◌≡◌, ◌<◌, ◌≤◌, List, [], ◌
 ghost use Rattle.std.specs.Result.{result_err};
 ghost use Rattle.std.specs.Io.KnownBytes.{Appends};
 ghost use Rattle.mux_config.specs.Sound.{IsSound};
-ghost use Rattle.plan_code.specs.Program.{line_at};
+ghost use Rattle.plan_code.specs.Program.{IsPlan, line_at};
 ghost use Rattle.plan_runs.specs.declared.event.Event.{Event};
 ghost use Rattle.plan_runs.specs.declared.event.Event.TheVariants.{Contact, Frame};
 ghost use Rattle.plan_runs.specs.Frames.{frame_bytes, frame_steps, after_frame};
@@ -26,7 +26,7 @@ use crate::sink::{Sink, put_all};
 use fib_codec::FibFrame;
 use mux_config::Store;
 use plan_code::limits::{COUNTS, FRAMES_A_DAY};
-use plan_code::{Code, ContactId, Plan};
+use plan_code::{Code, ContactId, Hold, Plan};
 use plan_runs::{Start, laws};
 use plan_verifier::Verified;
 use std::marker::Model;
@@ -162,13 +162,6 @@ impl<'a, S: Store> Player<'a, S> {
         put_all(sink, self.pages.frame().bytes())
     }
 
-    /// The plan of the code.
-    pub(crate) fn plan(&self) -> Plan
-        ensures value { result ≡ self.now.code.plan }
-    {
-        self.code.code().plan()
-    }
-
     /// How many frames from the next one on are quiet, of at most this many.
     pub(crate) fn quiet_frames(&self, most: u32) -> u32
         ensures quiet { AreQuiet self.now.code result self.now.state }
@@ -243,6 +236,21 @@ impl<'a, S: Store> Player<'a, S> {
         ensures value { result ≡ self.now.state.pc }
     {
         self.machine.pc()
+    }
+
+    /// What has to come before that instruction is carried out.
+    pub fn hold(&self) -> Hold
+        ensures value { result ≡ self.now.state.hold }
+    {
+        self.machine.hold()
+    }
+
+    /// The plan that is played.
+    pub fn plan(&self) -> Plan
+        ensures value { result ≡ self.now.code.plan }
+        ensures formed { IsPlan result }
+    {
+        self.code.code().plan()
     }
 
     /// The number of the line that the instruction at this place comes from.
