@@ -19,6 +19,7 @@ What goes in and comes out:
           FIBs of each frame to a file.
   debug   plays a plan by a file of commands, up to a line or to the next instruction, and says
           after each where the plan stands and which swaps were announced.
+  map     reads a script, and prints or draws which capacity units each sub-channel has.
 'dabplan help COMMAND' tells more: each field, each line, an example.
 
 Example: sub-channel 1 of 128 kbit/s at 3-A, and service C221 with audio of type 63 on it

@@ -2,8 +2,10 @@
 #![tactic(auto)]
 
 mod help;
+pub mod map_words;
 pub mod words;
 
+pub use map_words::MapRequest;
 pub use words::{
     CheckRequest, CompileRequest, DebugRequest, FrameRequest, PlayRequest, Request, StartOptions,
     UsageError, request_of,

@@ -4,6 +4,7 @@ ghost use Rattle.std.specs.Prelude.{◌≡◌};
 ghost use Rattle.command_line.specs.Numbers.{mode_of_number};
 
 use crate::help;
+use crate::map_words::{MapRequest, map, map_request};
 use clap::error::ErrorKind;
 use clap::{Arg, ArgMatches, Command, value_parser};
 use console::hexadecimal::word_of;
@@ -33,6 +34,8 @@ pub enum Request<'a> {
     Play(PlayRequest<'a>),
     /// `debug`.
     Debug(DebugRequest<'a>),
+    /// `map`.
+    Map(MapRequest<'a>),
 }
 
 /// The file and options of `check`.
@@ -153,6 +156,7 @@ pub fn request_of<'a, S: AsStr>(
         Some(("verify", options)) => verify_request(options),
         Some(("play", options)) => play_request(options),
         Some(("debug", options)) => debug_request(options),
+        Some(("map", options)) => map_request(options),
         _ => Err(UsageError::Nothing),
     }
 }
@@ -170,7 +174,8 @@ fn program<'a>(alloc: Global) -> Result<Command<'a>, AllocError> {
         .subcommand(compile(alloc)?)?
         .subcommand(verify(alloc)?)?
         .subcommand(play(alloc)?)?
-        .subcommand(debug(alloc)?)
+        .subcommand(debug(alloc)?)?
+        .subcommand(map(alloc)?)
 }
 
 fn frame<'a>(alloc: Global) -> Result<Command<'a>, AllocError> {
@@ -188,7 +193,7 @@ fn frame<'a>(alloc: Global) -> Result<Command<'a>, AllocError> {
 }
 
 /// An argument without an option, which is wanted.
-fn file<'a>(
+pub(crate) fn file<'a>(
     alloc: Global,
     name: &'static str,
     value_name: &'static str,

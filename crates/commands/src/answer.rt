@@ -2,7 +2,7 @@
 
 ghost use Rattle.std.specs.Prelude.{◌≡◌, ◌≤◌, IsErr};
 
-use crate::{compile, debug, play, verify};
+use crate::{compile, debug, map, play, verify};
 use command_line::{Request, UsageError, request_of};
 use console::exit::{Failure, Status};
 use console::files::Files;
@@ -75,6 +75,7 @@ fn dispatch<S: AsStr, F: Files, W: Write>(
         Ok(Request::Verify(path)) => report(verify::show_verdict(alloc, path, files, out), out),
         Ok(Request::Play(request)) => report(play::show_play(alloc, &request, files, out), out),
         Ok(Request::Debug(request)) => report(debug::show_debug(alloc, &request, files, out), out),
+        Ok(Request::Map(request)) => report(map::show_map(alloc, &request, files, out), out),
         Err(unasked) => explain(alloc, unasked, out),
     }
 }
@@ -102,7 +103,7 @@ fn explain<W: Write>(alloc: Global, unasked: UsageError<'_>, out: &mut W) -> io:
             "error: invalid value '{value}' for '{option}': four digits 0-9 A-F are wanted"
         ),
         UsageError::Nothing =>
-            "error: a command is wanted: frame, listen, check, compile, verify, play, debug or help".to_string(
+            "error: a command is wanted: frame, listen, check, compile, verify, play, debug, map or help".to_string(
                 alloc,
             ),
         UsageError::NoText => "error: a word of the command line is not UTF-8".to_string(alloc),

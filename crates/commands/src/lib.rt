@@ -1,11 +1,12 @@
 //! The whole program over its words, its files and its output: `answer`, and the commands of plans, `compile`, `verify`,
-//! `play` and `debug`.
+//! `play`, `debug` and `map`.
 #![tactic(auto)]
 
 pub mod answer;
 pub mod code_input;
 pub mod compile;
 pub mod debug;
+pub mod map;
 pub mod play;
 pub mod script_input;
 pub mod verify;

@@ -1,0 +1,80 @@
+-- The rows of a map: the configuration that a code begins with, and what is committed at each commit.
+use Rattle.std.specs.Prelude.{ℕ, ◌+◌, Bool, true, false, if◌then◌else◌, List, [], ◌∷◌, ◌++◌, Option, Some, None, slice_get}
+use Rattle.mux_types.specs.Configuration.{Configuration, nothing}
+use Rattle.mux_config.specs.declared.fault.EditFault.{EditFault}
+use Rattle.mux_config.specs.Edits.{edit_fault, changed}
+use Rattle.plan_code.specs.declared.instr.Instr.{Instr}
+use Rattle.plan_code.specs.declared.instr.Instr.TheVariants.{Wait, Until, WaitContact, CommitIn, CommitAt, Join, Settle, End, Edit as Edits, Test, Jump, Set, Loop}
+use Rattle.plan_code.specs.declared.instr.Line.{Line}
+use Rattle.plan_code.specs.declared.label.Label.{Label}
+use Rattle.plan_code.specs.Program.{Program, label_at}
+use Rattle.plan_map.specs.declared.rows.Row.{Row}
+use Rattle.plan_map.specs.declared.rows.RowKind.TheVariants.{Begin, Commit}
+
+-- one, if it is there, or else another
+abbrev pub or_else : Option Configuration → Configuration → Configuration
+or_else None other = other
+or_else (Some c) other = c
+
+abbrev pub declared_by : Program → Option Label → Configuration → Configuration
+declared_by p None next = next
+declared_by p (Some l) next = or_else (slice_get p.configurations l.next) next
+
+-- the next configuration at a place, where the instruction before left this one: what a label there declares, if one
+-- stands there
+abbrev pub known_next : Program → ℕ → Configuration → Configuration
+known_next p pc next = declared_by p (label_at p pc) next
+
+-- the configuration that a code begins with
+abbrev pub opening_of : Program → Configuration
+opening_of p = known_next p 0 nothing
+
+-- what an instruction leaves of the next configuration: an edit changes it, but for one that has a fault
+abbrev pub unless_at_fault : Option EditFault → Configuration → Configuration → Configuration
+unless_at_fault None after before = after
+unless_at_fault (Some fault) after before = before
+
+abbrev pub left_by : Instr → Configuration → Configuration
+left_by (Edits e) c = unless_at_fault (edit_fault e c) (changed e c) c
+left_by (Wait n) c = c
+left_by (Until t) c = c
+left_by (WaitContact k b) c = c
+left_by (CommitIn d) c = c
+left_by (CommitAt n) c = c
+left_by Join c = c
+left_by Settle c = c
+left_by End c = c
+left_by (Test k t) c = c
+left_by (Jump t) c = c
+left_by (Set k n) c = c
+left_by (Loop k t) c = c
+
+abbrev pub commits : Instr → Bool
+commits (CommitIn d) = true
+commits (CommitAt n) = true
+commits (Wait n) = false
+commits (Until t) = false
+commits (WaitContact k b) = false
+commits Join = false
+commits Settle = false
+commits End = false
+commits (Edits e) = false
+commits (Test k t) = false
+commits (Jump t) = false
+commits (Set k n) = false
+commits (Loop k t) = false
+
+-- the row of an instruction that commits this configuration; none of another instruction
+abbrev pub row_at : Line → Configuration → List Row
+row_at l here = if commits l.instr then record { kind = Commit; line = l.number; config = here } ∷ [] else []
+
+-- the commits of instructions from a place on, each with what it commits
+abbrev pub commits_from : Program → ℕ → Configuration → List Line → List Row
+commits_from p pc next [] = []
+commits_from p pc next (l ∷ ls) =
+    let here = known_next p pc next in
+    row_at l here ++ commits_from p (pc + 1) (left_by l.instr here) ls
+
+abbrev pub rows_of : ℕ → Program → List Row
+rows_of begin p =
+    record { kind = Begin; line = begin; config = opening_of p } ∷ commits_from p 0 (opening_of p) p.lines

@@ -1,0 +1,202 @@
+//! A row of a drawing: its bar, with the sub-channels and the free units in it.
+
+use crate::cells::{end_of, free_units, units_of};
+use crate::drawing::{BAR, LEFT, UNIT};
+use crate::key::is_carried_by;
+use crate::rows::Row;
+use crate::text::kind_word;
+use mux_config::{Config, Sid, Sub, SubId};
+use mux_eep::{CAPACITY_UNITS, EepSet, Protection};
+use std::io::{self, Write};
+
+/// The narrowest sub-channel, in capacity units, in which a label has room from left to right.
+const WIDE: u16 = 36;
+
+/// Writes the colour of a sub-channel: its own, whatever the row is. Successive numbers lie far apart on the colour
+/// wheel, and those 21 apart, which lie close, are lighter or darker.
+pub(crate) fn draw_colour<W: Write>(id: SubId, out: &mut W) -> io::Result<()> {
+    let number = u32::from(id.get());
+    let hue = number * 137 % 360;
+    let light = match number / 21 {
+        0 => 76,
+        1 => 66,
+        2 => 87,
+        _ => 60,
+    };
+    write!(out, "hsl({hue},80%,{light}%)")
+}
+
+/// Writes a protection profile.
+fn draw_profile<W: Write>(protection: Protection, out: &mut W) -> io::Result<()> {
+    let level = protection.level();
+    match protection.set() {
+        EepSet::A => write!(out, "{level}-A"),
+        EepSet::B => write!(out, "{level}-B"),
+    }
+}
+
+/// Writes an SId in digits.
+pub(crate) fn draw_sid<W: Write>(sid: Sid, out: &mut W) -> io::Result<()> {
+    match sid {
+        Sid::Short(number) => write!(out, "{number:04X}"),
+        Sid::Long(number) => write!(out, "{number:08X}"),
+    }
+}
+
+/// Writes the services of a configuration that a sub-channel carries.
+fn draw_services<W: Write>(config: &Config, id: SubId, out: &mut W) -> io::Result<()> {
+    for service in config.services() {
+        if is_carried_by(config, service.components.as_slice(), id) {
+            out.write_all(b", service ")?;
+            draw_sid(service.sid, out)?;
+        }
+    }
+    Ok(())
+}
+
+/// Writes what a screen reader says of a sub-channel.
+fn draw_title<W: Write>(sub: &Sub, config: &Config, out: &mut W) -> io::Result<()> {
+    let id = sub.id.get();
+    let start = sub.start;
+    let last = end_of(sub).saturating_sub(1);
+    let kbits = sub.kbits;
+    write!(
+        out,
+        "<title>Sub-channel {id}: CU {start} to {last}, {kbits} kbit/s, "
+    )?;
+    draw_profile(sub.protection, out)?;
+    draw_services(config, sub.id, out)?;
+    out.write_all(b"</title>")
+}
+
+/// Writes the label of a sub-channel in three lines, around this middle.
+fn draw_wide_label<W: Write>(sub: &Sub, x: u32, y: u32, out: &mut W) -> io::Result<()> {
+    let id = sub.id.get();
+    let kbits = sub.kbits;
+    let first = y.saturating_add(36);
+    let second = y.saturating_add(56);
+    let third = y.saturating_add(74);
+    writeln!(
+        out,
+        "<text x=\"{x}\" y=\"{first}\" font-size=\"18\" font-weight=\"bold\" text-anchor=\"middle\">{id}</text>"
+    )?;
+    writeln!(
+        out,
+        "<text x=\"{x}\" y=\"{second}\" font-size=\"13\" text-anchor=\"middle\">{kbits} kbit/s</text>"
+    )?;
+    write!(
+        out,
+        "<text x=\"{x}\" y=\"{third}\" font-size=\"13\" text-anchor=\"middle\">"
+    )?;
+    draw_profile(sub.protection, out)?;
+    out.write_all(b"</text>\n")
+}
+
+/// Writes the label of a sub-channel in one line from below, in letters as high as the sub-channel has room for.
+fn draw_narrow_label<W: Write>(sub: &Sub, x: u32, y: u32, out: &mut W) -> io::Result<()> {
+    let id = sub.id.get();
+    let kbits = sub.kbits;
+    let size = (u32::from(units_of(sub)) * UNIT).min(12);
+    let left = x.saturating_add(size / 3);
+    let middle = y.saturating_add(BAR / 2);
+    write!(
+        out,
+        "<text transform=\"translate({left},{middle}) rotate(-90)\" font-size=\"{size}\" text-anchor=\"middle\"><tspan font-weight=\"bold\">{id}</tspan> {kbits} kbit/s "
+    )?;
+    draw_profile(sub.protection, out)?;
+    out.write_all(b"</text>\n")
+}
+
+/// Writes a sub-channel of a row that begins at `y` from above.
+fn draw_sub<W: Write>(sub: &Sub, config: &Config, y: u32, out: &mut W) -> io::Result<()> {
+    let x = LEFT + u32::from(sub.start) * UNIT;
+    let width = u32::from(units_of(sub)) * UNIT;
+    write!(
+        out,
+        "<g><rect x=\"{x}\" y=\"{y}\" width=\"{width}\" height=\"{BAR}\" stroke=\"black\" stroke-width=\"1\" fill=\""
+    )?;
+    draw_colour(sub.id, out)?;
+    out.write_all(b"\">")?;
+    draw_title(sub, config, out)?;
+    out.write_all(b"</rect>\n")?;
+    if units_of(sub) < WIDE {
+        draw_narrow_label(sub, x + width / 2, y, out)?;
+    } else {
+        draw_wide_label(sub, x + width / 2, y, out)?;
+    }
+    out.write_all(b"</g>\n")
+}
+
+/// The first capacity unit of a sub-channel that begins at this one or behind it; the end of the multiplex where none
+/// does.
+fn next_start(subs: &[Sub], from: u32) -> u32 {
+    let mut next = u32::from(CAPACITY_UNITS);
+    for sub in subs {
+        let start = u32::from(sub.start);
+        if from <= start && start < next {
+            next = start;
+        }
+    }
+    next
+}
+
+/// Whether a sub-channel has this capacity unit.
+fn is_used(subs: &[Sub], unit: u32) -> bool {
+    for sub in subs {
+        if u32::from(sub.start) <= unit && unit < end_of(sub) {
+            return true;
+        }
+    }
+    false
+}
+
+/// Writes the free units from this one on, where it is free.
+fn draw_gap<W: Write>(subs: &[Sub], from: u32, y: u32, out: &mut W) -> io::Result<()> {
+    if is_used(subs, from) {
+        return Ok(());
+    }
+    let end = next_start(subs, from);
+    if end <= from {
+        return Ok(());
+    }
+    let free = end - from;
+    let last = end - 1;
+    let x = LEFT.saturating_add(from.saturating_mul(UNIT));
+    let width = free.saturating_mul(UNIT);
+    writeln!(
+        out,
+        "<rect x=\"{x}\" y=\"{y}\" width=\"{width}\" height=\"{BAR}\" fill=\"url(#free)\" stroke=\"#888\" stroke-width=\"1\"><title>{free} CU free: {from} to {last}</title></rect>"
+    )?;
+    if free < u32::from(WIDE) {
+        return Ok(());
+    }
+    let middle = x.saturating_add(width / 2);
+    let base = y.saturating_add(BAR / 2 + 5);
+    writeln!(
+        out,
+        "<text x=\"{middle}\" y=\"{base}\" font-size=\"13\" text-anchor=\"middle\" fill=\"#333\" stroke=\"#f4f4f4\" stroke-width=\"4\" paint-order=\"stroke\">{free} CU free</text>"
+    )
+}
+
+/// Writes a row that begins at `y` from above: its label, its bar, and how many capacity units are free.
+pub(crate) fn draw_row<W: Write>(row: &Row, y: u32, out: &mut W) -> io::Result<()> {
+    let subs = row.config.subs();
+    let word = kind_word(row.kind);
+    let line = row.line;
+    let free = free_units(subs);
+    let base = y.saturating_add(BAR / 2 + 5);
+    let right = LEFT + u32::from(CAPACITY_UNITS) * UNIT + 12;
+    writeln!(
+        out,
+        "<g><title>{word}, line {line}: {free} CU free</title>\n<text x=\"10\" y=\"{base}\" font-weight=\"bold\">{word} {line}</text>"
+    )?;
+    draw_gap(subs, 0, y, out)?;
+    for sub in subs {
+        draw_sub(sub, &row.config, y, out)?;
+        draw_gap(subs, end_of(sub), y, out)?;
+    }
+    writeln!(
+        out,
+        "<text x=\"{right}\" y=\"{base}\">free {free}</text>\n</g>"
+    )
+}

@@ -1,0 +1,86 @@
+//! A map as a drawing: an SVG document, in which a capacity unit is two units of length wide.
+
+use crate::bars::draw_row;
+use crate::cells::CELLS;
+use crate::key::Use;
+use crate::legend::{draw_legend, legend_height};
+use crate::rows::Row;
+use mux_eep::CAPACITY_UNITS;
+use std::io::{self, Write};
+
+/// How wide a capacity unit is.
+pub(crate) const UNIT: u32 = 2;
+
+/// Where the bars begin, from the left.
+pub(crate) const LEFT: u32 = 120;
+
+/// Where the first row begins, from above.
+pub(crate) const TOP: u32 = 64;
+
+/// How high a bar is.
+pub(crate) const BAR: u32 = 92;
+
+/// From one row to the next.
+pub(crate) const ROW: u32 = 116;
+
+/// How wide the drawing is.
+const WIDTH: u32 = 1980;
+
+/// Writes the head of a drawing of this height: its size, what it shows, and the pattern of free units.
+fn draw_head<W: Write>(eid: u16, rows: usize, height: u32, out: &mut W) -> io::Result<()> {
+    writeln!(
+        out,
+        "<svg xmlns=\"http://www.w3.org/2000/svg\" width=\"{WIDTH}\" height=\"{height}\" viewBox=\"0 0 {WIDTH} {height}\" font-family=\"Arial, Helvetica, sans-serif\" font-size=\"14\" role=\"graphics-document\" aria-labelledby=\"title\">"
+    )?;
+    writeln!(
+        out,
+        "<title id=\"title\">The multiplex of ensemble {eid:04X}: {rows} configurations</title>"
+    )?;
+    out.write_all(
+        b"<defs><pattern id=\"free\" width=\"8\" height=\"8\" patternUnits=\"userSpaceOnUse\" patternTransform=\"rotate(45)\"><rect width=\"8\" height=\"8\" fill=\"#f4f4f4\"/><rect width=\"2\" height=\"8\" fill=\"#c8c8c8\"/></pattern></defs>\n",
+    )?;
+    writeln!(
+        out,
+        "<rect width=\"{WIDTH}\" height=\"{height}\" fill=\"white\"/>"
+    )?;
+    writeln!(
+        out,
+        "<text x=\"10\" y=\"24\" font-size=\"18\" font-weight=\"bold\">Ensemble {eid:04X}</text>"
+    )
+}
+
+/// Writes the scale of capacity units, with a line down through all rows for each 72 of them.
+fn draw_scale<W: Write>(bottom: u32, out: &mut W) -> io::Result<()> {
+    let top = TOP - 8;
+    let label = TOP - 14;
+    for step in 0..13u32 {
+        let unit = step * 72;
+        let x = LEFT + unit * UNIT;
+        writeln!(
+            out,
+            "<line x1=\"{x}\" y1=\"{top}\" x2=\"{x}\" y2=\"{bottom}\" stroke=\"#888\" stroke-width=\"1\"/>"
+        )?;
+        writeln!(
+            out,
+            "<text x=\"{x}\" y=\"{label}\" font-size=\"12\" text-anchor=\"middle\">CU {unit}</text>"
+        )?;
+    }
+    Ok(())
+}
+
+/// Writes a map as an SVG document: the rows one under another with the sub-channels to scale, each in a colour of its
+/// own that stays through all rows, free units hatched, and below them the key of the services.
+pub fn draw_map<W: Write>(eid: u16, rows: &[Row], key: &[Use], out: &mut W) -> io::Result<()> {
+    let count = rows.len().min(100_000) as u32;
+    let bottom = TOP + count * ROW;
+    let height = bottom + legend_height(key);
+    draw_head(eid, rows.len(), height, out)?;
+    draw_scale(bottom, out)?;
+    let mut y = TOP;
+    for row in rows {
+        draw_row(row, y, out)?;
+        y = y.saturating_add(ROW);
+    }
+    draw_legend(key, bottom, out)?;
+    out.write_all(b"</svg>\n")
+}

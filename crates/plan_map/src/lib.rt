@@ -1,0 +1,18 @@
+//! The map of a plan: which capacity units each sub-channel has, at first and after each commit.
+//!
+//! [`rows_of`] gives the rows of a code, [`print_map`] writes them as text, and [`draw_map`] as a drawing to scale. Which
+//! rows a code has is defined in `specs/Rows.antt`, and what stands in a row of the text in `specs/Bars.antt`.
+#![tactic(auto)]
+
+mod bars;
+pub mod cells;
+pub mod drawing;
+pub mod key;
+mod legend;
+pub mod rows;
+pub mod text;
+
+pub use drawing::draw_map;
+pub use key::{Use, key_of};
+pub use rows::{Row, RowKind, rows_of};
+pub use text::print_map;

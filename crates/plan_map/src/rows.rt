@@ -1,0 +1,119 @@
+//! The configurations of a plan, in the order of its text.
+
+ghost use Rattle.std.specs.Prelude.{◌≡◌, ◌++◌, ◌∷◌, [], IfOk, OnOk};
+ghost use Rattle.plan_map.specs.Rows.{rows_of, row_at, known_next, left_by, commits};
+
+use mux_config::Config;
+use plan_code::{Code, Instr, Line};
+use std::alloc::{AllocError, Global};
+
+/// What a row of a map stands for.
+#[derive(Clone, Copy, Debug, PartialEq, Eq)]
+pub enum RowKind {
+    /// The configuration that the plan begins with.
+    Begin,
+    /// A configuration that is committed.
+    Commit,
+}
+
+/// A row of a map: a configuration, and the line of the script that it comes from.
+#[derive(Drop)]
+pub struct Row {
+    /// What it stands for.
+    pub kind: RowKind,
+    /// The line of `begin`, or that of the commit.
+    pub line: u16,
+    /// The configuration.
+    pub config: Config,
+}
+
+/// The next configuration at a place of a code, where the instruction before left this one: that of the label, where one
+/// stands there.
+fn enter(code: &Code, pc: u16, next: &mut Config)
+    ensures { next.new ≡ known_next code.now pc next.old }
+{
+    let Some(label) = code.label_at(pc) else {
+        return;
+    };
+    if let Some(config) = code.config(label.next) {
+        next.copy_from(config);
+    }
+}
+
+/// What an instruction leaves of the next configuration. An edit that has a fault leaves it as it was.
+fn follow(instr: Instr, next: &mut Config)
+    ensures { next.new ≡ left_by instr next.old }
+{
+    if let Instr::Edit(edit) = instr {
+        let _ = edit.apply(next);
+    }
+}
+
+/// Whether an instruction commits the next configuration.
+fn commits(instr: Instr) -> bool
+    ensures { result ≡ commits instr }
+{
+    match instr {
+        Instr::CommitIn(_) => true,
+        Instr::CommitAt(_) => true,
+        _ => false,
+    }
+}
+
+/// A row of this configuration.
+fn row_of(kind: RowKind, line: u16, config: &Config) -> Row
+    ensures { result ≡ record { kind = kind; line = line; config = config.now } }
+{
+    let mut copy = Config::new();
+    copy.copy_from(config);
+    Row {
+        kind,
+        line,
+        config: copy,
+    }
+}
+
+/// One row more.
+fn push(rows: &mut Vec<Row>, row: Row) -> Result<(), AllocError>
+    ensures { OnOk result (rows.new.items ≡ rows.old.items ++ row ∷ []) }
+{
+    match rows.push(row) {
+        Ok(()) => Ok(()),
+        Err(_full) => Err(AllocError),
+    }
+}
+
+/// A row more, where an instruction commits this configuration.
+fn push_commit(rows: &mut Vec<Row>, line: &Line, next: &Config) -> Result<(), AllocError>
+    ensures { OnOk result (rows.new.items ≡ rows.old.items ++ row_at line.now next.now) }
+{
+    if commits(line.instr) {
+        return push(rows, row_of(RowKind::Commit, line.number, next));
+    }
+    Ok(())
+}
+
+/// The rows of a code's map: its opening at the line of `begin`, and what is committed at each commit, in the order of
+/// the code, which is that of the script's text with each block where it is applied. Where a label stands, the next
+/// configuration is the one that it declares: what holds there whichever way was taken.
+///
+/// # Errors
+///
+/// Where there is no memory for a row.
+#[tactic(auto, using(crate::proofs::Walking::row_more, crate::proofs::Walking::rows_all))]
+pub fn rows_of(alloc: Global, begin_line: u16, code: &Code) -> Result<Vec<Row>, AllocError>
+    ensures { IfOk result (λ v. v.items ≡ rows_of begin_line code.now) }
+{
+    let mut next = Config::new();
+    enter(code, 0, &mut next);
+    let mut rows = Vec::new(alloc);
+    push(&mut rows, row_of(RowKind::Begin, begin_line, &next))?;
+    let mut pc = 0u16;
+    for line in code.lines() {
+        enter(code, pc, &mut next);
+        push_commit(&mut rows, line, &next)?;
+        follow(line.instr, &mut next);
+        pc += 1;
+    }
+    Ok(rows)
+}
