@@ -1,6 +1,6 @@
 -- What holds of every picture.
-use Rattle.std.specs.Prelude.{◌≡◌, ◌<◌, ◌++◌, ◌⊎◌, List, [], ◌∷◌, map}
-use Rattle.mux_config.specs.Configuration.{Configuration}
+use Rattle.std.specs.Prelude.{◌≡◌, ◌<◌, ◌≤◌, ◌++◌, ◌⊎◌, List, [], ◌∷◌, length, map}
+use Rattle.mux_config.specs.Configuration.{Configuration, IsAscending}
 use Rattle.std.specs.List.{AllByRecursion}
 use Rattle.mux_entries.specs.Facts.{sub_entries, service_entries}
 use Rattle.fib_reader.specs.Raw.{Raw, raw_entry}
@@ -14,6 +14,16 @@ pub record IsPictured (p : Pictured) : Type 0 where
   pub subs : AllByRecursion IsSubOf p.subs
   pub services : AllByRecursion (λ raw. raw.ext ≡ 2) p.services
   pub packets : AllByRecursion (λ raw. raw.ext ≡ 3) p.packets
+
+-- and each list is in ascending order of identifiers, and has 64 entries at most
+pub record IsKept (p : Pictured) : Type 0 where
+  pub pictured : IsPictured p
+  pub subs_ascend : IsAscending identifier_of p.subs
+  pub services_ascend : IsAscending identifier_of p.services
+  pub packets_ascend : IsAscending identifier_of p.packets
+  pub subs_few : length p.subs ≤ 64
+  pub services_few : length p.services ≤ 64
+  pub packets_few : length p.packets ≤ 64
 
 -- in ascending order of extension and identifier
 abbrev pub ComesBefore : Raw → Raw → Type 0

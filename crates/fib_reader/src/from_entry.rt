@@ -19,7 +19,7 @@ use mux_eep::{CAPACITY_UNITS, EepSet, Protection, rate_of};
 
 /// The sub-channel of a profile that the long form says; None where no profile and rate has this option and
 /// size, and where it would end past the last capacity unit.
-pub(crate) fn sub_from_entry(entry: &SubEntry) -> Option<Sub>
+pub fn sub_from_entry(entry: &SubEntry) -> Option<Sub>
     requires { IsSubEntry entry.now }
     ensures member { IfSome result IsPlaced }
     ensures value { IfSome result (λ s. sub_entry s ≡ SubOf entry.now) }
@@ -44,7 +44,7 @@ pub(crate) fn sub_from_entry(entry: &SubEntry) -> Option<Sub>
 }
 
 /// The packet component that its entry says; None where its address is 0, or a field isn't sent as here.
-pub(crate) fn packet_from_entry(entry: &PacketEntry) -> Option<Packet>
+pub fn packet_from_entry(entry: &PacketEntry) -> Option<Packet>
     requires { IsPacketEntry entry.now }
     ensures member { IfSome result IsAddressed }
     ensures value { IfSome result (λ p. packet_entry p ≡ PacketOf entry.now) }
@@ -131,7 +131,7 @@ fn components_from_entry(entries: &[ComponentEntry]) -> Option<BoundedVec<Compon
 
 /// The service that its entry says; None where its components say none, or are too many, or a field isn't
 /// sent as here.
-pub(crate) fn service_from_entry(entry: &ServiceEntry) -> Option<Service>
+pub fn service_from_entry(entry: &ServiceEntry) -> Option<Service>
     requires { IsServiceEntry entry.now }
     ensures member { IfSome result IsService }
     ensures value { IfSome result (λ s. service_entry s ≡ ServiceOf entry.now) }

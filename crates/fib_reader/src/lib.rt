@@ -9,7 +9,7 @@ pub mod entries;
 mod entry_table;
 pub mod fault;
 pub mod figs;
-mod from_entry;
+pub mod from_entry;
 pub mod laws;
 pub mod listener;
 mod members;

@@ -34,7 +34,7 @@ impl Picture {
     ghost use Rattle.std.specs.Prelude.{◌≡◌, ◌≢◌, ◌≤◌, true, false, Some, None, IfSome};
     ghost use Rattle.mux_config.specs.Configuration.{Configuration, IsConfiguration};
     ghost use Rattle.fib_reader.specs.Listening.{Pictured, blank, pictured, all_entries};
-    ghost use Rattle.fib_reader.specs.Picture.{AreInOrder, Shows};
+    ghost use Rattle.fib_reader.specs.Picture.{AreInOrder, IsKept, Shows};
     ghost use Rattle.fib_reader.specs.Forecast.{HasGrownBy};
 
     /// The picture of nothing.
@@ -131,6 +131,7 @@ impl Picture {
     pub fn entries(&self) -> PictureEntries<'_>
         ensures value { result ≡ all_entries self.now }
         ensures ascending { AreInOrder result }
+        ensures kept { IsKept self.now }
     {
         PictureEntries {
             subs: self.subs.as_slice(),

@@ -1,5 +1,6 @@
-use Rattle.std.proofs.Common.{◌≡◌, ◌++◌, sym, ap, subst, ◌∙◌}
-use Rattle.fib_reader.specs.Picture.{AreInOrder}
+use Rattle.std.proofs.Common.{◌≡◌, ◌≤◌, ◌++◌, List, length, sym, ap, subst, ◌∙◌}
+use Rattle.fib_reader.specs.Raw.{Raw}
+use Rattle.fib_reader.specs.Picture.{AreInOrder, IsKept}
 use Rattle.fib_reader.proofs.Order.{in_order}
 use Rattle.fib_reader.proofs.picture.Picture.entries.Goals as goal
 
@@ -13,3 +14,14 @@ returns-clause-ascending c =
     subst AreInOrder (sym same)
     (in_order (record { subs = c.self.inside.subs; services = c.self.inside.services; packets = c.self.inside.packets })
     c.self.invariant c.as_slice.ensures.ascending c.as_slice-2.ensures.ascending c.as_slice-3.ensures.ascending)
+
+pub returns-clause-kept : goal.returns-clause-kept
+returns-clause-kept c = subst IsKept c.self.view_is (record {
+  pictured = c.self.invariant;
+  subs_ascend = c.as_slice.ensures.ascending;
+  services_ascend = c.as_slice-2.ensures.ascending;
+  packets_ascend = c.as_slice-3.ensures.ascending;
+  subs_few = subst (λ (xs : List Raw). length xs ≤ 64) c.as_slice.ensures.value c.as_slice.ensures.bound;
+  services_few = subst (λ (xs : List Raw). length xs ≤ 64) c.as_slice-2.ensures.value c.as_slice-2.ensures.bound;
+  packets_few = subst (λ (xs : List Raw). length xs ≤ 64) c.as_slice-3.ensures.value c.as_slice-3.ensures.bound;
+})

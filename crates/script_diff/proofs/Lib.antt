@@ -1,0 +1,3 @@
+mod Pacing
+mod Ranged
+mod Vectors

@@ -1,0 +1,66 @@
+-- Small plans: each definition where it holds, and where it fails.
+use Rattle.std.proofs.Common.{◌≡◌, ◌≢◌, ℕ, List, [], ◌∷◌, refl, arith}
+use Rattle.mux_config.specs.declared.edit.Edit.{Edit}
+use Rattle.mux_config.specs.declared.edit.Edit.TheVariants.{DropSub}
+use Rattle.mux_types.specs.Configuration.{nothing}
+use Rattle.fib_codec.specs.declared.modes.Mode.TheVariants.{I}
+use Rattle.script_front.specs.declared.tree.Act.TheVariants.{Edit as Edits, Wait, CommitIn, Join}
+use Rattle.script_front.specs.declared.tree.Header.{Header}
+use Rattle.script_front.specs.Tree.{IsHeader}
+use Rattle.script_diff.specs.declared.opening.Opening.{Opening}
+use Rattle.script_diff.specs.declared.refusal.DiffFault.TheVariants.{AnotherEnsemble, NoChange}
+use Rattle.script_diff.specs.Frames.{edits_in, FitFrames}
+use Rattle.script_diff.specs.Openings.{IsOpening}
+use Rattle.script_diff.specs.Plan.{pause_after, paced, committed}
+use Rattle.script_diff.specs.Refusals.{IsOneEnsemble, CanLead, IsInTheWay}
+
+abbrev one : Edit
+one = DropSub 1
+
+abbrev other : Edit
+other = DropSub 2
+
+-- two to a frame, counted from 1
+two_to_a_frame : paced 2 1 (one ∷ other ∷ one ∷ []) ≡ Edits one ∷ Edits other ∷ Wait 1 ∷ Edits one ∷ []
+two_to_a_frame = refl
+
+one_to_a_frame : paced 1 1 (one ∷ other ∷ []) ≡ Edits one ∷ Wait 1 ∷ Edits other ∷ Wait 1 ∷ []
+one_to_a_frame = refl
+
+no_pause_before : pause_after 2 1 ≢ Wait 1 ∷ []
+no_pause_before e = absurd (cc)
+
+the_edits : edits_in (Edits one ∷ Wait 1 ∷ Edits other ∷ CommitIn 24 ∷ Join ∷ []) ≡ one ∷ other ∷ []
+the_edits = refl
+
+not_the_others : edits_in (Edits one ∷ Edits other ∷ []) ≢ other ∷ one ∷ []
+not_the_others e = absurd (cc)
+
+they_fit : FitFrames 3 3 (Edits one ∷ Edits other ∷ Wait 1 ∷ Edits one ∷ CommitIn 24 ∷ Join ∷ [])
+they_fit = (omega arith, (omega arith, (omega arith, (omega arith, (omega arith, (omega arith, tt))))))
+
+too_many : FitFrames 2 2 (Edits one ∷ Edits other ∷ Wait 1 ∷ []) → ⊥
+too_many h = let third = h.1.1.0 in absurd (omega (arith, third))
+
+-- ---- openings
+
+abbrev header : ℕ → ℕ → Header
+header eid budget = record { eid = eid; mode = I; period = 4; notice = 24; budget = budget }
+
+abbrev empty : ℕ → ℕ → Opening
+empty eid budget = record { header = header eid budget; begin_line = 3; config = nothing }
+
+out_of_range : IsOpening (empty 1 0) → ⊥
+out_of_range h = let from = h.headed.budget_from in absurd (omega (arith, from))
+
+another : IsInTheWay (empty 1 20) (empty 2 20) AnotherEnsemble
+another h = let same = h.eid in absurd (omega (arith, same))
+
+the_same : IsInTheWay (empty 1 20) (empty 1 20) NoChange
+the_same = (record { eid = refl; mode = refl }, refl)
+
+not_another : IsInTheWay (empty 1 20) (empty 1 20) AnotherEnsemble → ⊥
+not_another h = h (record { eid = refl; mode = refl })
+
+leads_nowhere : CanLead (empty 1 20) (empty 1 20) → ⊥
+leads_nowhere h = h.changes refl

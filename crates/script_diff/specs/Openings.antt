@@ -1,0 +1,35 @@
+-- What the script of a text begins with, or why it has no opening.
+use Rattle.std.specs.Prelude.{◌≡◌, ℕ, List, Ok, Err}
+use Rattle.mux_types.specs.Configuration.{Configuration, nothing}
+use Rattle.mux_config.specs.Sound.{IsSound, sound_or_fault}
+use Rattle.script_front.specs.Denoting.{IsScriptOf, IsNoScript}
+use Rattle.script_front.specs.Tree.{Tree, IsScript, IsHeader}
+use Rattle.script_opening.specs.Openings.{made_by}
+use Rattle.script_diff.specs.declared.opening.Opening.{Opening}
+use Rattle.script_diff.specs.declared.opening.OpeningFault.{OpeningFault}
+use Rattle.script_diff.specs.declared.opening.OpeningFault.TheVariants.{Script as NoScript, Item, Unsound, Memory}
+
+-- its header is in range, and its configuration sound
+pub record IsOpening (o : Opening) : Type 0 where
+  pub headed : IsHeader o.header
+  pub sound : IsSound o.config
+
+-- it is what the script of this text begins with
+pub record Opens (text : List ℕ) (o : Opening) : Type 0 where
+  pub tree : Tree
+  pub script : IsScript tree
+  pub denotes : IsScriptOf text tree
+  pub header : o.header ≡ tree.header
+  pub begin_line : o.begin_line ≡ tree.begin_line
+  pub made : made_by tree.items nothing ≡ Ok o.config
+  pub sound : IsSound o.config
+
+-- the text has this fault, and none of those before it: it is no script, an item has the fault, the configuration is not
+-- sound
+abbrev pub HasNoOpening : List ℕ → OpeningFault → Type 0
+HasNoOpening text (NoScript fault) = IsNoScript text
+HasNoOpening text (Item fault) = (tree : Tree) × IsScript tree × IsScriptOf text tree × (made_by tree.items nothing ≡ Err fault)
+HasNoOpening text (Unsound line fault) =
+    (tree : Tree) × IsScript tree × IsScriptOf text tree × (line ≡ tree.begin_line)
+    × ((c : Configuration) × (made_by tree.items nothing ≡ Ok c) × (sound_or_fault c ≡ Err fault))
+HasNoOpening text Memory = Unit {0}

@@ -1,0 +1,66 @@
+//! What a script begins with.
+
+ghost use Rattle.std.specs.Prelude.{IfOk, IfErr};
+ghost use Rattle.script_diff.specs.Openings.{IsOpening, Opens, HasNoOpening};
+
+use mux_config::{Config, ConfigFault, soundness};
+use script_front::{Header, ScriptFault, parse};
+use script_opening::{ItemFault, opening_of};
+use std::alloc::Global;
+use thiserror::Error;
+
+/// What a script begins with; its blocks and statements are parsed and go no further.
+#[derive(Drop)]
+pub struct Opening {
+    /// What it declares.
+    pub header: Header,
+    /// The line of `begin`, 1 to 65,535.
+    pub begin_line: u16,
+    /// The configuration that its items make.
+    pub config: Config,
+}
+
+/// Why a text has no opening, in the order of the tests. Printed it is as `compile` prints it.
+#[derive(Clone, Copy, Debug, PartialEq, Eq, Error)]
+pub enum OpeningFault {
+    /// The text is no script.
+    #[error("{0}")]
+    Script(ScriptFault),
+    /// An item has a fault.
+    #[error("{0}")]
+    Item(ItemFault),
+    /// The configuration is not sound; the line is that of `begin`.
+    #[error("refused line {line}: Config {fault}")]
+    Unsound { line: u16, fault: ConfigFault },
+    /// There was no memory.
+    #[error("no memory")]
+    Memory,
+}
+
+/// What the script of a text begins with, where that is sound.
+///
+/// The first fault is answered, in the order of [`OpeningFault`].
+pub fn opened(alloc: Global, text: &str) -> Result<Opening, OpeningFault>
+    ensures opens { IfOk result (Opens text.now) }
+    ensures formed { IfOk result IsOpening }
+    ensures fault { IfErr result (HasNoOpening text.now) }
+{
+    let script = match parse(alloc, text) {
+        Ok(script) => script,
+        Err(ScriptFault::Memory) => return Err(OpeningFault::Memory),
+        Err(fault) => return Err(OpeningFault::Script(fault)),
+    };
+    let config = match opening_of(&script) {
+        Ok(config) => config,
+        Err(fault) => return Err(OpeningFault::Item(fault)),
+    };
+    let line = script.begin_line();
+    if let Err(fault) = soundness(&config) {
+        return Err(OpeningFault::Unsound { line, fault });
+    }
+    Ok(Opening {
+        header: script.header(),
+        begin_line: line,
+        config,
+    })
+}

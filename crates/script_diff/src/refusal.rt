@@ -1,0 +1,70 @@
+//! Why no plan leads from one script's opening to another's.
+
+ghost use Rattle.std.specs.Prelude.{◌↔◌, ◌≤◌, IsTrue, IfSome, IfNone};
+ghost use Rattle.script_diff.specs.Refusals.{FitsPeriod, IsOneEnsemble, HaveRoom, CanLead, IsInTheWay};
+
+use crate::opening::Opening;
+use fib_carousel::pages;
+use mux_config::{Config, Store};
+use thiserror::Error;
+
+/// Why no plan leads from one opening to another, in the order of the tests.
+#[derive(Clone, Copy, Debug, PartialEq, Eq, Error)]
+pub enum DiffFault {
+    /// They are of different ensembles or transmission modes.
+    #[error("refused: another ensemble")]
+    AnotherEnsemble,
+    /// They have the same configuration.
+    #[error("refused: NoChange")]
+    NoChange,
+    /// The pages of both configurations together take longer than the period, or three times them longer than the notice.
+    #[error("refused: Round")]
+    Round,
+    /// The budget is 1, so that no frame has room for an edit.
+    #[error("refused: Cost")]
+    Cost,
+}
+
+/// Whether the pages of an opening go out within its own period.
+pub fn fits_period(opening: &Opening) -> bool
+    ensures { IsTrue result ↔ FitsPeriod opening.now }
+{
+    let alone: Option<&Config> = None;
+    pages(opening.header.mode, &opening.config, alone) <= usize::from(opening.header.period)
+}
+
+/// Whether two openings are of one ensemble and transmission mode.
+fn is_one_ensemble(from: &Opening, to: &Opening) -> bool
+    ensures { IsTrue result ↔ IsOneEnsemble from.now to.now }
+{
+    from.header.eid == to.header.eid && from.header.mode == to.header.mode
+}
+
+/// Whether the pages of both go out within the period of the second, and three times within its notice.
+fn have_room(from: &Opening, to: &Opening) -> bool
+    ensures { IsTrue result ↔ HaveRoom from.now to.now }
+{
+    let both = pages(to.header.mode, &from.config, Some(&to.config));
+    both <= usize::from(to.header.period) && both <= usize::from(to.header.notice) / 3
+}
+
+/// Why no plan of the second opening's header leads from the first to it; None where one does.
+pub fn fault_between(from: &Opening, to: &Opening) -> Option<DiffFault>
+    requires { 1 ≤ to.now.header.budget }
+    ensures fault { IfSome result (IsInTheWay from.now to.now) }
+    ensures none { IfNone result (CanLead from.now to.now) }
+{
+    if !is_one_ensemble(from, to) {
+        return Some(DiffFault::AnotherEnsemble);
+    }
+    if from.config.same(&to.config) {
+        return Some(DiffFault::NoChange);
+    }
+    if !have_room(from, to) {
+        return Some(DiffFault::Round);
+    }
+    if to.header.budget == 1 {
+        return Some(DiffFault::Cost);
+    }
+    None
+}
