@@ -2,8 +2,10 @@
 #![tactic(auto)]
 
 mod help;
+pub mod script_words;
 pub mod words;
 
+pub use script_words::{DiffRequest, FrameScriptRequest, ListenScriptRequest};
 pub use words::{
     CheckRequest, CompileRequest, DebugRequest, FrameRequest, PlayRequest, Request, StartOptions,
     UsageError, request_of,
