@@ -22,7 +22,7 @@ def twice(name):
 def wrong_command_lines(rows):
     """Command lines that are wrong, each with its line; no file is read, or there would be another line."""
     for line, wanted in (
-        ("", "a command is wanted: frame, listen, check, compile, verify, play, debug, map or help"),
+        ("", "a command is wanted: frame, listen, check, diff, compile, verify, play, debug, map or help"),
         ("fram", "unrecognized subcommand 'fram'; tip: a similar subcommand exists: 'frame'"),
         ("frame - --ensemble E1C5", required("--count <N>")),
         ("frame - --ensemble E1C --count 0", f"invalid value 'E1C' for '--ensemble <HHHH>': {FOUR_DIGITS}"),
@@ -76,6 +76,8 @@ def help_is_no_fault(rows):
         ("help", "Usage: dabplan <COMMAND>"),
         ("frame --help", "Usage: dabplan frame <CONFIG> --ensemble <HHHH> --count <N> [--page <K>] [--mode <M>]"),
         ("help listen", "Usage: dabplan listen <FILE>"),
+        ("help listen", "dabplan listen <FILE> --script [--mode <M>] [--period <P>] [--notice <W>] [--budget <B>]"),
+        ("diff --help", "Usage: dabplan diff <FROM> <TO>"),
         ("help check", "Usage: dabplan check <FILE> [--mode <M>] [--period <N>]"),
         ("verify --help", "Usage: dabplan verify <CODE>"),
     ):
@@ -86,7 +88,7 @@ def help_is_no_fault(rows):
 def the_names_in_the_help(rows):
     """Each name of a fault that a help page has stands in the document of the commands too."""
     document = (pathlib.Path(__file__).resolve().parents[2] / "docs/guide/COMMANDS.md").read_text(encoding="utf-8")
-    for line in ("help", *(f"help {command}" for command in ("frame", "listen", "check", "compile", "verify", "play", "debug", "map"))):
+    for line in ("help", *(f"help {command}" for command in ("frame", "listen", "check", "diff", "compile", "verify", "play", "debug", "map"))):
         names = set(re.findall(r"\b[A-Za-z]*[a-z][A-Z][A-Za-z]*\b", rows.run(line).printed.decode()))
         rows.tally.same(f"names in {line}", [], sorted(name for name in names if name not in document))
 

@@ -11,6 +11,9 @@ What goes in and comes out:
           packet components there are, and then each of them, field by field. It prints the
           three FIBs of a frame, in mode 3 four, of 32 bytes each as hexadecimal digits.
   listen  reads a binary file of FIBs, and prints the multiplex that they describe.
+          'frame --script' and 'listen --script' do the same with scripts in place of records.
+  diff    reads two scripts, and prints the plan that leads from the configuration of one to that
+          of the other.
   check   reads a binary file of FIBs, and prints where it breaks the rules of reconfigurations.
   compile reads a script, the text of a plan of reconfigurations, and writes its code file.
   verify  reads a code file, the binary form of a plan of reconfigurations. It says whether the
@@ -40,8 +43,9 @@ In goes a configuration record, a short binary file. Out come lines of 64 hexade
 FIBs of 32 bytes that a frame of 24 ms carries, CRCs included. There are three, in transmission
 mode 3 four. Where the configuration needs more than one frame, --page picks the frame.";
 
-pub const FRAME_USAGE: &str =
-    "dabplan frame <CONFIG> --ensemble <HHHH> --count <N> [--page <K>] [--mode <M>]";
+pub const FRAME_USAGE: &str = "\
+dabplan frame <CONFIG> --ensemble <HHHH> --count <N> [--page <K>] [--mode <M>] [--raw]
+       dabplan frame <SCRIPT> --script --count <N> [--page <K>] [--raw]";
 
 pub const AFTER_FRAME: &str = "\
 The record, field by field (in brackets the bytes of a field, its high byte first):
@@ -57,6 +61,9 @@ The record, field by field (in brackets the bytes of a field, its high byte firs
                           sub-channel [1], address [2] 1 to 1023
 Sub-channels, services (those of kind 0 first) and packet components ascend by identifier.
 The first component of a service is its primary one.
+
+With --script the frame is that of the configuration that a script begins with, of its ensemble and
+in its mode. --raw writes the FIBs as bytes, so that 'dabplan listen -' can read them.
 
 Example: sub-channel 1 of 128 kbit/s at 3-A, and service C221 with audio of type 63 on it
   printf '\\001\\001\\000\\001\\000\\000\\000\\003\\000\\200\\000\\302\\041\\001\\000\\077\\001' |
@@ -78,7 +85,9 @@ them. Out come the number of FIBs and of damaged ones among them, the current co
 the end of the file, the next one where a reconfiguration is announced, and the low part of the
 CIF count at which it falls.";
 
-pub const LISTEN_USAGE: &str = "dabplan listen <FILE>";
+pub const LISTEN_USAGE: &str = "\
+dabplan listen <FILE>
+       dabplan listen <FILE> --script [--mode <M>] [--period <P>] [--notice <W>] [--budget <B>]";
 
 pub const AFTER_LISTEN: &str = "\
 The lines:
@@ -93,6 +102,10 @@ The lines:
                                       a packet component; 'raw' where data groups are not used
   next                                then what was heard with C/N 1
   swap at low 28                      or 'no swap' where no reconfiguration is awaited
+
+With --script the current configuration is printed as a script, the other way round of
+'frame --script': with the EId of the last FIG 0/0, and the mode, period, notice and budget that are
+asked for. 'refused: cannot be written' names the first line of the listing that no script has.
 
 Example: the FIBs that 'dabplan frame' writes, heard again
   printf '\\001\\001\\000\\001\\000\\000\\000\\003\\000\\200\\000\\302\\041\\001\\000\\077\\001' |
@@ -327,4 +340,39 @@ Example: a plan that lowers and raises a rate as contact 3 is closed and opened
 Exit status:
   0  all commands were carried out
   1  the plan, the start or the commands are refused, or a file can't be read
+  2  the command line is wrong";
+
+pub const DIFF: &str = "Writes the plan that leads from one configuration to another";
+
+pub const LONG_DIFF: &str = "\
+Writes the plan that leads from one configuration to another.
+
+In go two scripts, of which the configurations count that they begin with. Out comes the script of
+a plan that begins with the first and leads to the second by one reconfiguration: the edits between
+them, a commit and a join. 'compile' accepts it.";
+
+pub const DIFF_USAGE: &str = "dabplan diff <FROM> <TO>";
+
+pub const AFTER_DIFF: &str = "\
+The plan has the header of TO, and a notice of that many frames. No frame has more instructions
+than the budget of TO.
+
+The line, where there is no plan:
+  now.plan:7:7: NameUnknown     line 7, column 7 of the file is at fault, as 'compile' says
+  now.plan: refused line 9: Edit IdUsed
+                                an item is refused, or what the script begins with
+  refused: another ensemble     the two have different EIds or transmission modes
+  refused: NoChange             both begin with the same configuration
+  refused: Round                the pages of both together take longer than the period, or three
+                                times them longer than the notice
+  refused: Cost                 the budget is 1, which leaves no room for an edit
+
+Example: a sub-channel of what is on air has another rate tonight
+  dabplan listen air.fib --script > today.plan
+  sed 's/3-A 128/3-A 96/' today.plan > tonight.plan
+  dabplan diff today.plan tonight.plan
+
+Exit status:
+  0  the plan was printed
+  1  there is none, or a file can't be read
   2  the command line is wrong";

@@ -5,6 +5,7 @@ ghost use Rattle.command_line.specs.Numbers.{mode_of_number};
 
 use crate::help;
 use crate::map_words::{MapRequest, map, map_request};
+use crate::script_words::{self, DiffRequest, FrameScriptRequest, ListenScriptRequest};
 use clap::error::ErrorKind;
 use clap::{Arg, ArgMatches, Command, value_parser};
 use console::hexadecimal::word_of;
@@ -22,8 +23,14 @@ const VERSION: &str = "0.1.0";
 pub enum Request<'a> {
     /// `frame`.
     Frame(FrameRequest<'a>),
+    /// `frame --script`.
+    FrameScript(FrameScriptRequest<'a>),
     /// `listen`, and the path of its file.
     Listen(&'a str),
+    /// `listen --script`.
+    ListenScript(ListenScriptRequest<'a>),
+    /// `diff`.
+    Diff(DiffRequest<'a>),
     /// `check`.
     Check(CheckRequest<'a>),
     /// `compile`.
@@ -104,6 +111,8 @@ pub struct FrameRequest<'a> {
     pub ensemble: Ensemble,
     /// Which page of the configuration, from 0.
     pub page: u16,
+    /// Whether the FIBs are written as bytes, in place of digits.
+    pub raw: bool,
 }
 
 /// Why the words ask for nothing that the program does.
@@ -151,6 +160,7 @@ pub fn request_of<'a, S: AsStr>(
     match matches.subcommand() {
         Some(("frame", options)) => frame_request(options),
         Some(("listen", options)) => listen_request(options),
+        Some(("diff", options)) => Ok(Request::Diff(script_words::diff_request(options)?)),
         Some(("check", options)) => check_request(options),
         Some(("compile", options)) => compile_request(options),
         Some(("verify", options)) => verify_request(options),
@@ -170,6 +180,7 @@ fn program<'a>(alloc: Global) -> Result<Command<'a>, AllocError> {
         .override_usage("dabplan <COMMAND>")
         .subcommand(frame(alloc)?)?
         .subcommand(listen(alloc)?)?
+        .subcommand(script_words::diff(alloc)?)?
         .subcommand(check(alloc)?)?
         .subcommand(compile(alloc)?)?
         .subcommand(verify(alloc)?)?
@@ -179,17 +190,19 @@ fn program<'a>(alloc: Global) -> Result<Command<'a>, AllocError> {
 }
 
 fn frame<'a>(alloc: Global) -> Result<Command<'a>, AllocError> {
-    let config_help = "The configuration record: a file, or '-' for standard input";
+    let config_help = "The configuration record or script: a file, or '-' for standard input";
     Command::new(alloc, "frame")
         .about(help::FRAME)
         .long_about(help::LONG_FRAME)
         .after_long_help(help::AFTER_FRAME)
         .override_usage(help::FRAME_USAGE)
         .arg(file(alloc, "config", "CONFIG", config_help))?
-        .arg(identifier(alloc))?
+        .arg(identifier(alloc)?)?
         .arg(frame_count(alloc))?
         .arg(page(alloc))?
-        .arg(mode(alloc))
+        .arg(mode(alloc))?
+        .arg(script_words::reads_script(alloc)?)?
+        .arg(script_words::raw(alloc))
 }
 
 /// An argument without an option, which is wanted.
@@ -205,13 +218,13 @@ pub(crate) fn file<'a>(
         .help(help)
 }
 
-/// The option of the ensemble's identifier.
-fn identifier<'a>(alloc: Global) -> Arg<'a> {
+/// The option of the ensemble's identifier, which a script has in itself.
+fn identifier<'a>(alloc: Global) -> Result<Arg<'a>, AllocError> {
     Arg::new(alloc, "ensemble")
         .long("ensemble")
         .value_name("HHHH")
-        .required(true)
         .help("The identifier of the ensemble: four hexadecimal digits, upper case")
+        .required_unless_present("script")
 }
 
 /// The option of the one frame's count.
@@ -255,7 +268,17 @@ fn listen<'a>(alloc: Global) -> Result<Command<'a>, AllocError> {
         .long_about(help::LONG_LISTEN)
         .after_long_help(help::AFTER_LISTEN)
         .override_usage(help::LISTEN_USAGE)
-        .arg(file(alloc, "file", "FILE", "The file of FIBs"))
+        .arg(file(
+            alloc,
+            "file",
+            "FILE",
+            "The file of FIBs, or '-' for standard input",
+        ))?
+        .arg(script_words::prints_script(alloc))?
+        .arg(script_words::script_mode(alloc)?)?
+        .arg(script_words::script_period(alloc)?)?
+        .arg(script_words::script_notice(alloc)?)?
+        .arg(script_words::script_budget(alloc)?)
 }
 
 fn check<'a>(alloc: Global) -> Result<Command<'a>, AllocError> {
@@ -364,6 +387,9 @@ fn contacts<'a>(alloc: Global) -> Arg<'a> {
 }
 
 fn frame_request<'a>(options: &ArgMatches<'a>) -> Result<Request<'a>, UsageError<'a>> {
+    if options.get_flag("script") {
+        return Ok(Request::FrameScript(script_words::frame_script_request(options)?));
+    }
     let digits = options.get_str("ensemble").unwrap_or("");
     let Some(eid) = word_of(digits) else {
         return Err(UsageError::Digits {
@@ -382,11 +408,12 @@ fn frame_request<'a>(options: &ArgMatches<'a>) -> Result<Request<'a>, UsageError
         mode,
         ensemble,
         page,
+        raw: options.get_flag("raw"),
     }))
 }
 
 /// The mode of this number; None where it is not 1 to 4.
-fn mode_of(number: u16) -> Option<Mode>
+pub(crate) fn mode_of(number: u16) -> Option<Mode>
     ensures { result ≡ mode_of_number number }
 {
     match number {
@@ -399,6 +426,9 @@ fn mode_of(number: u16) -> Option<Mode>
 }
 
 fn listen_request<'a>(options: &ArgMatches<'a>) -> Result<Request<'a>, UsageError<'a>> {
+    if options.get_flag("script") {
+        return Ok(Request::ListenScript(script_words::listen_script_request(options)?));
+    }
     let file = options.get_str("file").ok_or(UsageError::Nothing)?;
     Ok(Request::Listen(file))
 }

@@ -1,2 +1,4 @@
 pub mod Compiled
+pub mod Planned
+pub mod ScriptFrame
 pub mod Transcript

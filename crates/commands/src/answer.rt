@@ -2,12 +2,12 @@
 
 ghost use Rattle.std.specs.Prelude.{◌≡◌, ◌≤◌, IsErr};
 
-use crate::{compile, debug, map, play, verify};
+use crate::{compile, debug, diff, frame_script, map, play, verify};
 use command_line::{Request, UsageError, request_of};
 use console::exit::{Failure, Status};
 use console::files::Files;
 use console::output::Output;
-use listings::{check, frame, listen};
+use listings::{check, frame, listen, listen_script};
 use std::alloc::{AllocError, Global};
 use std::convert::AsStr;
 use std::io::{self, ErrorKind, Write};
@@ -67,6 +67,15 @@ fn dispatch<S: AsStr, F: Files, W: Write>(
     match request_of(alloc, words) {
         Ok(Request::Frame(request)) => report(frame::show_frame(alloc, &request, files, out), out),
         Ok(Request::Listen(path)) => report(listen::show_heard(alloc, path, files, out), out),
+        Ok(Request::FrameScript(request)) => report(
+            frame_script::show_script_frame(alloc, &request, files, out),
+            out,
+        ),
+        Ok(Request::ListenScript(request)) => report(
+            listen_script::show_script(alloc, &request, files, out),
+            out,
+        ),
+        Ok(Request::Diff(request)) => report(diff::show_diff(alloc, &request, files, out), out),
         Ok(Request::Check(request)) => report(check::show_check(alloc, &request, files, out), out),
         Ok(Request::Compile(request)) => report(
             compile::show_compile(alloc, &request, files, out),
@@ -103,7 +112,7 @@ fn explain<W: Write>(alloc: Global, unasked: UsageError<'_>, out: &mut W) -> io:
             "error: invalid value '{value}' for '{option}': four digits 0-9 A-F are wanted"
         ),
         UsageError::Nothing =>
-            "error: a command is wanted: frame, listen, check, compile, verify, play, debug, map or help".to_string(
+            "error: a command is wanted: frame, listen, check, diff, compile, verify, play, debug, map or help".to_string(
                 alloc,
             ),
         UsageError::NoText => "error: a word of the command line is not UTF-8".to_string(alloc),

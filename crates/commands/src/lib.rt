@@ -6,6 +6,8 @@ pub mod answer;
 pub mod code_input;
 pub mod compile;
 pub mod debug;
+pub mod diff;
+pub mod frame_script;
 pub mod map;
 pub mod play;
 pub mod script_input;

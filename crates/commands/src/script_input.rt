@@ -1,8 +1,8 @@
 //! Scripts, which are read no further than any script is long.
 
-ghost use Rattle.std.specs.Prelude.{◌≡◌, ◌<◌, ◌≤◌, take, length, IfOk, IfSome};
+ghost use Rattle.std.specs.Prelude.{◌≡◌, ◌≢◌, codes, ◌<◌, ◌≤◌, take, length, IfOk, IfSome};
 
-use console::exit::{Failure, read_file};
+use console::exit::{Failure, read_file, read_input};
 use console::files::Files;
 use script_tokens::token::MOST_BYTES;
 use std::alloc::Global;
@@ -21,6 +21,20 @@ pub fn read_script<'a, F: Files>(
         (λ bytes. read.items ≡ take 1048581 bytes)) }
 {
     read_file(alloc, files, path, READ)
+}
+
+/// The same of standard input where the path is `-`.
+pub fn read_script_input<'a, F: Files>(
+    alloc: Global,
+    files: &mut F,
+    path: &'a str,
+) -> Result<Vec<u8>, Failure<'a>>
+    ensures input { path.now ≡ codes "-" → IfOk result (λ read.
+        IfSome (F.known_input files.old) (λ bytes. read.items ≡ take 1048581 bytes)) }
+    ensures file { path.now ≢ codes "-" → IfOk result (λ read.
+        IfSome (F.known files.old path.now) (λ bytes. read.items ≡ take 1048581 bytes)) }
+{
+    read_input(alloc, files, path, READ)
 }
 
 /// The bytes of a text without the character that was cut at their end: all bytes, but where so many were read, those

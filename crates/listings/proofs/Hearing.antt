@@ -68,7 +68,7 @@ chunks_on (suc k) m s t e =
     let step : first_chunks 32 (suc (k + m)) (s ++ t) ≡ first_chunks 32 (suc k) s ++ first_chunks 32 m t = rw (take-append-le 32 s t enough, drop-append-le 32 s t enough, chunks_on k m (drop 32 s) t rest) refl in
     ap (λ n. first_chunks 32 n (s ++ t)) same ∙ step
 
-fibs_on : (s t : List ℕ) → length s % 32 ≡ 0 → fibs_of_stream (s ++ t) ≡ fibs_of_stream s ++ fibs_of_stream t
+pub fibs_on : (s t : List ℕ) → length s % 32 ≡ 0 → fibs_of_stream (s ++ t) ≡ fibs_of_stream s ++ fibs_of_stream t
 fibs_on s t whole =
     let count : length (s ++ t) / 32 ≡ length s / 32 + length t / 32 = omega (arith, whole, length-append s t) in
     let exact : length s ≡ 32 * (length s / 32) = omega arith in

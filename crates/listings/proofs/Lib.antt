@@ -1,3 +1,4 @@
 mod Appending
 mod Hearing
+mod Naming
 mod OneAnswer

@@ -1,3 +1,4 @@
 pub mod Frame
 pub mod Lines
+pub mod Naming
 pub mod Stream

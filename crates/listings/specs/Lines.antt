@@ -54,6 +54,10 @@ abbrev pub sid_digits : Sid → List ℕ
 sid_digits (ShortSid n) = digits_of_word n
 sid_digits (LongSid n) = digits_of_long n
 
+-- the first line of a service
+abbrev pub service_head : ServiceEntry → List ℕ
+service_head s = codes "service " ++ sid_digits s.sid ++ codes "\n"
+
 -- a service, and a line for each of its components in order
 abbrev pub service_lines : ServiceEntry → List ℕ
 service_lines s = codes "service " ++ sid_digits s.sid ++ codes "\n" ++ flat_map component_line s.components
@@ -79,3 +83,11 @@ entry_lines (Sub s) = sub_line s
 entry_lines (Short s) = short_line s
 entry_lines (Service s) = service_lines s
 entry_lines (Packet p) = packet_line p
+
+-- the first of them
+abbrev pub head_line : Entry → List ℕ
+head_line (Ensemble e) = []
+head_line (Sub s) = sub_line s
+head_line (Short s) = short_line s
+head_line (Service s) = service_head s
+head_line (Packet p) = packet_line p

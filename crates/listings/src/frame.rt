@@ -1,6 +1,7 @@
 //! `dabplan frame`: one frame of the configuration that a record holds.
 
-ghost use Rattle.std.specs.Prelude.{◌≡◌};
+ghost use Rattle.std.specs.Prelude.{◌≡◌, true, OnOk};
+ghost use Rattle.std.specs.Io.KnownBytes.{Appends};
 ghost use Rattle.listings.specs.Frame.{frame_of, page_or_fault, sent};
 
 use command_line::FrameRequest;
@@ -51,7 +52,7 @@ pub fn show_frame<'a, F: Files, W: Write>(
         request.page,
     ) {
         Ok(frame) => {
-            print_fibs(&frame, out)?;
+            print_frame(&frame, request.raw, out)?;
             Ok(Status::Done)
         }
         Err(fault) => {
@@ -87,7 +88,7 @@ pub fn frame_of(
 }
 
 /// The FIBs of page `index` of a configuration alone; `NoSuchPage` where there is no such page.
-fn page_of<'a>(
+pub fn page_of<'a>(
     config: &'a Config,
     mode: Mode,
     ensemble: Ensemble,
@@ -111,6 +112,18 @@ fn sent(mode: Mode, ensemble: Ensemble) -> Option<Ensemble>
         Some(ensemble)
     } else {
         None
+    }
+}
+
+/// Prints the FIBs of a frame, as bytes where these are asked for, and else as digits.
+pub fn print_frame<W: Write>(frame: &FibFrame, raw: bool, out: &mut W) -> io::Result<()>
+    ensures raw { raw ≡ true → OnOk result (Appends (W.contents out.old) (W.contents out.new)
+        frame.now) }
+{
+    if raw {
+        out.write_all(frame.bytes())
+    } else {
+        print_fibs(frame, out)
     }
 }
 

@@ -6,4 +6,5 @@ pub mod check;
 pub mod frame;
 pub mod laws;
 pub mod listen;
+pub mod listen_script;
 pub mod listing;

@@ -25,7 +25,7 @@ pub enum StreamFault {
 }
 
 /// More pieces than any stream has: 2^50 of 256 KB.
-const MOST_PIECES: u64 = 1 << 50;
+pub(crate) const MOST_PIECES: u64 = 1 << 50;
 
 /// What was heard of a stream.
 #[derive(Drop)]
@@ -44,7 +44,7 @@ impl Heard {
     ghost use Rattle.listings.specs.declared.listen.StreamFault.TheVariants.{Full as NoRoom};
 
     /// Nothing heard so far.
-    fn new() -> Heard
+    pub(crate) fn new() -> Heard
         ensures { result ≡ unheard }
     {
         Heard {
@@ -56,7 +56,7 @@ impl Heard {
 
     /// Hears FIBs one after the other. A damaged one tells nothing; the first one at which a picture has no room ends all,
     /// and the answer is false then.
-    fn hear(&mut self, fibs: &[[u8; 32]]) -> bool
+    pub(crate) fn hear(&mut self, fibs: &[[u8; 32]]) -> bool
         requires few { self.old.fibs + length fibs.now ≤ 2 ^ 63 }
         requires damaged { self.old.damaged ≤ self.old.fibs }
         ensures heard { result ≡ true → HearsTheStream fibs.now self.old (Ok self.new) }

@@ -6,7 +6,7 @@ ghost use Rattle.std.specs.Prelude.{◌≡◌, ◌++◌, OnOk, codes};
 ghost use Rattle.std.specs.Fmt.{decimal};
 ghost use Rattle.std.specs.Io.KnownBytes.{Appends};
 ghost use Rattle.console.specs.Digits.{digits_of_word};
-ghost use Rattle.listings.specs.Lines.{entry_lines, sub_line, short_line, place_word, component_line, sid_digits, service_lines, transport_word, groups_text, address_text, packet_line};
+ghost use Rattle.listings.specs.Lines.{entry_lines, head_line, service_head, sub_line, short_line, place_word, component_line, sid_digits, service_lines, transport_word, groups_text, address_text, packet_line};
 
 use console::hexadecimal::digits_of_word;
 use mux_config::{
@@ -60,6 +60,30 @@ fn print_short<W: Write>(short: &ShortEntry, out: &mut W) -> io::Result<()>
     let switch = u8::from(short.switch);
     let table = short.table.get();
     writeln!(out, "sub {id} at {start} switch {switch} table {table}")
+}
+
+/// Prints the first line of an entry. Ensemble information has none.
+pub fn print_head<W: Write>(entry: &Entry, out: &mut W) -> io::Result<()>
+    ensures { OnOk result (Appends (W.contents out.old) (W.contents out.new)
+        (head_line entry.now)) }
+{
+    match entry {
+        Entry::Ensemble(_) => Ok(()),
+        Entry::Sub(sub) => print_sub(sub, out),
+        Entry::Short(short) => print_short(short, out),
+        Entry::Service(service) => print_service_head(service, out),
+        Entry::Packet(packet) => print_packet(packet, out),
+    }
+}
+
+/// The first line of a service.
+fn print_service_head<W: Write>(service: &ServiceEntry, out: &mut W) -> io::Result<()>
+    ensures { OnOk result (Appends (W.contents out.old) (W.contents out.new)
+        (service_head service.now)) }
+{
+    out.write_all(b"service ")?;
+    print_sid(service.sid, out)?;
+    out.write_all(b"\n")
 }
 
 /// A service, and a line for each of its components in order.
