@@ -12,23 +12,9 @@ use Rattle.script_scheme.specs.declared.flow.Mark.{Mark}
 use Rattle.script_scheme.specs.Scheme.{marks_of}
 use Rattle.script_scheme.specs.Judged.{IsJudged}
 use Rattle.script_scheme.specs.Need.{IsWithinBudget}
-use Rattle.script_scheme.specs.Compiled.{plan_of, opening_of, beginning, body_of, places_of, lines_of_places, instrs_of, nested, AreFine, Added, Tabled, AreLabelsOf, IsCodeOf, IsAccepted}
+use Rattle.script_scheme.specs.Compiled.{plan_of, opening_of, beginning, body_of, places_of, lines_of_places, instrs_of, nested, AreFine, Tabled, AreLabelsOf, IsCodeOf, IsAccepted}
+use Rattle.script_scheme.proofs.OneCode.{tabled_once}
 use Rattle.script_compiler.proofs.Laid.{length_lines}
-
--- there is one table only
-pub added_one : (c : Configuration) (table one other : List Configuration) → Added c table one → Added c table other → one ≡ other
-added_one c table one other (inl a) (inl b) = a.1 ∙ sym b.1
-added_one c table one other (inl a) (inr b) = absurd (b.0 a.0)
-added_one c table one other (inr a) (inl b) = absurd (a.0 b.0)
-added_one c table one other (inr a) (inr b) = a.1 ∙ sym b.1
-
-pub tabled_one : (ms : List Mark) (table one other : List Configuration) → Tabled table ms one → Tabled table ms other → one ≡ other
-tabled_one [] table one other h k = h ∙ sym k
-tabled_one (m ∷ ms) table one other h k =
-    let first : h.0 ≡ k.0 = added_one m.flow.current table h.0 k.0 h.2 k.2 in
-    let next : Added m.flow.next k.0 h.1 = subst (λ (t : List Configuration). Added m.flow.next t h.1) first h.3 in
-    let both : h.1 ≡ k.1 = added_one m.flow.next k.0 h.1 k.1 next k.3 in
-    tabled_one ms k.1 one other (subst (λ (t : List Configuration). Tabled t ms one) both h.4) k.4
 
 pub labels_length : (table : List Configuration) (ms : List Mark) (ls : List Label) → AreLabelsOf table ms ls → length ls ≡ length ms
 labels_length table [] ls h = ap length h
@@ -45,7 +31,7 @@ is_accepted s code formed is made sound period judged repeats within = record {
   instructions = let n = ap length is.lines in let m = length_lines (places_of s) in omega (arith, n, m, formed.lines_to);
   labels = let n = labels_length code.configurations (marks_of 0 (places_of s)) code.labels is.labels in omega (arith, n, formed.labels_to);
   configurations = λ table h.
-      let e = ap length (tabled_one (marks_of 0 (places_of s)) [] code.configurations table is.table h) in omega (arith, e, formed.configurations_to);
+      let e = ap length (tabled_once [] (marks_of 0 (places_of s)) code.configurations table is.table h) in omega (arith, e, formed.configurations_to);
   repeats = repeats;
   within = within;
 }

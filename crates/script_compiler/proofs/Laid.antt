@@ -1,11 +1,12 @@
 -- Code that is laid down, piece by piece.
-use Rattle.std.proofs.Common.{◌≡◌, ℕ, ◌+◌, ◌≤◌, Bool, true, false, if◌then◌else◌, List, [], ◌∷◌, ◌++◌, length, Option, Some, None, is_some, refl, sym, ap, ◌∙◌, subst, arith, add_assoc, append_assoc, append-nil, length-append}
+use Rattle.std.proofs.Common.{◌≡◌, ℕ, ◌+◌, ◌≤◌, Bool, true, false, if◌then◌else◌, List, [], ◌∷◌, ◌++◌, length, Option, Some, None, is_some, refl, sym, ap, ◌∙◌, subst, arith, inl, inr, add_assoc, append_assoc, append-nil, length-append}
 use Rattle.std.specs.Prelude.{slice_set}
 use Rattle.std.proofs.Math.Seq.{set-append_seam}
 use Rattle.plan_code.specs.declared.instr.Instr.{Instr}
 use Rattle.plan_code.specs.declared.instr.Instr.TheVariants.{End, Test, Jump, Set, Loop}
 use Rattle.plan_code.specs.declared.instr.Line.{Line}
 use Rattle.plan_code.specs.declared.plan.Plan.{Plan}
+use Rattle.plan_flow.specs.declared.cause.Cause.{Cause}
 use Rattle.plan_flow.specs.Flows.{known_at, moved}
 use Rattle.plan_flow.specs.Rules.{IsFine}
 use Rattle.script_front.specs.declared.tree.Act.{Act}
@@ -13,6 +14,7 @@ use Rattle.script_front.specs.Block.{Block, nothing, basic, stop, when, either, 
 use Rattle.script_scheme.specs.declared.flow.Spot.{Spot}
 use Rattle.script_scheme.specs.Scheme.{Place, past, at_label, meet, join, onward, head, spot_after, place_of_instr, alone, places, mark_of, marks_of, instr_of_act, falls_out}
 use Rattle.script_scheme.specs.Judged.{IsJudged, Reached, WaysAgree, BranchesAgree, ComesRound}
+use Rattle.script_scheme.specs.Refused.{IsRefusedIn, IsRefusedAfter}
 use Rattle.script_scheme.specs.Compiled.{lines_of_places, nested}
 use Rattle.script_compiler.specs.declared.work.Work.{Work}
 use Rattle.script_compiler.specs.Laying.{Lays, Left, Forks, ClosesIf, Turns, GoesRound, IsAfterBranches, aimed_at, line_of_instr, way, spots_of}
@@ -61,6 +63,7 @@ left_start plan r b w = record {
   leads = refl;
   judged = λ h. h;
   only = λ h. h;
+  fails = λ at given h. h;
   repeats = λ h. h;
   fewer = omega arith;
 }
@@ -73,6 +76,7 @@ left_then plan r b c d u v w f h k = record {
   leads = h.leads ∙ k.leads;
   judged = λ j. h.judged (k.judged j);
   only = λ j. k.only (h.only j);
+  fails = λ at given j. h.fails at given (k.fails at given j);
   repeats = λ n. h.repeats (k.repeats n);
   fewer = omega (arith, h.fewer, k.fewer);
 }
@@ -90,6 +94,7 @@ left_act plan r line a rest v w l e fine =
       leads = ap (λ s. spot_after plan rest s) (sym e);
       judged = λ j. (fine, subst (λ s. IsJudged plan rest s) e j);
       only = λ j. subst (λ s. IsJudged plan rest s) (sym e) j.1;
+      fails = λ at given j. inr (fine, subst (λ s. IsRefusedIn plan rest s at given) e j);
       repeats = λ h. h;
       fewer = omega arith;
     }
@@ -102,6 +107,7 @@ left_stop plan r line rest v w l = record {
   leads = refl;
   judged = λ j. j;
   only = λ j. j;
+  fails = λ at given j. j;
   repeats = λ h. h;
   fewer = omega arith;
 }
@@ -180,6 +186,7 @@ module _ (plan : Plan) (r line : ℕ) (c : ℕ) (first rest : Block) (w0 w2 w3 w
         leads = ap (λ w. onward w None (λ u. spot_after plan rest u)) met;
         judged = λ j. (h.judged, agree, subst (λ w. Reached w rest (λ u. IsJudged plan rest u)) (sym met) j);
         only = λ j. subst (λ w. Reached w rest (λ u. IsJudged plan rest u)) met j.2;
+        fails = λ at given j. inr (h.judged, inr (agree, subst (λ w. IsRefusedAfter w rest (λ u. IsRefusedIn plan rest u at given) at given) (sym met) j));
         repeats = λ n. let k = h.repeats deep in omega (arith, n, k);
         fewer = omega arith;
       }
@@ -281,6 +288,7 @@ module _ (plan : Plan) (r line : ℕ) (c : ℕ) (first second rest : Block) (w0 
         leads = ap (λ w. onward w None (λ u. spot_after plan rest u)) joins;
         judged = λ j. (h.judged, h2.judged, agree, subst (λ w. Reached w rest (λ u. IsJudged plan rest u)) (sym joins) j);
         only = λ j. subst (λ w. Reached w rest (λ u. IsJudged plan rest u)) joins j.3;
+        fails = λ at given j. inr (h.judged, inr (h2.judged, inr (agree, subst (λ w. IsRefusedAfter w rest (λ u. IsRefusedIn plan rest u at given) at given) (sym joins) j)));
         repeats = λ n. let k = h.repeats deep in let k2 = h2.repeats deep in omega (arith, n, k, k2);
         fewer = omega arith;
       }
@@ -303,6 +311,10 @@ loop_reached plan rest false v w e j = j
 loop_reached_back : (plan : Plan) (rest : Block) (f : Bool) (v w : Work) → w.now ≡ (if f then past v.now.flow else v.now) → Reached (way f v) rest (λ u. IsJudged plan rest (past u.flow)) → Reached (way f w) rest (λ u. IsJudged plan rest u)
 loop_reached_back plan rest true v w e j = subst (λ s. IsJudged plan rest s) (sym e) j
 loop_reached_back plan rest false v w e j = j
+
+loop_fails : (plan : Plan) (rest : Block) (at : ℕ) (given : Cause) (f : Bool) (v w : Work) → w.now ≡ (if f then past v.now.flow else v.now) → IsRefusedAfter (way f w) rest (λ u. IsRefusedIn plan rest u at given) at given → IsRefusedAfter (way f v) rest (λ u. IsRefusedIn plan rest (past u.flow) at given) at given
+loop_fails plan rest at given true v w e j = subst (λ s. IsRefusedIn plan rest s at given) e j
+loop_fails plan rest at given false v w e j = j
 
 module _ (plan : Plan) (r line n : ℕ) (body rest : Block) (w0 w1 w2 w3 w4 : Work) (f : Bool) where
   pub left_repeat :
@@ -344,6 +356,7 @@ module _ (plan : Plan) (r line n : ℕ) (body rest : Block) (w0 w1 w2 w3 w4 : Wo
         leads = ap (λ w. onward w None (λ u. spot_after plan rest (past u.flow))) h.leads ∙ loop_leads plan rest f w3 w4 g.now;
         judged = λ j. (h.judged, round, subst (λ w. Reached w rest (λ u. IsJudged plan rest (past u.flow))) (sym h.leads) (loop_reached plan rest f w3 w4 g.now j));
         only = λ j. loop_reached_back plan rest f w3 w4 g.now (subst (λ w. Reached w rest (λ u. IsJudged plan rest (past u.flow))) h.leads j.2);
+        fails = λ at given j. inr (h.judged, inr (round, subst (λ w. IsRefusedAfter w rest (λ u. IsRefusedIn plan rest (past u.flow) at given) at given) (sym h.leads) (loop_fails plan rest at given f w3 w4 g.now j)));
         repeats = λ m. let k = h.repeats deep in omega (arith, m, k);
         fewer = omega arith;
       }
@@ -378,6 +391,7 @@ module _ (plan : Plan) (r line : ℕ) (body rest : Block) (w0 w2 w3 w4 : Work) (
         leads = refl;
         judged = λ j. (h.judged, round, j);
         only = λ j. j.2;
+        fails = λ at given j. inr (h.judged, inr (round, j));
         repeats = λ m. let k = h.repeats deep in omega (arith, m, k);
         fewer = omega arith;
       }
@@ -396,6 +410,7 @@ left_apply plan r line number named rest v w f deep left =
       leads = ap (λ x. onward x None (λ u. spot_after plan rest u)) h.leads;
       judged = λ j. (h.judged, subst (λ x. Reached x rest (λ u. IsJudged plan rest u)) (sym h.leads) j);
       only = λ j. subst (λ x. Reached x rest (λ u. IsJudged plan rest u)) h.leads j.1;
+      fails = λ at given j. inr (h.judged, subst (λ x. IsRefusedAfter x rest (λ u. IsRefusedIn plan rest u at given) at given) (sym h.leads) j);
       repeats = λ m. let k = h.repeats deep in omega (arith, m, k);
       fewer = omega arith;
     }

@@ -4,7 +4,6 @@ mod Weight
 mod Arms
 mod Leading
 mod Laid
-mod Judging
 mod Putting
 mod Blocks
 mod Steps
@@ -14,6 +13,7 @@ mod Marking
 mod Whole
 mod Accepting
 mod Refusing
+mod Reasons
 mod Sound
 mod Connected
 mod Labelled

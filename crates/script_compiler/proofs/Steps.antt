@@ -164,6 +164,7 @@ silent_step plan r line bs s name k silent w deep e ek es lt is_silent rest =
       leads = h.leads;
       judged = λ _. h.judged;
       only = λ _. tt;
+      fails = λ at given j. absurd j;
       repeats = λ m. let n = h.flat in omega (arith, n, m);
       fewer = omega arith;
     } in

@@ -5,11 +5,13 @@ use Rattle.plan_code.specs.declared.plan.Plan.{Plan}
 use Rattle.plan_code.specs.declared.instr.Instr.{Instr}
 use Rattle.plan_code.specs.declared.instr.Instr.TheVariants.{Jump, Test}
 use Rattle.plan_code.specs.declared.instr.Line.{Line}
+use Rattle.plan_flow.specs.declared.cause.Cause.{Cause}
 use Rattle.script_front.specs.declared.tree.Statement.{Statement}
 use Rattle.script_front.specs.Block.{Block, nothing, apply, table_of}
 use Rattle.script_scheme.specs.declared.flow.Spot.{Spot}
 use Rattle.script_scheme.specs.Scheme.{Place, onward, spot_after, places, marks_of, alone, past, at_label, meet, join}
 use Rattle.script_scheme.specs.Judged.{IsJudged, Reached, WaysAgree, BranchesAgree, ComesRound}
+use Rattle.script_scheme.specs.Refused.{IsRefusedIn, IsRefusedAfter}
 use Rattle.script_scheme.specs.Compiled.{lines_of_places, nested}
 use Rattle.script_compiler.specs.declared.work.Work.{Work}
 
@@ -41,6 +43,7 @@ pub record Left (plan : Plan) (r : ℕ) (b : Block) (old new : Work) (goes_on : 
   pub leads : spot_after plan b old.now ≡ onward (way goes_on new) None (λ u. spot_after plan rest u)
   pub judged : Reached (way goes_on new) rest (λ u. IsJudged plan rest u) → IsJudged plan b old.now
   pub only : IsJudged plan b old.now → Reached (way goes_on new) rest (λ u. IsJudged plan rest u)
+  pub fails : (at : ℕ) (given : Cause) → IsRefusedAfter (way goes_on new) rest (λ u. IsRefusedIn plan rest u at given) at given → IsRefusedIn plan b old.now at given
   pub repeats : r + nested rest ≤ 8 → r + nested b ≤ 8
   pub fewer : nested rest ≤ nested b
 

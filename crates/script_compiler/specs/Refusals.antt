@@ -1,4 +1,4 @@
--- Which faults refuse a script, and why. No public contract needs this to be believed.
+-- Which faults refuse a script, and why. Of this a public contract cites `IfRefused` alone.
 use Rattle.std.specs.Prelude.{◌≡◌, ℕ}
 use Rattle.plan_code.specs.declared.plan.Plan.{Plan}
 use Rattle.plan_code.specs.declared.instr.Instr.{Instr}
@@ -17,3 +17,9 @@ IsRefusal Memory = ⊥
 -- at this line, with the first cause why the instruction is refused
 abbrev pub IsRefusedAs : Plan → ℕ → Instr → Flow → CompileFault → Type 0
 IsRefusedAs plan line i t e = (cause : Cause) × (e ≡ Refused line cause) × FlowRefused plan i (known_at t) cause
+
+-- what holds of its line and its cause, where it refuses the script
+abbrev pub IfRefused : CompileFault → (ℕ → Cause → Type 0) → Type 0
+IfRefused (Refused line cause) holds = holds line cause
+IfRefused Limit holds = Unit {0}
+IfRefused Memory holds = Unit {0}

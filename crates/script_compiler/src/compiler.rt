@@ -9,7 +9,9 @@ ghost use Rattle.script_scheme.specs.Need.{IsWithinBudget};
 ghost use Rattle.mux_config.specs.Configuration.{nothing};
 ghost use Rattle.mux_config.specs.Sound.{IsSound};
 ghost use Rattle.script_compiler.specs.Laying.{tables, lays_nothing};
-ghost use Rattle.script_compiler.specs.Refusals.{IsRefusal};
+ghost use Rattle.script_scheme.specs.Refused.{IsRefusedIn, IsRefused};
+ghost use Rattle.plan_flow.specs.declared.cause.Cause.TheVariants.{Cost};
+ghost use Rattle.script_compiler.specs.Refusals.{IsRefusal, IfRefused};
 ghost use Rattle.script_compiler.specs.Space.{AreFew};
 ghost use Rattle.script_compiler.specs.declared.fault.CompileFault.TheVariants.{Limit, Memory};
 ghost use Rattle.plan_code.specs.Program.{IsProgram};
@@ -83,6 +85,8 @@ fn lay(alloc: Global, plan: &Plan, script: &Script, config: &Config) -> Result<W
     ensures repeats { IsOk result → nested (body_of script.now) ≤ 8 }
     ensures refused { IfErr result (λ e. IsRefusal e → IsJudged plan.now (body_of script.now)
         (beginning config.now) → ⊥) }
+    ensures why { IfErr result (λ e. IfRefused e (λ at given. IsRefusedIn plan.now
+        (body_of script.now) (beginning config.now) at given)) }
     ensures limited { IfErr result (λ e. e ≡ Limit → IsJudged plan.now (body_of script.now)
         (beginning config.now) → nested (body_of script.now) ≤ 8
         → AreFew (all_places plan.now script.now.last_line (body_of script.now)
@@ -127,6 +131,7 @@ fn test_costs(alloc: Global, lines: &[Line], needs: &[u16], budget: u8) -> Resul
     ensures within { IsOk result → (pc : ℕ) → slice_index needs.now pc ≤ budget }
     ensures refused { IfErr result (λ e. e ≢ Memory → (pc : ℕ) × (budget
         < slice_index needs.now pc)) }
+    ensures why { IfErr result (λ e. IfRefused e (λ at given. given ≡ Cost)) }
 {
     let Some(over) = first_over(needs, budget) else {
         return Ok(());
@@ -183,6 +188,8 @@ pub fn compile(alloc: Global, script: &Script) -> Result<Code, CompileFault>
     ensures typed { IfOk result (λ c. IsTyped c) }
     ensures plays { IfOk result (λ c. PlaysAsItReads script.now c) }
     ensures refused { IfErr result (λ e. e ≢ Memory → IsAccepted script.now → ⊥) }
+    ensures why { IfErr result (λ e. IfRefused e (λ line cause. IsRefused script.now line
+        cause)) }
 {
     let plan = plan_of(script);
     let config = built(script.items())?;

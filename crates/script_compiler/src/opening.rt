@@ -5,7 +5,11 @@ ghost use Rattle.mux_config.specs.Configuration.{nothing};
 ghost use Rattle.mux_config.specs.Edits.{changed, edit_fault};
 ghost use Rattle.mux_config.specs.Sound.{IsSound};
 ghost use Rattle.plan_flow.specs.Rules.{pages_alone};
+ghost use Rattle.plan_flow.specs.Causes.{WhereSome};
+ghost use Rattle.plan_flow.specs.declared.cause.Cause.TheVariants.{Edit as OfEdit};
 ghost use Rattle.script_scheme.specs.Compiled.{with_items, AreFine};
+ghost use Rattle.script_scheme.specs.Refused.{IsItemRefused, IsOpeningRefused};
+ghost use Rattle.script_compiler.specs.Refusals.{IfRefused};
 ghost use Rattle.script_compiler.specs.declared.fault.CompileFault.TheVariants.{Limit};
 
 use crate::fault::CompileFault;
@@ -20,6 +24,8 @@ fn add(item: &Item, config: &mut Config) -> Result<(), CompileFault>
     ensures made { OnOk result (config.new ≡ changed item.now.edit config.old) }
     ensures fine { IsOk result ↔ (edit_fault item.now.edit config.old ≡ None) }
     ensures unlimited { IfErr result (λ e. e ≢ Limit) }
+    ensures why { IfErr result (λ e. IfRefused e (λ at given. (at ≡ item.now.line)
+        × WhereSome (edit_fault item.now.edit config.old) OfEdit given)) }
 {
     if let Err(fault) = item.edit.apply(config) {
         return Err(refused(item.line, Cause::Edit(fault)));
@@ -32,6 +38,8 @@ pub(crate) fn built(items: &[Item]) -> Result<Config, CompileFault>
     ensures made { IfOk result (λ c. c ≡ with_items items.now nothing) }
     ensures fine { IsOk result ↔ AreFine items.now nothing }
     ensures unlimited { IfErr result (λ e. e ≢ Limit) }
+    ensures why { IfErr result (λ e. IfRefused e (λ at given. IsItemRefused items.now nothing at
+        given)) }
 {
     let mut config = Config::empty();
     for item in items {
@@ -47,6 +55,8 @@ pub(crate) fn test(plan: &Plan, config: &Config, line: u16) -> Result<(), Compil
     ensures fine { IsOk result ↔ (IsSound config.now × (pages_alone plan.now config.now
         ≤ plan.now.period)) }
     ensures unlimited { IfErr result (λ e. e ≢ Limit) }
+    ensures why { IfErr result (λ e. IfRefused e (λ at given. (at ≡ line)
+        × IsOpeningRefused plan.now config.now given)) }
 {
     match test_opening(plan, config) {
         Ok(()) => Ok(()),

@@ -1,11 +1,13 @@
 //! The statements of a script, laid down one after another.
 
-ghost use Rattle.std.specs.Prelude.{◌≡◌, ◌≤◌, ◌<◌, length, map, OnOk, IfOk, IfErr};
+ghost use Rattle.std.specs.Prelude.{◌≡◌, ◌≤◌, ◌<◌, List, length, map, OnOk, IfOk, IfErr};
 ghost use Rattle.script_front.specs.Block.{Block, nothing, when, either, repeat, forever, block_of, before};
 ghost use Rattle.script_scheme.specs.Scheme.{falls_out};
+ghost use Rattle.plan_flow.specs.declared.cause.Cause.TheVariants.{Table};
 ghost use Rattle.script_scheme.specs.Judged.{IsJudged};
+ghost use Rattle.script_scheme.specs.Refused.{IsRefusedIn, IsUnreached};
 ghost use Rattle.script_compiler.specs.Laying.{Left, tables, lays_nothing};
-ghost use Rattle.script_compiler.specs.Refusals.{IsRefusal};
+ghost use Rattle.script_compiler.specs.Refusals.{IsRefusal, IfRefused};
 ghost use Rattle.script_compiler.specs.Space.{HasTable, CanLay};
 ghost use Rattle.script_compiler.specs.declared.fault.CompileFault.TheVariants.{Limit};
 
@@ -18,7 +20,10 @@ use plan_flow::Cause;
 use script_front::Statement;
 
 /// The line of a statement's first token.
-fn line_of(statement: &Statement) -> u16 {
+fn line_of(statement: &Statement) -> u16
+    ensures { (table : List Block) (rest : Block) → IsUnreached
+        (before table statement.now rest) result Table }
+{
     match statement {
         Statement::Act { line, .. } => *line,
         Statement::End { line } => *line,
@@ -53,6 +58,8 @@ impl Work {
         ensures room { OnOk result (length self.new.lines.items ≤ 4096) }
         ensures refused { IfErr result (λ e. IsRefusal e → IsJudged plan.now
             (block_of (tables blocks.now) statements.now) self.old.now → ⊥) }
+        ensures why { IfErr result (λ e. IfRefused e (λ at given. IsRefusedIn plan.now
+            (block_of (tables blocks.now) statements.now) self.old.now at given)) }
         ensures table { OnOk result (HasTable self.new) }
         ensures limited { IfErr result (λ e. e ≡ Limit → CanLay plan.now counters
             (block_of (tables blocks.now) statements.now) self.old → ⊥) }
@@ -92,6 +99,8 @@ impl Work {
         ensures room { OnOk result (length self.new.lines.items ≤ 4096) }
         ensures refused { IfErr result (λ e. IsRefusal e → (rest : Block) → IsJudged plan.now
             (before (tables blocks.now) statement.now rest) self.old.now → ⊥) }
+        ensures why { IfErr result (λ e. (rest : Block) → IfRefused e (λ at given. IsRefusedIn
+            plan.now (before (tables blocks.now) statement.now rest) self.old.now at given)) }
         ensures table { OnOk result (HasTable self.new) }
         ensures limited { IfErr result (λ e. e ≡ Limit → (rest : Block) → CanLay plan.now
             counters (before (tables blocks.now) statement.now rest) self.old → ⊥) }
@@ -169,6 +178,9 @@ impl Work {
         ensures room { OnOk result (length self.new.lines.items ≤ 4096) }
         ensures refused { IfErr result (λ e. IsRefusal e → (rest : Block) → IsJudged plan.now
             (when line contact (block_of (tables blocks.now) first.now) rest) self.old.now → ⊥) }
+        ensures why { IfErr result (λ e. (rest : Block) → IfRefused e (λ at given. IsRefusedIn
+            plan.now (when line contact (block_of (tables blocks.now) first.now) rest)
+            self.old.now at given)) }
         ensures table { OnOk result (HasTable self.new) }
         ensures limited { IfErr result (λ e. e ≡ Limit → (rest : Block) → CanLay plan.now
             counters (when line contact (block_of (tables blocks.now) first.now) rest) self.old
@@ -212,6 +224,9 @@ impl Work {
         ensures refused { IfErr result (λ e. IsRefusal e → (rest : Block) → IsJudged plan.now
             (either line contact (block_of (tables blocks.now) first.now)
             (block_of (tables blocks.now) second.now) rest) self.old.now → ⊥) }
+        ensures why { IfErr result (λ e. (rest : Block) → IfRefused e (λ at given. IsRefusedIn
+            plan.now (either line contact (block_of (tables blocks.now) first.now)
+            (block_of (tables blocks.now) second.now) rest) self.old.now at given)) }
         ensures table { OnOk result (HasTable self.new) }
         ensures limited { IfErr result (λ e. e ≡ Limit → (rest : Block) → CanLay plan.now
             counters (either line contact (block_of (tables blocks.now) first.now)
@@ -260,6 +275,9 @@ impl Work {
         ensures room { OnOk result (length self.new.lines.items ≤ 4096) }
         ensures refused { IfErr result (λ e. IsRefusal e → (rest : Block) → IsJudged plan.now
             (repeat line times (block_of (tables blocks.now) body.now) rest) self.old.now → ⊥) }
+        ensures why { IfErr result (λ e. (rest : Block) → IfRefused e (λ at given. IsRefusedIn
+            plan.now (repeat line times (block_of (tables blocks.now) body.now) rest)
+            self.old.now at given)) }
         ensures table { OnOk result (HasTable self.new) }
         ensures limited { IfErr result (λ e. e ≡ Limit → (rest : Block) → CanLay plan.now
             counters (repeat line times (block_of (tables blocks.now) body.now) rest) self.old
@@ -313,6 +331,9 @@ impl Work {
         ensures room { OnOk result (length self.new.lines.items ≤ 4096) }
         ensures refused { IfErr result (λ e. IsRefusal e → (rest : Block) → IsJudged plan.now
             (forever line (block_of (tables blocks.now) body.now) rest) self.old.now → ⊥) }
+        ensures why { IfErr result (λ e. (rest : Block) → IfRefused e (λ at given. IsRefusedIn
+            plan.now (forever line (block_of (tables blocks.now) body.now) rest)
+            self.old.now at given)) }
         ensures table { OnOk result (HasTable self.new) }
         ensures limited { IfErr result (λ e. e ≡ Limit → (rest : Block) → CanLay plan.now
             counters (forever line (block_of (tables blocks.now) body.now) rest) self.old → ⊥) }

@@ -9,7 +9,9 @@ ghost use Rattle.script_scheme.specs.declared.flow.Spot.{Spot};
 ghost use Rattle.script_scheme.specs.Scheme.{Place, past, at_label, alone, onward, meet, join, marks_of, instr_of_act};
 ghost use Rattle.script_scheme.specs.Judged.{WaysAgree, BranchesAgree, ComesRound};
 ghost use Rattle.script_scheme.specs.Compiled.{lines_of_places};
-ghost use Rattle.script_compiler.specs.Refusals.{IsRefusal};
+ghost use Rattle.plan_flow.specs.Causes.{FlowRefused};
+ghost use Rattle.plan_flow.specs.declared.cause.Cause.TheVariants.{Mismatch};
+ghost use Rattle.script_compiler.specs.Refusals.{IsRefusal, IfRefused};
 ghost use Rattle.script_compiler.specs.Space.{HasSpace, HasTable, IsCovered, Covers};
 ghost use Rattle.script_compiler.specs.declared.fault.CompileFault.TheVariants.{Limit};
 ghost use Rattle.script_compiler.specs.Laying.{Lays, Forks, ClosesIf, Turns, GoesRound, IsAfterBranches, jumping, line_of_instr, way, spots_of};
@@ -144,6 +146,8 @@ impl Work {
         ensures room { OnOk result (length self.new.lines.items ≤ 4096) }
         ensures refused { IfErr result (λ e. IsRefusal e → IsFine plan.now (instr_of_act act.now)
             (known_at self.old.now.flow) → ⊥) }
+        ensures why { IfErr result (λ e. IfRefused e (λ at given. (at ≡ line) × FlowRefused
+            plan.now (instr_of_act act.now) (known_at self.old.now.flow) given)) }
         ensures table { OnOk result (HasTable self.new) }
         ensures limited { IfErr result (λ e. e ≡ Limit → (p : Place) (ps : List Place)
             → p.spot ≡ self.old.now → HasSpace self.old (p ∷ ps) → ⊥) }
@@ -298,6 +302,8 @@ impl Work {
         ensures refused { IfErr result (λ e. IsRefusal e → (front : List Spot) (entry : Spot)
             → self.old.saved.items ≡ front
             ++ entry ∷ [] → ComesRound (way falls self.old) entry → ⊥) }
+        ensures why { IfErr result (λ e. IfRefused e (λ at given. (at ≡ line)
+            × (given ≡ Mismatch))) }
         ensures table { OnOk result (HasTable self.new) }
         ensures limited { IfErr result (λ e. e ≡ Limit → (m n : ℕ) (i : Instr) (ps : List Place)
             → HasSpace self.old (onward (way falls self.old) [] (alone m i n) ++ ps) → ⊥) }
@@ -324,6 +330,8 @@ impl Work {
         ensures agree { OnOk result (WaysAgree (way falls self.old) (Some other)) }
         ensures refused { IfErr result (λ e. IsRefusal e
             → WaysAgree (way falls self.old) (Some other) → ⊥) }
+        ensures why { IfErr result (λ e. IfRefused e (λ at given. (at ≡ line)
+            × (given ≡ Mismatch))) }
         ensures table { OnOk result (HasTable self.new) }
         ensures limited { IfErr result (λ e. e ≡ Limit → (ps : List Place)
             → ((u : Spot) → meet (way falls self.old) (Some other) ≡ Some u → IsCovered u.flow ps)
@@ -361,6 +369,8 @@ impl Work {
         ensures refused { IfErr result (λ e. IsRefusal e → (front : List Spot) (entry : Spot)
             → self.old.saved.items ≡ front
             ++ entry ∷ [] → WaysAgree (way falls self.old) (Some entry) → ⊥) }
+        ensures why { IfErr result (λ e. IfRefused e (λ at given. (at ≡ line)
+            × (given ≡ Mismatch))) }
         ensures table { OnOk result (HasTable self.new) }
         ensures limited { IfErr result (λ e. e ≡ Limit → (front : List Spot) (entry : Spot)
             → self.old.saved.items ≡ front ++ entry ∷ [] → (ps : List Place)
@@ -458,6 +468,8 @@ impl Work {
             ≡ is_some a
             → self.old.saved.items ≡ front
             ++ spots_of a → BranchesAgree a (way second self.old) → ⊥) }
+        ensures why { IfErr result (λ e. IfRefused e (λ at given. (at ≡ line)
+            × (given ≡ Mismatch))) }
         ensures table { OnOk result (HasTable self.new) }
         ensures limited { IfErr result (λ e. e ≡ Limit → (front : List Spot) (a : Option Spot)
             → first ≡ is_some a → self.old.saved.items ≡ front ++ spots_of a → (ps : List Place)

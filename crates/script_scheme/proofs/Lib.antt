@@ -1,2 +1,3 @@
 pub mod OneCode
 mod Vectors
+mod VectorsOfRefusals

@@ -27,7 +27,7 @@ added_once c table a b (inl h) (inr k) = absurd (k.0 h.0)
 added_once c table a b (inr h) (inl k) = absurd (h.0 k.0)
 added_once c table a b (inr h) (inr k) = h.1 ∙ sym k.1
 
-tabled_once : (table : List Configuration) (ms : List Mark) (a b : List Configuration) → Tabled table ms a → Tabled table ms b → a ≡ b
+pub tabled_once : (table : List Configuration) (ms : List Mark) (a b : List Configuration) → Tabled table ms a → Tabled table ms b → a ≡ b
 tabled_once table [] a b h k = h ∙ sym k
 tabled_once table (m ∷ ms) a b h k =
     let one : h.0 ≡ k.0 = added_once m.flow.current table h.0 k.0 h.2 k.2 in

@@ -2,3 +2,4 @@ pub mod Scheme
 pub mod Judged
 pub mod Need
 pub mod Compiled
+pub mod Refused

@@ -1,4 +1,4 @@
-use Rattle.std.proofs.Common.{false, true, rules, ℕ, ◌<◌, ◌+◌, [], refl, sym, ap, ◌∙◌, ◌≡◌, ◌≢◌, arith, subst, get_or, List}
+use Rattle.std.proofs.Common.{false, true, rules, ℕ, ◌<◌, ◌+◌, [], refl, sym, ap, ◌∙◌, ◌≡◌, ◌≢◌, arith, subst, get_or, List, inl, inr}
 use Rattle.mux_config.specs.Configuration.{Configuration, nothing}
 use Rattle.plan_code.specs.declared.instr.Line.{Line}
 use Rattle.plan_code.specs.declared.plan.Plan.{Plan}
@@ -6,6 +6,7 @@ use Rattle.plan_code.specs.Program.{Program, IsProgram}
 use Rattle.script_front.specs.declared.tree.Item.{Item}
 use Rattle.script_scheme.specs.declared.flow.Mark.{Mark}
 use Rattle.script_scheme.specs.Scheme.{all_places, marks_of}
+use Rattle.script_scheme.specs.Judged.{IsJudged}
 use Rattle.script_scheme.specs.Need.{IsWithinBudget}
 use Rattle.script_scheme.specs.Compiled.{plan_of, with_items, opening_of, body_of, beginning, places_of, lines_of_places, instrs_of, AreFine, Tabled, AreLabelsOf, IsCodeOf, CostsItsNeeds, IsAccepted}
 use Rattle.script_compiler.specs.Longest.{longest, Priced}
@@ -15,6 +16,9 @@ use Rattle.script_compiler.specs.Room.{IsDeepAtMost}
 use Rattle.script_compiler.proofs.Deep.{accepted_deep}
 use Rattle.script_compiler.proofs.Formed.{fault_either, parts_formed}
 use Rattle.script_compiler.proofs.Making.{laid_few, laid_judged, Parts, parts_code, parts_cost, parts_accepted}
+use Rattle.script_scheme.specs.Refused.{IsItemRefused, IsOpeningRefused, IsRefusedIn, IsRefused}
+use Rattle.script_compiler.specs.Refusals.{IfRefused}
+use Rattle.script_compiler.proofs.Reasons.{refused_map, refused_but_memory, opening_fine}
 use Rattle.script_compiler.proofs.compiler.compile.Goals as goal
 
 pub returns-in_err-test_costs-clause-refused : goal.returns-in_err-test_costs-clause-refused
@@ -118,3 +122,60 @@ returns-clause-refused c =
     λ is accepted.
     let formed = parts_formed s plan config lines marks needs configs labels parts c.items.ensures.formed accepted c.in-None.ensures.configurations c.in-None.ensures.lines in
     let no : false ≡ true = c.in-None.ensures.within.1 formed in cc
+
+pub returns-in_err-config-clause-why : goal.returns-in_err-config-clause-why
+returns-in_err-config-clause-why c =
+    let s = c.args.script.now in
+    let h : IfRefused c.in_err-config.field-0.0 (λ line cause. IsRefused s line cause) = refused_map c.in_err-config.field-0.0 (λ at given k. inl (subst (λ (xs : List Item). IsItemRefused xs nothing at given) c.items.ensures.value k)) c.in_err-config.ensures.why in
+    search (rules, h)
+
+pub returns-in_err-test-clause-why : goal.returns-in_err-test-clause-why
+returns-in_err-test-clause-why c =
+    let s = c.args.script.now in
+    let plan_is : c.plan_of-plan.result ≡ plan_of s = c.plan_of-plan.ensures in
+    let config = c.in_ok-config.config in
+    let config_is : config ≡ opening_of s = c.in_ok-config.ensures.made ∙ ap (λ xs. with_items xs nothing) c.items.ensures.value in
+    let fine : AreFine s.items nothing = subst (λ (xs : List Item). AreFine xs nothing) c.items.ensures.value (c.in_ok-config.ensures.fine.0 refl) in
+    let h : IfRefused c.in_err-test.field-0.0 (λ line cause. IsRefused s line cause) = refused_map c.in_err-test.field-0.0 (λ at given k.
+    let opening : IsOpeningRefused (plan_of s) (opening_of s) given = subst (λ (p : Plan). IsOpeningRefused p (opening_of s) given) plan_is (subst (λ (x : Configuration). IsOpeningRefused c.plan_of-plan.result x given) config_is k.1) in
+    inr (fine, inl (k.0 ∙ c.begin_line.ensures, opening))) c.in_err-test.ensures.why in
+    search (rules, h)
+
+pub returns-in_err-work-clause-why : goal.returns-in_err-work-clause-why
+returns-in_err-work-clause-why c =
+    let s = c.args.script.now in
+    let plan_is : c.plan_of-plan.result ≡ plan_of s = c.plan_of-plan.ensures in
+    let config = c.in_ok-config.config in
+    let config_is : config ≡ opening_of s = c.in_ok-config.ensures.made ∙ ap (λ xs. with_items xs nothing) c.items.ensures.value in
+    let fine : AreFine s.items nothing = subst (λ (xs : List Item). AreFine xs nothing) c.items.ensures.value (c.in_ok-config.ensures.fine.0 refl) in
+    let opening = opening_fine s c.plan_of-plan.result config plan_is config_is (c.in_ok-test.ensures.fine.0 refl) in
+    let h : IfRefused c.in_err-work.field-0.0 (λ line cause. IsRefused s line cause) = refused_map c.in_err-work.field-0.0 (λ at given k.
+    let body : IsRefusedIn (plan_of s) (body_of s) (beginning (opening_of s)) at given = subst (λ (p : Plan). IsRefusedIn p (body_of s) (beginning (opening_of s)) at given) plan_is (subst (λ (x : Configuration). IsRefusedIn c.plan_of-plan.result (body_of s) (beginning x) at given) config_is k) in
+    inr (fine, inr (opening.0, opening.1, inl body))) c.in_err-work.ensures.why in
+    search (rules, h)
+
+pub returns-in_err-test_costs-clause-why : goal.returns-in_err-test_costs-clause-why
+returns-in_err-test_costs-clause-why c =
+    let s = c.args.script.now in
+    let plan = c.plan_of-plan.result in
+    let lines = c.in_ok-work.work.lines.items in
+    let needs = c.in_ok-costs.costs.items in
+    let budget = plan.budget in
+    let config = c.in_ok-config.config in
+    let plan_is : plan ≡ plan_of s = c.plan_of-plan.ensures in
+    let config_is : config ≡ opening_of s = c.in_ok-config.ensures.made ∙ ap (λ xs. with_items xs nothing) c.items.ensures.value in
+    let places_are = ap (λ (p : Plan). all_places p s.last_line (body_of s) (beginning config)) plan_is ∙ ap (λ x. all_places (plan_of s) s.last_line (body_of s) (beginning x)) config_is in
+    let lines_are : lines ≡ lines_of_places (places_of s) = c.in_ok-work.ensures.lines ∙ ap lines_of_places places_are in
+    let budget_is : budget ≡ s.header.budget = ap (λ (p : Plan). p.budget) plan_is in
+    let each : (pc : ℕ) → get_or needs pc 0 ≡ longest (instrs_of lines) (budget + 1) pc = λ pc. c.in_ok-costs.ensures pc ∙ ap (λ (ls : List Line). longest (instrs_of ls) (budget + 1) pc) c.deref.ensures.value in
+    let fine : AreFine s.items nothing = subst (λ (xs : List Item). AreFine xs nothing) c.items.ensures.value (c.in_ok-config.ensures.fine.0 refl) in
+    let opening = opening_fine s plan config plan_is config_is (c.in_ok-test.ensures.fine.0 refl) in
+    let judged : IsJudged (plan_of s) (body_of s) (beginning (opening_of s)) = subst (λ (p : Plan). IsJudged p (body_of s) (beginning (opening_of s))) plan_is (subst (λ (x : Configuration). IsJudged plan (body_of s) (beginning x)) config_is (c.in_ok-work.ensures.judged refl)) in
+    let h : IfRefused c.in_err-test_costs.field-0.0 (λ line cause. IsRefused s line cause) = refused_but_memory c.in_err-test_costs.field-0.0 (λ at given is k.
+    let over : IsWithinBudget s.header.budget (instrs_of (lines_of_places (places_of s))) → ⊥ = λ accepted.
+    let within : IsWithinBudget budget (instrs_of lines) = subst (λ b. IsWithinBudget b (instrs_of lines)) (sym budget_is) (subst (λ (ls : List Line). IsWithinBudget s.header.budget (instrs_of ls)) (sym lines_are) accepted) in
+    let past = c.in_err-test_costs.ensures.refused is in
+    let more : budget < get_or needs past.0 0 = let x = ap (λ xs. get_or xs past.0 0) c.deref-3.ensures.value in let y = past.1 in omega (arith, x, y) in
+    over_budget lines needs budget within each past.0 more in
+    inr (fine, inr (opening.0, opening.1, inr (judged, over, k)))) c.in_err-test_costs.ensures.why in
+    search (rules, h)

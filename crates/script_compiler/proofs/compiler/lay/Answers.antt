@@ -8,6 +8,9 @@ use Rattle.script_compiler.specs.Laying.{Lays, way, tables}
 use Rattle.script_compiler.specs.Space.{HasSpace}
 use Rattle.script_compiler.proofs.Whole.{laid_whole}
 use Rattle.script_compiler.proofs.Fitting.{table_none, can_whole, space_whole_end}
+use Rattle.script_scheme.specs.declared.flow.Spot.{Spot}
+use Rattle.script_scheme.specs.Refused.{IsRefusedIn}
+use Rattle.script_compiler.proofs.Reasons.{refused_map, no_refusal}
 use Rattle.script_compiler.proofs.compiler.lay.Goals as goal
 
 pub returns-in-Ok-close-clause-lines : goal.returns-in-Ok-close-clause-lines
@@ -63,3 +66,13 @@ returns-clause-limited c = λ is judged deep few.
     let same : block_of (tables c.blocks-4.result.now) c.statements.result.now ≡ body_of s = ap (λ xs. block_of (table_of [] xs) c.statements.result.now) c.blocks-4.ensures.value ∙ ap (λ xs. block_of (table_of [] s.blocks) xs) c.statements.ensures.value in
     let space = space_whole_end c.args.plan.now s.last_line (body_of s) (block_of (tables c.blocks-4.result.now) c.statements.result.now) (beginning c.args.config.now) w0 c.block.new.self c.in-Ok.falls same c.new.ensures.items c.new-2.ensures.items c.opening.ensures c.in-Ok.ensures.left few in
     c.in-Err-close.ensures.limited is (subst (λ n. HasSpace c.block.new.self (onward (way c.in-Ok.falls c.block.new.self) [] (alone n End 0))) (sym c.last_line.ensures) space)
+
+pub returns-in-Err-clause-why : goal.returns-in-Err-clause-why
+returns-in-Err-clause-why c =
+    let s = c.args.script.now in
+    let w0 : Work = record { lines = c.new.result; marks = c.new-2.result; now = c.opening.result; saved = c.new-3.result } in
+    let same : block_of (tables c.blocks-4.result.now) c.statements.result.now ≡ body_of s = ap (λ xs. block_of (table_of [] xs) c.statements.result.now) c.blocks-4.ensures.value ∙ ap (λ xs. block_of (table_of [] s.blocks) xs) c.statements.ensures.value in
+    refused_map c.in-Err.fault (λ at given k. subst (λ (x : Spot). IsRefusedIn c.args.plan.now (body_of s) x at given) c.opening.ensures (subst (λ b. IsRefusedIn c.args.plan.now b w0.now at given) same k)) c.in-Err.ensures.why
+
+pub returns-clause-why : goal.returns-clause-why
+returns-clause-why c = no_refusal c.in-Err-close.fault _ c.in-Err-close.ensures.refused

@@ -1,4 +1,4 @@
-use Rattle.std.proofs.Common.{true, subst, ◌≡◌, ◌+◌, ◌<◌, ap, sym, ◌∙◌, refl, take, length, arith}
+use Rattle.std.proofs.Common.{true, subst, ◌≡◌, ◌+◌, ◌<◌, ◌≤◌, ap, sym, ◌∙◌, refl, take, length, arith}
 use Rattle.std.proofs.lemmas.List.{length-take}
 use Rattle.script_front.specs.Block.{nothing, basic, when, either, repeat, forever, apply, named_at, before, block_of}
 use Rattle.script_scheme.specs.Scheme.{alone, falls_out}
@@ -8,7 +8,9 @@ use Rattle.plan_code.specs.declared.instr.Instr.TheVariants.{Set}
 use Rattle.script_compiler.proofs.Weight.{weight, weight_each, tables_at}
 use Rattle.script_compiler.proofs.Arms.{is_act, is_if, is_if_else, is_repeat, is_forever, is_apply}
 use Rattle.script_compiler.proofs.Steps.{ok_map, left_as, act_step, when_step, either_step, repeat_step, forever_step, block_step, told_length, told_take, silent_step, unnamed_step, apply_left}
-use Rattle.script_compiler.proofs.Refusing.{block_refused, refused_as, apply_refused}
+use Rattle.script_compiler.proofs.Refusing.{block_refused, block_unreached, refused_as, apply_refused}
+use Rattle.script_compiler.proofs.Laid.{left_start}
+use Rattle.script_compiler.proofs.Reasons.{err_two, no_refusal, why_as, act_why, apply_why, when_body_why, when_why, either_first_why, either_second_why, either_why, repeat_body_why, repeat_why, forever_body_why, forever_why, block_why, block_unreached_why}
 use Rattle.script_compiler.proofs.Arms.{is_end}
 use Rattle.script_compiler.proofs.Spaces.{err_each}
 use Rattle.script_compiler.proofs.Fitting.{limited_as, block_limited, act_limited, stop_limited, when_limited, either_limited, repeat_limited, apply_limited, can_when_first, can_when_closed, can_either_first, can_either_turned, can_either_second, can_either_closed, can_repeat_entered, can_repeat_body, can_repeat_closed, can_forever_entered, can_forever_body, can_forever_closed}
@@ -275,3 +277,136 @@ pub forever-returns-in-Err-go_round-clause-limited : goal.forever-returns-in-Err
 forever-returns-in-Err-go_round-clause-limited t c = λ is rest can.
     let body = block_of (tables c.args.blocks.now) c.args.body.now in
     can_forever_closed c.args.plan.now c.args.counters c.args.line body rest c.args.self.now c.enter.new.self c.block.new.self c.in-Ok.falls c.all_fall.result (c.all_fall.ensures (tables c.args.blocks.now) c.requires.known) c.in_default.ensures.lines c.in_default.ensures.marks c.in_default.ensures.now c.in-Ok.ensures.left (c.in-Err-go_round.ensures.limited is) can
+
+-- ---- why, and at which line
+
+pub block-returns-in-Err-clause-why : goal.block-returns-in-Err-clause-why
+block-returns-in-Err-clause-why t c =
+    block_why c.args.plan.now c.args.counters (tables c.args.blocks.now) c.args.statements.now c.loop-statement.statement-index c.statement-item.result c.args.self.now c.loop-statement.self c.loop-statement.goes_on c.in-Err.fault c.statement-item.is c.loop-statement-test.true c.if-not-goes_on.false c.loop-statement.invariant.left c.in-Err.ensures.why
+
+pub block-returns-then-not-goes_on-clause-why : goal.block-returns-then-not-goes_on-clause-why
+block-returns-then-not-goes_on-clause-why t c =
+    block_unreached_why c.args.plan.now c.args.counters (tables c.args.blocks.now) c.args.statements.now c.loop-statement.statement-index c.statement-item.result c.args.self.now c.loop-statement.self c.loop-statement.goes_on c.line_of.result c.refused.result c.refused.ensures c.statement-item.is c.loop-statement-test.true c.if-not-goes_on.true c.loop-statement.invariant.left (λ rest. c.line_of.ensures (tables c.args.blocks.now) rest)
+
+pub statement-returns-in-Act-clause-why : goal.statement-returns-in-Act-clause-why
+statement-returns-in-Act-clause-why t c =
+    let table = tables c.args.blocks.now in
+    let s = c.args.self.now.now in
+    why_as c.args.plan.now s c.act.result (λ rest. before table c.args.statement.now rest) (λ rest. basic c.in-Act.line c.in-Act.act rest) (λ rest. is_act table c.args.statement.now c.in-Act.line c.in-Act.act c.in-Act.is rest)
+    (act_why c.args.plan.now s c.act.result c.in-Act.line c.in-Act.act c.act.ensures.why)
+
+pub statement-returns-in-Err-clause-why : goal.statement-returns-in-Err-clause-why
+statement-returns-in-Err-clause-why t c = λ rest. no_refusal c.in-Err.fault _ c.in-Err.ensures.refused
+
+pub statement-returns-in-If-clause-why : goal.statement-returns-in-If-clause-why
+statement-returns-in-If-clause-why t c =
+    let table = tables c.args.blocks.now in
+    why_as c.args.plan.now c.args.self.now.now c.when.result (λ rest. before table c.args.statement.now rest) (λ rest. when c.in-If.line c.in-If.contact (block_of table c.deref.result.now) rest) (λ rest. is_if table c.args.statement.now c.in-If.line c.in-If.contact c.in-If.first c.in-If.is rest ∙ ap (λ x. when c.in-If.line c.in-If.contact (block_of table x) rest) (sym c.deref.ensures.value)) c.when.ensures.why
+
+pub statement-returns-in-IfElse-clause-why : goal.statement-returns-in-IfElse-clause-why
+statement-returns-in-IfElse-clause-why t c =
+    let table = tables c.args.blocks.now in
+    why_as c.args.plan.now c.args.self.now.now c.either.result (λ rest. before table c.args.statement.now rest) (λ rest. either c.in-IfElse.line c.in-IfElse.contact (block_of table c.deref-in-IfElse.result.now) (block_of table c.deref-in-IfElse-2.result.now) rest)
+    (λ rest. is_if_else table c.args.statement.now c.in-IfElse.line c.in-IfElse.contact c.in-IfElse.first c.in-IfElse.second c.in-IfElse.is rest ∙ ap (λ x. either c.in-IfElse.line c.in-IfElse.contact (block_of table x) (block_of table c.in-IfElse.second.items) rest) (sym c.deref-in-IfElse.ensures.value) ∙ ap (λ x. either c.in-IfElse.line c.in-IfElse.contact (block_of table c.deref-in-IfElse.result.now) (block_of table x) rest) (sym c.deref-in-IfElse-2.ensures.value)) c.either.ensures.why
+
+pub statement-returns-in-Repeat-clause-why : goal.statement-returns-in-Repeat-clause-why
+statement-returns-in-Repeat-clause-why t c =
+    let table = tables c.args.blocks.now in
+    why_as c.args.plan.now c.args.self.now.now c.repeat.result (λ rest. before table c.args.statement.now rest) (λ rest. repeat c.in-Repeat.line c.in-Repeat.times (block_of table c.deref-in-Repeat.result.now) rest) (λ rest. is_repeat table c.args.statement.now c.in-Repeat.line c.in-Repeat.times c.in-Repeat.body c.in-Repeat.is rest ∙ ap (λ x. repeat c.in-Repeat.line c.in-Repeat.times (block_of table x) rest) (sym c.deref-in-Repeat.ensures.value)) c.repeat.ensures.why
+
+pub statement-returns-in-Forever-clause-why : goal.statement-returns-in-Forever-clause-why
+statement-returns-in-Forever-clause-why t c =
+    let table = tables c.args.blocks.now in
+    why_as c.args.plan.now c.args.self.now.now c.forever.result (λ rest. before table c.args.statement.now rest) (λ rest. forever c.in-Forever.line (block_of table c.deref-in-Forever.result.now) rest) (λ rest. is_forever table c.args.statement.now c.in-Forever.line c.in-Forever.body c.in-Forever.is rest ∙ ap (λ x. forever c.in-Forever.line (block_of table x) rest) (sym c.deref-in-Forever.ensures.value)) c.forever.ensures.why
+
+pub statement-returns-else-silent-number-clause-why : goal.statement-returns-else-silent-number-clause-why
+statement-returns-else-silent-number-clause-why t c =
+    let bs = c.args.blocks.now in
+    let table = tables bs in
+    let k = c.from-number.result in
+    let lt : k < length bs = omega (arith, c.if-number-blocks.false) in
+    let at = tables_at bs k c.index-blocks-number.result c.index-blocks-number.is lt in
+    let inner = block_of (tables (take k bs)) c.deref-in-Apply.result.now in
+    why_as c.args.plan.now c.args.self.now.now c.block.result (λ rest. before table c.args.statement.now rest) (λ rest. apply c.in-Apply.line c.in-Apply.block inner rest)
+    (λ rest. is_apply table c.args.statement.now c.in-Apply.line c.in-Apply.block c.in-Apply.is rest ∙ ap (λ n. apply c.in-Apply.line c.in-Apply.block (named_at table n) rest) (sym (c.from-number.ensures ∙ c.get.ensures.value)) ∙ ap (λ b. apply c.in-Apply.line c.in-Apply.block b rest) at ∙ ap (λ x. apply c.in-Apply.line c.in-Apply.block (block_of (tables (take k bs)) x) rest) (sym c.deref-in-Apply.ensures.value))
+    (apply_why c.args.plan.now c.args.self.now.now c.block.result c.in-Apply.line c.in-Apply.block inner c.block.ensures.why)
+
+pub when-returns-in-Err-clause-why : goal.when-returns-in-Err-clause-why
+when-returns-in-Err-clause-why t c = λ rest. no_refusal c.in-Err.fault _ c.in-Err.ensures.refused
+
+pub when-returns-in-Err-block-clause-why : goal.when-returns-in-Err-block-clause-why
+when-returns-in-Err-block-clause-why t c = λ rest.
+    let first = block_of (tables c.args.blocks.now) c.args.first.now in
+    when_body_why c.args.plan.now c.args.counters c.args.line c.args.contact first rest c.args.self.now c.fork.new.self c.fork.new.self true c.in-Err-block.fault c.in_default.ensures.forks c.in-Err-block.ensures.why
+
+pub when-returns-clause-why : goal.when-returns-clause-why
+when-returns-clause-why t c =
+    let first = block_of (tables c.args.blocks.now) c.args.first.now in
+    err_two c.close_if.result (λ y h k rest. when_why c.args.plan.now c.args.counters c.args.line c.args.contact first rest c.args.self.now c.fork.new.self c.block.new.self c.in-Ok.falls y c.in_default.ensures.forks c.in-Ok.ensures.left h k) c.close_if.ensures.why c.close_if.ensures.refused
+
+pub either-returns-in-Err-clause-why : goal.either-returns-in-Err-clause-why
+either-returns-in-Err-clause-why t c = λ rest. no_refusal c.in-Err.fault _ c.in-Err.ensures.refused
+
+pub either-returns-in-Err-block-clause-why : goal.either-returns-in-Err-block-clause-why
+either-returns-in-Err-block-clause-why t c = λ rest.
+    let first = block_of (tables c.args.blocks.now) c.args.first.now in
+    let second = block_of (tables c.args.blocks.now) c.args.second.now in
+    let w = c.fork.new.self in
+    either_first_why c.args.plan.now c.args.counters c.args.line c.args.contact 0 first second rest c.args.self.now w w w w true true c.in-Err-block.fault c.in_default.ensures.forks c.in-Err-block.ensures.why
+
+pub either-returns-in-Err-turn-clause-why : goal.either-returns-in-Err-turn-clause-why
+either-returns-in-Err-turn-clause-why t c = λ rest. no_refusal c.in-Err-turn.fault _ c.in-Err-turn.ensures.refused
+
+pub either-returns-in-Err-block-2-clause-why : goal.either-returns-in-Err-block-2-clause-why
+either-returns-in-Err-block-2-clause-why t c = λ rest.
+    let first = block_of (tables c.args.blocks.now) c.args.first.now in
+    let second = block_of (tables c.args.blocks.now) c.args.second.now in
+    let w = c.turn.new.self in
+    either_second_why c.args.plan.now c.args.counters c.args.line c.args.contact c.len-at.result first second rest c.args.self.now c.fork.new.self c.block.new.self w w c.in-Ok.falls true c.in-Err-block-2.fault c.in_default.ensures.forks c.in-Ok.ensures.left c.in_default-turn.ensures.turns c.in-Err-block-2.ensures.why
+
+pub either-returns-clause-why : goal.either-returns-clause-why
+either-returns-clause-why t c =
+    let first = block_of (tables c.args.blocks.now) c.args.first.now in
+    let second = block_of (tables c.args.blocks.now) c.args.second.now in
+    err_two c.close_else.result (λ y h k rest. either_why c.args.plan.now c.args.counters c.args.line c.args.contact c.len-at.result first second rest c.args.self.now c.fork.new.self c.block.new.self c.turn.new.self c.block-2.new.self c.in-Ok.falls c.in-Ok-block.falls y c.in_default.ensures.forks c.in-Ok.ensures.left c.in_default-turn.ensures.turns c.in-Ok-block.ensures.left h k) c.close_else.ensures.why c.close_else.ensures.refused
+
+pub repeat-returns-in-Err-clause-why : goal.repeat-returns-in-Err-clause-why
+repeat-returns-in-Err-clause-why t c = λ rest. no_refusal c.in-Err.fault _ c.in-Err.ensures.refused
+
+pub repeat-returns-in-Err-enter-clause-why : goal.repeat-returns-in-Err-enter-clause-why
+repeat-returns-in-Err-enter-clause-why t c = λ rest. no_refusal c.in-Err-enter.fault _ c.in-Err-enter.ensures.refused
+
+pub repeat-returns-in-Err-block-clause-why : goal.repeat-returns-in-Err-block-clause-why
+repeat-returns-in-Err-block-clause-why t c = λ rest.
+    let body = block_of (tables c.args.blocks.now) c.args.body.now in
+    repeat_body_why c.args.plan.now c.args.counters c.args.line c.args.times body rest c.args.self.now c.put.new.self c.enter.new.self c.enter.new.self true c.all_fall.result c.in-Err-block.fault c.in_default-put.ensures.now (c.all_fall.ensures (tables c.args.blocks.now) c.requires.known) c.in_default-enter.ensures.now c.in-Err-block.ensures.why
+
+pub repeat-returns-in-Err-go_round-clause-why : goal.repeat-returns-in-Err-go_round-clause-why
+repeat-returns-in-Err-go_round-clause-why t c = λ rest.
+    let body = block_of (tables c.args.blocks.now) c.args.body.now in
+    let deep : c.args.counters + 1 ≤ 8 = (let lt : c.args.counters < 8 = c.in-Some.ensures.in_range.0 refl in omega (arith, lt)) in
+    repeat_why c.args.plan.now c.args.counters c.args.line c.args.times body rest c.args.self.now c.put.new.self c.enter.new.self c.block.new.self c.in-Ok.falls c.all_fall.result c.in-Err-go_round.fault c.in_default-put.ensures.now (c.all_fall.ensures (tables c.args.blocks.now) c.requires.known) c.in_default-enter.ensures.now c.in_default-enter.ensures.saved deep c.in-Ok.ensures.left c.in-Err-go_round.ensures.why c.in-Err-go_round.ensures.refused
+
+pub forever-returns-in-Err-clause-why : goal.forever-returns-in-Err-clause-why
+forever-returns-in-Err-clause-why t c = λ rest. no_refusal c.in-Err.fault _ c.in-Err.ensures.refused
+
+pub forever-returns-in-Err-block-clause-why : goal.forever-returns-in-Err-block-clause-why
+forever-returns-in-Err-block-clause-why t c = λ rest.
+    let body = block_of (tables c.args.blocks.now) c.args.body.now in
+    forever_body_why c.args.plan.now c.args.counters c.args.line body rest c.args.self.now c.enter.new.self c.enter.new.self true c.all_fall.result c.in-Err-block.fault (c.all_fall.ensures (tables c.args.blocks.now) c.requires.known) c.in_default.ensures.now c.in-Err-block.ensures.why
+
+pub forever-returns-in-Err-go_round-clause-why : goal.forever-returns-in-Err-go_round-clause-why
+forever-returns-in-Err-go_round-clause-why t c = λ rest.
+    let body = block_of (tables c.args.blocks.now) c.args.body.now in
+    forever_why c.args.plan.now c.args.counters c.args.line body rest c.args.self.now c.enter.new.self c.block.new.self c.in-Ok.falls c.all_fall.result c.in-Err-go_round.fault (c.all_fall.ensures (tables c.args.blocks.now) c.requires.known) c.in_default.ensures.now c.in_default.ensures.saved c.in-Ok.ensures.left c.in-Err-go_round.ensures.why c.in-Err-go_round.ensures.refused
+
+pub block-loop-statement-init : goal.block-loop-statement-init
+block-loop-statement-init t c = record {
+  left = left_start c.args.plan.now c.args.counters (block_of (tables c.args.blocks.now) c.args.statements.now) c.args.self.now;
+  room = c.requires.room;
+  table = c.requires.table;
+}
+
+pub block-returns-then-not-goes_on-clause-refused : goal.block-returns-then-not-goes_on-clause-refused
+block-returns-then-not-goes_on-clause-refused t c = λ is judged.
+    block_unreached c.args.plan.now c.args.counters (tables c.args.blocks.now) c.args.statements.now c.loop-statement.statement-index c.statement-item.result c.args.self.now c.loop-statement.self c.loop-statement.goes_on c.statement-item.is c.loop-statement-test.true c.if-not-goes_on.true c.loop-statement.invariant.left judged
