@@ -28,7 +28,7 @@ loop-preserved g c =
     let consumed = Consumes-trans _ _ _ before.stream piece before.consumed c.in_ok-advance.ensures.bytes in
     let whole : length (before.stream ++ piece) % 32 ≡ 0 = omega (arith, none, before.whole, length-append before.stream piece) in
     let count : length c.as_chunks.result.0.now ≤ 8192 = grind (arith, common_steps, same) in
-    let named = piece_named before.stream piece _ c.loop.eid c.eid_after.result before.whole fibs before.named c.eid_after.ensures in
+    let named = piece_named before.stream piece _ c.loop.eid c.eid_after-eid.result before.whole fibs before.named c.eid_after-eid.ensures in
     elim c.if-has_room.branch [
       | then-has_room w ↦ rw (w.heard-is, w.has_room-is) (record {
         stream = before.stream ++ piece;
