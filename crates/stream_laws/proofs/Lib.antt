@@ -25,5 +25,9 @@ pub mod AgreeingFrames
 pub mod Named
 pub mod TimelyFaults
 pub mod Timely
+pub mod Sorting
+pub mod NoticeFrames
+pub mod Following
+pub mod Flagging
 mod Vectors
 mod VectorsOfLaws

@@ -27,6 +27,7 @@ use Rattle.stream_laws.specs.Framing.{frames_of}
 use Rattle.stream_laws.specs.InPlace.{is_of_frame, IsInPlace}
 use Rattle.stream_laws.specs.Agreeing.{is_of_word, KeepsWord}
 use Rattle.stream_laws.specs.Times.{is_of_times, IsTimely}
+use Rattle.stream_laws.specs.Sorts.{IsFreeOf, is_of_flags}
 use Rattle.stream_laws.specs.Naming.{swap_frames, due_frames, due_after_first}
 
 -- ---- entries, FIBs and frames
@@ -134,6 +135,21 @@ timely = refl
 
 not_timely : IsTimely (whats.Fault (faults.AnnouncedTimes 2)) → ⊥
 not_timely h = absurd cc
+
+other_flags : is_of_flags (faults.Flags 1 2) ≡ true
+other_flags = refl
+
+not_of_flags : is_of_flags (faults.AnnouncedTimes 2) ≡ false
+not_of_flags = refl
+
+free_of_flags : IsFreeOf is_of_flags (whats.Fault (faults.NextHeard 2))
+free_of_flags = refl
+
+swap_is_free : IsFreeOf is_of_flags (whats.Event named_events.Swap)
+swap_is_free = tt
+
+not_free_of_flags : IsFreeOf is_of_flags (whats.Fault (faults.Flags 1 2)) → ⊥
+not_free_of_flags h = absurd cc
 
 abbrev swap_in : ℕ → Finding
 swap_in frame = record { frame = frame; count = 0; what = whats.Event named_events.Swap }

@@ -9,6 +9,7 @@ ghost use Rattle.stream_laws.specs.InPlace.{RunsAreInPlace};
 ghost use Rattle.stream_laws.specs.Keeping.{CurrentIsKept};
 ghost use Rattle.stream_laws.specs.Naming.{SwapsAreNamed};
 ghost use Rattle.stream_laws.specs.Notices.{FramesAreOfBytes};
+ghost use Rattle.stream_laws.specs.Sorts.{RunsFlagTheChange};
 ghost use Rattle.stream_laws.specs.Times.{RunsAreTimely};
 
 /// The law of the current configuration: in a stream without a fault each entry with C/N 0 agrees
@@ -112,4 +113,17 @@ pub fn announcements()
     fib_reader::laws::ensemble();
     fib_carousel::laws::pages();
     fib_carousel::laws::carried();
+}
+
+/// The law of flags: in the frames of a run of a typed code, from one with a FIG 0/0 on, the check
+/// of a stream finds at no swap flags that are not those of the change that it makes.
+pub fn flags()
+    ensures { RunsFlagTheChange }
+{
+    fib_codec::laws::one_list();
+    fib_codec::laws::spelling();
+    fib_reader::laws::ensemble();
+    fib_carousel::laws::pages();
+    fib_carousel::laws::carried();
+    mux_config::laws::changes();
 }
