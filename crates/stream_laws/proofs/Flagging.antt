@@ -60,16 +60,16 @@ pub record SwapLaws : Type 0 where
 
 -- ---- whole pictures
 
-in_first : {T : Type 0} (x : T) (xs ys : List T) → In x xs → In x (xs ++ ys)
+pub in_first : {T : Type 0} (x : T) (xs ys : List T) → In x xs → In x (xs ++ ys)
 in_first x [] ys h = absurd h
 in_first x (z ∷ zs) ys (inl same) = inl same
 in_first x (z ∷ zs) ys (inr more) = inr (in_first x zs ys more)
 
-in_second : {T : Type 0} (x : T) (xs ys : List T) → In x ys → In x (xs ++ ys)
+pub in_second : {T : Type 0} (x : T) (xs ys : List T) → In x ys → In x (xs ++ ys)
 in_second x [] ys h = h
 in_second x (z ∷ zs) ys h = inr (in_second x zs ys h)
 
-said_by : {T : Type 0} (f : T → Entry) (xs : List T) (raw : Raw) → In raw (map (λ x. raw_entry (f x)) xs) → (e : Entry) × (raw_entry e ≡ raw) × In e (map f xs)
+pub said_by : {T : Type 0} (f : T → Entry) (xs : List T) (raw : Raw) → In raw (map (λ x. raw_entry (f x)) xs) → (e : Entry) × (raw_entry e ≡ raw) × In e (map f xs)
 said_by f [] raw h = absurd h
 said_by f (x ∷ xs) raw (inl same) = (f x, same, inl refl)
 said_by f (x ∷ xs) raw (inr more) = let there = said_by f xs raw more in (there.0, there.1, inr there.2)

@@ -29,5 +29,8 @@ pub mod Sorting
 pub mod NoticeFrames
 pub mod Following
 pub mod Flagging
+pub mod LastHeard
+pub mod Ages
+pub mod Silence
 mod Vectors
 mod VectorsOfLaws

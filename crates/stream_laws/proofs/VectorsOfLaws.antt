@@ -10,6 +10,7 @@ use Rattle.fib_codec.specs.Laws.{IsByte, FibHas32Bytes}
 use Rattle.fib_codec.specs.declared.modes.Mode.TheVariants.{II}
 use Rattle.fib_reader.specs.Raw.{Raw}
 use Rattle.fib_reader.specs.Listening.{blank, identifier_of}
+use Rattle.stream_check.specs.declared.finding.EntryName.TheVariants as names
 use Rattle.stream_check.specs.declared.finding.Fault.TheVariants as faults
 use Rattle.stream_check.specs.declared.finding.Event.TheVariants as named_events
 use Rattle.stream_check.specs.declared.finding.What.TheVariants as whats
@@ -27,7 +28,7 @@ use Rattle.stream_laws.specs.Framing.{frames_of}
 use Rattle.stream_laws.specs.InPlace.{is_of_frame, IsInPlace}
 use Rattle.stream_laws.specs.Agreeing.{is_of_word, KeepsWord}
 use Rattle.stream_laws.specs.Times.{is_of_times, IsTimely}
-use Rattle.stream_laws.specs.Sorts.{IsFreeOf, is_of_flags}
+use Rattle.stream_laws.specs.Sorts.{IsFreeOf, is_of_flags, is_of_silence}
 use Rattle.stream_laws.specs.Naming.{swap_frames, due_frames, due_after_first}
 
 -- ---- entries, FIBs and frames
@@ -150,6 +151,15 @@ swap_is_free = tt
 
 not_free_of_flags : IsFreeOf is_of_flags (whats.Fault (faults.Flags 1 2)) → ⊥
 not_free_of_flags h = absurd cc
+
+silent : is_of_silence (faults.Silent (names.Sub 3)) ≡ true
+silent = refl
+
+not_silent : is_of_silence (faults.Appeared (names.Sub 3)) ≡ false
+not_silent = refl
+
+not_free_of_silence : IsFreeOf is_of_silence (whats.Fault (faults.Silent (names.Sub 3))) → ⊥
+not_free_of_silence h = absurd cc
 
 abbrev swap_in : ℕ → Finding
 swap_in frame = record { frame = frame; count = 0; what = whats.Event named_events.Swap }

@@ -1,5 +1,5 @@
 -- Findings that are free of faults of a sort.
-use Rattle.std.specs.Prelude.{◌≡◌, ℕ, ◌%◌, Bool, true, false, List, []}
+use Rattle.std.specs.Prelude.{◌≡◌, ℕ, ◌+◌, ◌*◌, ◌%◌, ◌≤◌, Bool, true, false, List, []}
 use Rattle.std.specs.List.{AllByRecursion}
 use Rattle.fib_codec.specs.Modes.{fib_count, count_step}
 use Rattle.stream_check.specs.declared.finding.Fault.{Fault}
@@ -55,3 +55,32 @@ abbrev pub RunsFlagTheChange : Type 0
 RunsFlagTheChange =
     (r : Reading) (p : Program) (s : State) (period : ℕ) (waiting events : List Event) → IsPlayed p s
     → (run p s waiting).count % count_step p.plan.mode ≡ 0 → RunIsFreeOf is_of_flags r p (run p s waiting) period events
+
+-- an entry of the current configuration that did not come in a period
+abbrev pub is_of_silence : Fault → Bool
+is_of_silence (faults.ShortFrame fibs) = false
+is_of_silence (faults.Damaged fibs) = false
+is_of_silence faults.NoEnsemble = false
+is_of_silence (faults.OtherEnsemble eid) = false
+is_of_silence (faults.Count due) = false
+is_of_silence faults.OutOfPlace = false
+is_of_silence (faults.AnnouncedAgain flags low) = false
+is_of_silence (faults.NoSwapAt low) = false
+is_of_silence faults.NextUnannounced = false
+is_of_silence (faults.Changed name) = false
+is_of_silence (faults.NextChanged name) = false
+is_of_silence (faults.Appeared name) = false
+is_of_silence (faults.AnnouncedFor low) = false
+is_of_silence (faults.AnnouncedTimes times) = false
+is_of_silence (faults.NextHeard times) = false
+is_of_silence (faults.Flags flags changes) = false
+is_of_silence (faults.Overlap a b) = false
+is_of_silence (faults.PastEnd a) = false
+is_of_silence (faults.Silent name) = true
+
+-- the law of silence: in the frames of a run, from one with a FIG 0/0 on, each entry of the current configuration comes
+-- in any frames that are at least twice the plan's period less one
+abbrev pub RunsAreNeverSilent : Type 0
+RunsAreNeverSilent =
+    (r : Reading) (p : Program) (s : State) (period : ℕ) (waiting events : List Event) → IsPlayed p s
+    → (run p s waiting).count % count_step p.plan.mode ≡ 0 → 2 * p.plan.period ≤ period + 1 → RunIsFreeOf is_of_silence r p (run p s waiting) period events

@@ -9,7 +9,7 @@ ghost use Rattle.stream_laws.specs.InPlace.{RunsAreInPlace};
 ghost use Rattle.stream_laws.specs.Keeping.{CurrentIsKept};
 ghost use Rattle.stream_laws.specs.Naming.{SwapsAreNamed};
 ghost use Rattle.stream_laws.specs.Notices.{FramesAreOfBytes};
-ghost use Rattle.stream_laws.specs.Sorts.{RunsFlagTheChange};
+ghost use Rattle.stream_laws.specs.Sorts.{RunsAreNeverSilent, RunsFlagTheChange};
 ghost use Rattle.stream_laws.specs.Times.{RunsAreTimely};
 
 /// The law of the current configuration: in a stream without a fault each entry with C/N 0 agrees
@@ -126,4 +126,17 @@ pub fn flags()
     fib_carousel::laws::pages();
     fib_carousel::laws::carried();
     mux_config::laws::changes();
+}
+
+/// The law of silence: in the frames of a run of a typed code, from one with a FIG 0/0 on, where
+/// the check of a stream asks for each entry of the current configuration in any N frames, and N is
+/// at least twice the period of the plan less one, it finds none that stayed away.
+pub fn silence()
+    ensures { RunsAreNeverSilent }
+{
+    fib_codec::laws::one_list();
+    fib_codec::laws::fib_length();
+    fib_reader::laws::ensemble();
+    fib_carousel::laws::pages();
+    fib_carousel::laws::carried();
 }
