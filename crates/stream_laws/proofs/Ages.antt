@@ -70,7 +70,7 @@ comes_round pages turn page d within top last apart (below, inl at) = (omega (ar
 comes_round pages turn page d within top last apart (below, inr at) = absurd (omega (arith, below, at))
 
 -- a frame before, it was the page in turn or one frame further off
-comes_before : (pages turn page d : ℕ) → turn < pages → page < pages → ComesIn pages (page_after pages turn) page d → (page ≡ turn) ⊎ ComesIn pages turn page (d + 1)
+pub comes_before : (pages turn page d : ℕ) → turn < pages → page < pages → ComesIn pages (page_after pages turn) page d → (page ≡ turn) ⊎ ComesIn pages turn page (d + 1)
 comes_before pages turn page d within last to = elim (same_or_not page turn) [
   | inl same ↦ inl same
   | inr apart ↦ elim (cases_lt (turn + 1) pages) [
@@ -173,7 +173,7 @@ pub record AreAged (plan : Plan) (past : List Moment) (s : State) : Type 0 where
   pub aged : (m : Marked) → Contains (facts_of s.current false) m → (page : ℕ) → page < rounds plan.mode ms → Contains (page_entries plan.mode page ms) m → (d : ℕ) → ComesIn (rounds plan.mode ms) turn page d
       → frames_ended past + d ≤ last_heard (key_of (raw_entry m.entry)) past + bound
 
-current_inside : (c n : Configuration) (b : Bool) (m : Marked) → Contains (facts_of c false) m → Contains (page_set c (cond b (Some n) None)) m
+pub current_inside : (c n : Configuration) (b : Bool) (m : Marked) → Contains (facts_of c false) m → Contains (page_set c (cond b (Some n) None)) m
 current_inside c n false m h = h
 current_inside c n true m h = Contains-append_left (facts_of c false) (facts_of n true) m h
 
@@ -233,7 +233,7 @@ pub before_of : (plan : Plan) (past : List Moment) (s : State) → IsAging plan 
 before_of plan past s (inl first) = inl first
 before_of plan past s (inr (b, g)) = inr b
 
-begun_left : (notice : ℕ) (left : Option ℕ) → is_first_noticed notice left ≡ true → left ≡ Some notice
+pub begun_left : (notice : ℕ) (left : Option ℕ) → is_first_noticed notice left ≡ true → left ≡ Some notice
 begun_left notice None e = absurd cc
 begun_left notice (Some l) e = ap (λ (k : ℕ). Some k) (eqb-true l notice e)
 
@@ -244,14 +244,14 @@ inner : (a b : ℕ) → Some a ≡ Some b → a ≡ b
 inner a b e = cc
 
 -- a notice begins: none was there before
-none_before : (plan : Plan) (count : ℕ) (before left : Option ℕ) (n m : Configuration) → LeftBy plan count before n left m → left ≡ Some plan.notice → (k : ℕ) → before ≡ Some k → k < plan.notice → ⊥
+pub none_before : (plan : Plan) (count : ℕ) (before left : Option ℕ) (n m : Configuration) → LeftBy plan count before n left m → left ≡ Some plan.notice → (k : ℕ) → before ≡ Some k → k < plan.notice → ⊥
 none_before plan count None left n m g is k e below = no_left k e
 none_before plan count (Some j) left n m g is k e below =
     let one : j ≡ plan.notice = inner j plan.notice (sym g.0 ∙ is) in
     let two : j ≡ k = inner j k e in
     omega (arith, one, two, below)
 
-left_on : (plan : Plan) (count k : ℕ) (before left : Option ℕ) (n m : Configuration) → before ≡ Some k → LeftBy plan count before n left m → left ≡ Some k
+pub left_on : (plan : Plan) (count k : ℕ) (before left : Option ℕ) (n m : Configuration) → before ≡ Some k → LeftBy plan count before n left m → left ≡ Some k
 left_on plan count k None left n m e g = absurd cc
 left_on plan count k (Some j) left n m e g = g.0 ∙ e
 

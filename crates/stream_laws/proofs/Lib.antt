@@ -32,5 +32,7 @@ pub mod Flagging
 pub mod LastHeard
 pub mod Ages
 pub mod Silence
+pub mod Settling
+pub mod Appearing
 mod Vectors
 mod VectorsOfLaws

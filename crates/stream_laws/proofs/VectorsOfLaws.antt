@@ -28,7 +28,7 @@ use Rattle.stream_laws.specs.Framing.{frames_of}
 use Rattle.stream_laws.specs.InPlace.{is_of_frame, IsInPlace}
 use Rattle.stream_laws.specs.Agreeing.{is_of_word, KeepsWord}
 use Rattle.stream_laws.specs.Times.{is_of_times, IsTimely}
-use Rattle.stream_laws.specs.Sorts.{IsFreeOf, is_of_flags, is_of_silence}
+use Rattle.stream_laws.specs.Sorts.{IsFreeOf, is_of_flags, is_of_silence, is_of_appearance}
 use Rattle.stream_laws.specs.Naming.{swap_frames, due_frames, due_after_first}
 
 -- ---- entries, FIBs and frames
@@ -160,6 +160,15 @@ not_silent = refl
 
 not_free_of_silence : IsFreeOf is_of_silence (whats.Fault (faults.Silent (names.Sub 3))) → ⊥
 not_free_of_silence h = absurd cc
+
+appeared : is_of_appearance (faults.Appeared (names.Sub 3)) ≡ true
+appeared = refl
+
+not_appeared : is_of_appearance (faults.Silent (names.Sub 3)) ≡ false
+not_appeared = refl
+
+not_free_of_appearances : IsFreeOf is_of_appearance (whats.Fault (faults.Appeared (names.Sub 3))) → ⊥
+not_free_of_appearances h = absurd cc
 
 abbrev swap_in : ℕ → Finding
 swap_in frame = record { frame = frame; count = 0; what = whats.Event named_events.Swap }

@@ -84,3 +84,32 @@ abbrev pub RunsAreNeverSilent : Type 0
 RunsAreNeverSilent =
     (r : Reading) (p : Program) (s : State) (period : ℕ) (waiting events : List Event) → IsPlayed p s
     → (run p s waiting).count % count_step p.plan.mode ≡ 0 → 2 * p.plan.period ≤ period + 1 → RunIsFreeOf is_of_silence r p (run p s waiting) period events
+
+-- an entry of the current configuration that was not known where all ought to be
+abbrev pub is_of_appearance : Fault → Bool
+is_of_appearance (faults.ShortFrame fibs) = false
+is_of_appearance (faults.Damaged fibs) = false
+is_of_appearance faults.NoEnsemble = false
+is_of_appearance (faults.OtherEnsemble eid) = false
+is_of_appearance (faults.Count due) = false
+is_of_appearance faults.OutOfPlace = false
+is_of_appearance (faults.AnnouncedAgain flags low) = false
+is_of_appearance (faults.NoSwapAt low) = false
+is_of_appearance faults.NextUnannounced = false
+is_of_appearance (faults.Changed name) = false
+is_of_appearance (faults.NextChanged name) = false
+is_of_appearance (faults.Appeared name) = true
+is_of_appearance (faults.AnnouncedFor low) = false
+is_of_appearance (faults.AnnouncedTimes times) = false
+is_of_appearance (faults.NextHeard times) = false
+is_of_appearance (faults.Flags flags changes) = false
+is_of_appearance (faults.Overlap a b) = false
+is_of_appearance (faults.PastEnd a) = false
+is_of_appearance (faults.Silent name) = false
+
+-- the law of appearances: in the frames of a run, from one with a FIG 0/0 on, each entry of the current configuration is
+-- known once it is settled, where a period is at least twice the plan's period less one
+abbrev pub RunsAreKnown : Type 0
+RunsAreKnown =
+    (r : Reading) (p : Program) (s : State) (period : ℕ) (waiting events : List Event) → IsPlayed p s
+    → (run p s waiting).count % count_step p.plan.mode ≡ 0 → 2 * p.plan.period ≤ period + 1 → RunIsFreeOf is_of_appearance r p (run p s waiting) period events

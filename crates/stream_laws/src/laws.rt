@@ -9,7 +9,7 @@ ghost use Rattle.stream_laws.specs.InPlace.{RunsAreInPlace};
 ghost use Rattle.stream_laws.specs.Keeping.{CurrentIsKept};
 ghost use Rattle.stream_laws.specs.Naming.{SwapsAreNamed};
 ghost use Rattle.stream_laws.specs.Notices.{FramesAreOfBytes};
-ghost use Rattle.stream_laws.specs.Sorts.{RunsAreNeverSilent, RunsFlagTheChange};
+ghost use Rattle.stream_laws.specs.Sorts.{RunsAreKnown, RunsAreNeverSilent, RunsFlagTheChange};
 ghost use Rattle.stream_laws.specs.Times.{RunsAreTimely};
 
 /// The law of the current configuration: in a stream without a fault each entry with C/N 0 agrees
@@ -133,6 +133,19 @@ pub fn flags()
 /// at least twice the period of the plan less one, it finds none that stayed away.
 pub fn silence()
     ensures { RunsAreNeverSilent }
+{
+    fib_codec::laws::one_list();
+    fib_codec::laws::fib_length();
+    fib_reader::laws::ensemble();
+    fib_carousel::laws::pages();
+    fib_carousel::laws::carried();
+}
+
+/// The law of appearances: in the frames of a run of a typed code, from one with a FIG 0/0 on,
+/// where N is at least twice the period of the plan less one, the check of a stream finds no entry
+/// of the current configuration that appears once that configuration is settled.
+pub fn appearances()
+    ensures { RunsAreKnown }
 {
     fib_codec::laws::one_list();
     fib_codec::laws::fib_length();
