@@ -34,5 +34,6 @@ pub mod Ages
 pub mod Silence
 pub mod Settling
 pub mod Appearing
+pub mod NoOther
 mod Vectors
 mod VectorsOfLaws

@@ -28,6 +28,7 @@ use Rattle.stream_laws.specs.Framing.{frames_of}
 use Rattle.stream_laws.specs.InPlace.{is_of_frame, IsInPlace}
 use Rattle.stream_laws.specs.Agreeing.{is_of_word, KeepsWord}
 use Rattle.stream_laws.specs.Times.{is_of_times, IsTimely}
+use Rattle.stream_laws.specs.Faults.{IsReadTooSeldom, IsEventOrSeldom}
 use Rattle.stream_laws.specs.Sorts.{IsFreeOf, is_of_flags, is_of_silence, is_of_appearance}
 use Rattle.stream_laws.specs.Naming.{swap_frames, due_frames, due_after_first}
 
@@ -169,6 +170,18 @@ not_appeared = refl
 
 not_free_of_appearances : IsFreeOf is_of_appearance (whats.Fault (faults.Appeared (names.Sub 3))) → ⊥
 not_free_of_appearances h = absurd cc
+
+read_too_seldom : IsReadTooSeldom (faults.NextHeard 2)
+read_too_seldom = tt
+
+not_too_seldom : IsReadTooSeldom (faults.AnnouncedTimes 2) → ⊥
+not_too_seldom h = h
+
+an_event : IsEventOrSeldom (whats.Event named_events.Swap)
+an_event = tt
+
+no_event : IsEventOrSeldom (whats.Fault (faults.Flags 1 2)) → ⊥
+no_event h = h
 
 abbrev swap_in : ℕ → Finding
 swap_in frame = record { frame = frame; count = 0; what = whats.Event named_events.Swap }

@@ -9,3 +9,4 @@ pub mod Agreeing
 pub mod Naming
 pub mod Times
 pub mod Sorts
+pub mod Faults

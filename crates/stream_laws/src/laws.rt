@@ -4,6 +4,7 @@
 ghost use Rattle.stream_laws.specs.Agreeing.{RunsAgree};
 ghost use Rattle.stream_laws.specs.Announcing.{SwapsAreAnnounced};
 ghost use Rattle.stream_laws.specs.Entries.{ChangesAreAnnounced};
+ghost use Rattle.stream_laws.specs.Faults.{RunsHaveNoOtherFault};
 ghost use Rattle.stream_laws.specs.Framing.{RunsAreFramed};
 ghost use Rattle.stream_laws.specs.InPlace.{RunsAreInPlace};
 ghost use Rattle.stream_laws.specs.Keeping.{CurrentIsKept};
@@ -152,4 +153,20 @@ pub fn appearances()
     fib_reader::laws::ensemble();
     fib_carousel::laws::pages();
     fib_carousel::laws::carried();
+}
+
+/// The law of faults: in the frames of a run of a typed code, from one with a FIG 0/0 on, where N
+/// is at least twice the period of the plan less one, the check of a stream finds no fault, unless
+/// it be that the next configuration could be read fewer than three times before a swap.
+pub fn faults()
+    ensures { RunsHaveNoOtherFault }
+{
+    fib_codec::laws::one_list();
+    fib_codec::laws::fib_length();
+    fib_codec::laws::spelling();
+    fib_reader::laws::ensemble();
+    fib_carousel::laws::pages();
+    fib_carousel::laws::carried();
+    mux_config::laws::changes();
+    plan_runs::laws::headline();
 }
