@@ -1,25 +1,23 @@
 -- In the frames of a run no entry of the current configuration appears once it is settled.
-use Rattle.std.proofs.Common.{◌≡◌, ℕ, ◌+◌, ◌-◌, ◌*◌, ◌<◌, ◌≤◌, ◌%◌, ◌||◌, Bool, true, false, cond, nat_le, List, [], ◌∷◌, ◌++◌, Contains, Option, Some, refl, sym, ap, ◌∙◌, subst, arith, inl, inr, ◌⊎◌}
+use Rattle.std.proofs.Common.{◌≡◌, ℕ, ◌+◌, ◌-◌, ◌*◌, ◌<◌, ◌≤◌, ◌%◌, ◌||◌, Bool, true, false, cond, nat_le, List, [], Contains, Option, Some, refl, sym, ap, ◌∙◌, subst, arith, inl, inr, ◌⊎◌}
 use Rattle.std.proofs.lemmas.Bool.{leb-true}
 use Rattle.mux_config.specs.Configuration.{Configuration}
 use Rattle.mux_entries.specs.declared.entry.Entry.{Entry}
-use Rattle.mux_entries.specs.Entries.{EnsembleInformation}
 use Rattle.mux_entries.specs.Facts.{Marked, marked, facts_of}
 use Rattle.fib_codec.specs.Heard.{IsHeardInRow}
 use Rattle.fib_codec.specs.Modes.{count_step}
 use Rattle.fib_carousel.specs.Pages.{rounds, page_after, page_entries}
 use Rattle.fib_reader.specs.Raw.{Raw, raw_entry}
-use Rattle.fib_reader.specs.Listening.{Listening, untuned, is_made}
+use Rattle.fib_reader.specs.Listening.{Listening, untuned}
 use Rattle.stream_check.specs.Frames.{Reading}
-use Rattle.stream_check.specs.History.{Item, Moment, Said, said, frame_items, is_ensemble, ensemble_of as said_ensemble, is_swap, is_cut_off, frames_ended, listening, settles_at}
+use Rattle.stream_check.specs.History.{Item, Moment, said, frame_items, is_cut_off, frames_ended, listening, settles_at}
 use Rattle.stream_check.specs.Stream.{findings_at_items, after_frame as after_read}
-use Rattle.stream_check.proofs.Members.{after_is}
 use Rattle.plan_code.specs.declared.plan.Plan.{Plan}
 use Rattle.plan_code.specs.Program.{Program}
 use Rattle.plan_code.specs.Machine.{State}
 use Rattle.plan_verifier.specs.Typing.{Known}
 use Rattle.plan_runs.specs.declared.event.Event.TheVariants.{Contact}
-use Rattle.plan_runs.specs.Frames.{is_due, is_noticed, is_first_noticed, shown, shown_bytes, frame_bytes, ensemble_of, ensemble_sent, sent_entries, sent_rounds, left_after_frame, after_frame, begins_phase}
+use Rattle.plan_runs.specs.Frames.{is_due, is_noticed, is_first_noticed, shown, shown_bytes, frame_bytes, ensemble_sent, sent_entries, sent_rounds, left_after_frame, after_frame, begins_phase}
 use Rattle.plan_runs.specs.Runs.{happens}
 use Rattle.plan_runs.proofs.Tracked.{SwapsOn, some_rounds, page_after_below, turn_is_page}
 use Rattle.plan_runs.proofs.Passing.{not_due}
@@ -28,7 +26,7 @@ use Rattle.plan_runs.proofs.Right.{pageable}
 use Rattle.plan_runs.proofs.Facts.{Holds, IsCode, airs, code_of}
 use Rattle.plan_runs.proofs.Notice.{links}
 use Rattle.plan_listeners.proofs.Knowing.{Still, knows_after}
-use Rattle.plan_listeners.proofs.Frame.{zero_or_not, RowSaid, fibs_in, frame_heard, enters, enters_swap, enters_untuned, current_shown, due_current}
+use Rattle.plan_listeners.proofs.Frame.{RowSaid, fibs_in, frame_heard, enters, enters_swap, enters_untuned, current_shown, due_current}
 use Rattle.plan_listeners.proofs.Parts.{In}
 use Rattle.plan_listeners.proofs.Pictures.{HasAll, entries_of, contains_in, in_contains, in_fact, fact_in}
 use Rattle.plan_listeners.proofs.Tuned.{Or}
@@ -36,17 +34,15 @@ use Rattle.plan_listeners.proofs.Waiting.{KnowsAt, Nothing, knows_weaker}
 use Rattle.stream_laws.specs.Sorts.{is_of_appearance, RunsAreKnown}
 use Rattle.stream_laws.proofs.Noting.{ensemble_made}
 use Rattle.stream_laws.proofs.Framing.{read_frame}
-use Rattle.stream_laws.proofs.Sending.{IsHeadOf, frame_said}
-use Rattle.stream_laws.proofs.AgreeingRuns.{IsBetween, on_air}
-use Rattle.stream_laws.proofs.AgreeingFrames.{IsBefore, agrees_by, is_sent, not_sent}
-use Rattle.stream_laws.proofs.Named.{made_where_due}
+use Rattle.stream_laws.proofs.AgreeingRuns.{IsBetween}
+use Rattle.stream_laws.proofs.AgreeingFrames.{IsBefore, agrees_by}
 use Rattle.stream_laws.proofs.Sorting.{AreFreeOf, silences_free, runs_free}
 use Rattle.stream_laws.proofs.NoticeFrames.{due_left, next_whole}
 use Rattle.stream_laws.proofs.LastHeard.{said_ended}
 use Rattle.stream_laws.proofs.Following.{Had, Follows, IsFollowing, fibs_heard, follows}
 use Rattle.stream_laws.proofs.Flagging.{follows_contact}
 use Rattle.stream_laws.proofs.Ages.{ComesIn, comes_in, comes_before, FrameLaws, current_inside, begun_left, none_before, left_on}
-use Rattle.stream_laws.proofs.Settling.{narrow, Enters, said_settles, frame_settled}
+use Rattle.stream_laws.proofs.Settling.{narrow, Enters, frame_settled, headed_settles, swap_where_due, still_settles}
 
 -- ---- which entries are known
 
@@ -79,38 +75,6 @@ pub record Settles (plan : Plan) (period : ℕ) (past : List Moment) (s : State)
 
 at_most : (a b : ℕ) → nat_le a b ≡ true → a ≤ b
 at_most a b e = leb-true a b e
-
-headed_settles : FrameLaws → (r : Reading) (period : ℕ) (p : Program) (ts : List Known) → IsCode p ts → (s : State) → Holds p ts s → (past : List Moment) → (shown p s).count % count_step p.plan.mode ≡ 0 → (b : Bool)
-    → ((h : Item) → is_ensemble h ≡ true → said_ensemble h ≡ ensemble_of p.plan (shown p s) → is_swap past h ≡ b)
-    → settles_at period (said (frame_items (read_frame r p.plan.mode (frame_bytes p s))) past) ≡ cond b (cond (is_cut_off past) (frames_ended past + period) 0) (settles_at period past)
-headed_settles laws r period p ts c s holds past on b swap =
-    let plan : Plan = p.plan in
-    let u : State = shown p s in
-    let fs = frame_said laws.one laws.heard r plan u (airs p ts c s holds) in
-    let head = subst (λ (o : Option EnsembleInformation). IsHeadOf o fs.heads) (is_sent plan u on) fs.header in
-    let items : frame_items (read_frame r plan.mode (frame_bytes p s)) ≡ head.0 ∷ fs.members = fs.are ∙ ap (λ hs. hs ++ fs.members) head.1 in
-    ap (λ is. settles_at period (said is past)) items
-    ∙ said_settles period (on_air plan u) u.current u.next fs.members (Said head.0 ∷ past) fs.sent
-    ∙ ap (λ t. cond t (cond (is_cut_off past) (frames_ended past + period) 0) (settles_at period past)) (swap head.0 head.2 head.3)
-
-swap_where_due : (p : Program) (ts : List Known) → IsCode p ts → (s : State) → Holds p ts s → (past : List Moment) → IsBetween p.plan past s → (b : Bool) → is_due s.left ≡ b → (h : Item) → is_ensemble h ≡ true
-    → said_ensemble h ≡ ensemble_of p.plan (shown p s) → is_swap past h ≡ b
-swap_where_due p ts c s holds past between b due h ens says =
-    ensemble_made past h ens ∙ ap (λ (x : Listening). is_made x.awaited (said_ensemble h)) (after_is past between.heard between.is) ∙ ap (is_made between.heard.awaited) says
-    ∙ made_where_due p ts c s holds past between ∙ due
-
-still_settles : FrameLaws → (r : Reading) (period : ℕ) (p : Program) (ts : List Known) → IsCode p ts → (s : State) → Holds p ts s → (past : List Moment) → IsBetween p.plan past s → is_due s.left ≡ false
-    → settles_at period (said (frame_items (read_frame r p.plan.mode (frame_bytes p s))) past) ≡ settles_at period past
-still_settles laws r period p ts c s holds past between due =
-    let plan : Plan = p.plan in
-    let u : State = shown p s in
-    let fs = frame_said laws.one laws.heard r plan u (airs p ts c s holds) in
-    elim (zero_or_not (u.count % count_step plan.mode)) [
-      | inl on ↦ headed_settles laws r period p ts c s holds past on false (swap_where_due p ts c s holds past between false due)
-      | inr off ↦
-          let bare : fs.heads ≡ [] = subst (λ (o : Option EnsembleInformation). IsHeadOf o fs.heads) (not_sent plan u off) fs.header in
-          ap (λ is. settles_at period (said is past)) (fs.are ∙ ap (λ hs. hs ++ fs.members) bare) ∙ said_settles period (on_air plan u) u.current u.next fs.members past fs.sent
-    ]
 
 -- ---- a frame later
 

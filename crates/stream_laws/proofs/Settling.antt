@@ -1,5 +1,5 @@
 -- Once the current configuration is settled, all its entries are known.
-use Rattle.std.proofs.Common.{◌≡◌, ℕ, ◌%◌, ◌==◌, ◌&&◌, Bool, true, false, cond, nat_le, List, [], ◌∷◌, ◌++◌, length, Option, Some, None, refl, sym, ap, ◌∙◌, subst, inl, inr}
+use Rattle.std.proofs.Common.{◌≡◌, ℕ, ◌%◌, ◌==◌, ◌&&◌, Bool, true, false, cond, nat_le, List, [], ◌∷◌, ◌++◌, length, Option, Some, None, refl, sym, ap, ◌∙◌, subst, inl, inr, ◌+◌}
 use Rattle.std.specs.List.{AllByRecursion}
 use Rattle.std.proofs.lemmas.Bool.{false≢true, eq-eqb}
 use Rattle.mux_config.specs.Configuration.{Configuration, IsConfiguration}
@@ -7,12 +7,12 @@ use Rattle.mux_config.specs.Tables.{entry_at}
 use Rattle.mux_entries.specs.Entries.{EnsembleInformation}
 use Rattle.fib_codec.specs.Modes.{count_step}
 use Rattle.fib_reader.specs.Raw.{Raw, raw_entry}
-use Rattle.fib_reader.specs.Listening.{Pictured, Listening, identifier_of, hear_entry, at_ensemble}
+use Rattle.fib_reader.specs.Listening.{Pictured, Listening, identifier_of, hear_entry, at_ensemble, is_made}
 use Rattle.stream_check.specs.declared.finding.Fault.TheVariants as faults
 use Rattle.stream_check.specs.declared.heard_table.Standing.TheVariants as standings
 use Rattle.stream_check.specs.Frames.{Reading}
 use Rattle.stream_check.specs.Standing.{agree, standing_to, standing, standing_in}
-use Rattle.stream_check.specs.History.{Item, Moment, Said, said, frame_items, is_ensemble, ensemble_of as said_ensemble, frames_ended, listening, listener_after, settles_at}
+use Rattle.stream_check.specs.History.{Item, Moment, Said, said, frame_items, is_ensemble, ensemble_of as said_ensemble, frames_ended, listening, listener_after, settles_at, is_swap, is_cut_off}
 use Rattle.stream_check.specs.Rules.{Known as Knowledge, known_of, name_of, is_absent, is_settled, ensemble_findings, member_findings, has_no_room, findings_at}
 use Rattle.stream_check.specs.Stream.{findings_at_items}
 use Rattle.stream_check.proofs.Members.{after_is, ensemble_heard, member_heard, member_settles}
@@ -20,7 +20,7 @@ use Rattle.plan_code.specs.declared.plan.Plan.{Plan}
 use Rattle.plan_code.specs.Program.{Program}
 use Rattle.plan_code.specs.Machine.{State}
 use Rattle.plan_verifier.specs.Typing.{Known}
-use Rattle.plan_runs.specs.Frames.{shown, frame_bytes, ensemble_of, ensemble_sent}
+use Rattle.plan_runs.specs.Frames.{shown, frame_bytes, ensemble_of, ensemble_sent, is_due}
 use Rattle.plan_runs.proofs.Facts.{Holds, IsCode, airs}
 use Rattle.plan_listeners.proofs.Hearing.{headed}
 use Rattle.plan_listeners.proofs.Knowing.{InFrame}
@@ -33,7 +33,9 @@ use Rattle.stream_laws.specs.Sorts.{is_of_appearance}
 use Rattle.stream_laws.proofs.Framing.{read_frame}
 use Rattle.stream_laws.proofs.Sending.{IsSentItem, IsHeadOf, frame_said}
 use Rattle.stream_laws.proofs.Agreeing.{sent_ext, one_heard}
-use Rattle.stream_laws.proofs.AgreeingRuns.{on_air}
+use Rattle.stream_laws.proofs.AgreeingRuns.{IsBetween, on_air}
+use Rattle.stream_laws.proofs.Noting.{ensemble_made}
+use Rattle.stream_laws.proofs.Named.{made_where_due}
 use Rattle.stream_laws.proofs.AgreeingFrames.{is_sent, not_sent}
 use Rattle.stream_laws.proofs.Sorting.{AreFreeOf, IsNarrow, IsSpared, free_both, free_either, head_free, member_free}
 use Rattle.stream_laws.proofs.Ages.{FrameLaws}
@@ -197,4 +199,38 @@ frame_settled laws r period p ts c s holds past C N en =
           subst (λ (is : List Item). AreFreeOf is_of_appearance (findings_at_items step period past is)) (sym items)
           (members_settled step period on_it u.current u.next a.current a.next C f.awaited fs.members past en.heard en.is known fs.sent
           (λ settled. en.whole (ap (λ t. nat_le t (frames_ended (said frame past))) settles ∙ ap (nat_le (settles_at period past)) (ended_same frame past) ∙ settled)))
+    ]
+
+-- ---- when the current configuration is settled, a frame later
+
+pub headed_settles : FrameLaws → (r : Reading) (period : ℕ) (p : Program) (ts : List Known) → IsCode p ts → (s : State) → Holds p ts s → (past : List Moment) → (shown p s).count % count_step p.plan.mode ≡ 0 → (b : Bool)
+    → ((h : Item) → is_ensemble h ≡ true → said_ensemble h ≡ ensemble_of p.plan (shown p s) → is_swap past h ≡ b)
+    → settles_at period (said (frame_items (read_frame r p.plan.mode (frame_bytes p s))) past) ≡ cond b (cond (is_cut_off past) (frames_ended past + period) 0) (settles_at period past)
+headed_settles laws r period p ts c s holds past on b swap =
+    let plan : Plan = p.plan in
+    let u : State = shown p s in
+    let fs = frame_said laws.one laws.heard r plan u (airs p ts c s holds) in
+    let head = subst (λ (o : Option EnsembleInformation). IsHeadOf o fs.heads) (is_sent plan u on) fs.header in
+    let items : frame_items (read_frame r plan.mode (frame_bytes p s)) ≡ head.0 ∷ fs.members = fs.are ∙ ap (λ hs. hs ++ fs.members) head.1 in
+    ap (λ is. settles_at period (said is past)) items
+    ∙ said_settles period (on_air plan u) u.current u.next fs.members (Said head.0 ∷ past) fs.sent
+    ∙ ap (λ t. cond t (cond (is_cut_off past) (frames_ended past + period) 0) (settles_at period past)) (swap head.0 head.2 head.3)
+
+pub swap_where_due : (p : Program) (ts : List Known) → IsCode p ts → (s : State) → Holds p ts s → (past : List Moment) → IsBetween p.plan past s → (b : Bool) → is_due s.left ≡ b → (h : Item) → is_ensemble h ≡ true
+    → said_ensemble h ≡ ensemble_of p.plan (shown p s) → is_swap past h ≡ b
+swap_where_due p ts c s holds past between b due h ens says =
+    ensemble_made past h ens ∙ ap (λ (x : Listening). is_made x.awaited (said_ensemble h)) (after_is past between.heard between.is) ∙ ap (is_made between.heard.awaited) says
+    ∙ made_where_due p ts c s holds past between ∙ due
+
+pub still_settles : FrameLaws → (r : Reading) (period : ℕ) (p : Program) (ts : List Known) → IsCode p ts → (s : State) → Holds p ts s → (past : List Moment) → IsBetween p.plan past s → is_due s.left ≡ false
+    → settles_at period (said (frame_items (read_frame r p.plan.mode (frame_bytes p s))) past) ≡ settles_at period past
+still_settles laws r period p ts c s holds past between due =
+    let plan : Plan = p.plan in
+    let u : State = shown p s in
+    let fs = frame_said laws.one laws.heard r plan u (airs p ts c s holds) in
+    elim (zero_or_not (u.count % count_step plan.mode)) [
+      | inl on ↦ headed_settles laws r period p ts c s holds past on false (swap_where_due p ts c s holds past between false due)
+      | inr off ↦
+          let bare : fs.heads ≡ [] = subst (λ (o : Option EnsembleInformation). IsHeadOf o fs.heads) (not_sent plan u off) fs.header in
+          ap (λ is. settles_at period (said is past)) (fs.are ∙ ap (λ hs. hs ++ fs.members) bare) ∙ said_settles period (on_air plan u) u.current u.next fs.members past fs.sent
     ]
