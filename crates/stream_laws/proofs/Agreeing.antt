@@ -143,7 +143,7 @@ pub sent_ext : (on : Bool) (c n : Configuration) (m : Marked) → IsSentOf on c 
 sent_ext on c n m (inl h) = no_ensemble (raw_entry m.entry) (whole_of c) (entry_is_of c m.entry h.1)
 sent_ext on c n m (inr h) = no_ensemble (raw_entry m.entry) (whole_of n) (entry_is_of n m.entry h.2)
 
-one_heard : (o : Option Listening) (a : Listening) → where_heard o (hear_marked []) ≡ Some a → o ≡ Some a
+pub one_heard : (o : Option Listening) (a : Listening) → where_heard o (hear_marked []) ≡ Some a → o ≡ Some a
 one_heard None a e = e
 one_heard (Some l) a e = e
 

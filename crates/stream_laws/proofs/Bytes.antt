@@ -156,7 +156,7 @@ figs_said first (f ∷ fs) second es bytes h e = elim (contains_cases f fs (Open
       (there.0, Contains-append_right (fig_items first f) (figs_items false fs) (item_of there.0 (is_next second) (raw_of (second % 32) (is_long second) bytes)) there.1))
 ]
 
-fibs_said : (r : Reading) (first : Bool) (fibs : List (List ℕ)) (fib : List ℕ) (figs : List Fig) (second : ℕ) (es : List (List ℕ)) (bytes : List ℕ)
+pub fibs_said : (r : Reading) (first : Bool) (fibs : List (List ℕ)) (fib : List ℕ) (figs : List Fig) (second : ℕ) (es : List (List ℕ)) (bytes : List ℕ)
     → Contains fibs fib → r.read fib ≡ Some figs → Contains figs (Open second es) → Contains es bytes
     → (b : Bool) × Contains (fibs_items first (map r.read fibs)) (item_of b (is_next second) (raw_of (second % 32) (is_long second) bytes))
 fibs_said r first [] fib figs second es bytes inside read f e = absurd (contains_none fib inside)

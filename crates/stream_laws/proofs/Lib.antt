@@ -25,5 +25,15 @@ pub mod AgreeingFrames
 pub mod Named
 pub mod TimelyFaults
 pub mod Timely
+pub mod Sorting
+pub mod NoticeFrames
+pub mod Following
+pub mod Flagging
+pub mod LastHeard
+pub mod Ages
+pub mod Silence
+pub mod Settling
+pub mod Appearing
+pub mod NoOther
 mod Vectors
 mod VectorsOfLaws

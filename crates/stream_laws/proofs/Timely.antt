@@ -63,7 +63,7 @@ said_times : (items : List Item) (past : List Moment) → HasNone items → time
 said_times [] past none = refl
 said_times (i ∷ is) past none = said_times is (Said i ∷ past) none.1 ∙ sym (member_times past i none.0)
 
-said_cut : (items : List Item) (past : List Moment) → HasNone items → is_cut_off (said items past) ≡ is_cut_off past
+pub said_cut : (items : List Item) (past : List Moment) → HasNone items → is_cut_off (said items past) ≡ is_cut_off past
 said_cut [] past none = refl
 said_cut (i ∷ is) past none = said_cut is (Said i ∷ past) none.1 ∙ sym (member_cut_off past i none.0)
 
@@ -100,7 +100,7 @@ no_counts k e = absurd cc
 inner : (a b : ℕ) → Some a ≡ Some b → a ≡ b
 inner a b e = cc
 
-tuned_by : (plan : Plan) (left : Option ℕ) (c n : Configuration) (count : ℕ) (l : Listening) → KnowsBy plan left c n count Nothing Nothing l → l.tuned ≡ true
+pub tuned_by : (plan : Plan) (left : Option ℕ) (c n : Configuration) (count : ℕ) (l : Listening) → KnowsBy plan left c n count Nothing Nothing l → l.tuned ≡ true
 tuned_by plan None c n count l h = h.is_tuned
 tuned_by plan (Some k) c n count l h = elim (split_le plan.notice k) [ inl late ↦ (h.outside late).is_tuned | inr below ↦ (h.inside below).knows.is_tuned ]
 
@@ -130,12 +130,12 @@ record FrameTimely (period : ℕ) (p : Program) (s : State) (past : List Moment)
   found : AreTimely (findings_at_items (count_step p.plan.mode) period past (frame_items frame))
   after : IsCounted p.plan (after_read (count_step p.plan.mode) past frame) (after_frame p s).left
 
-cut_is : (past : List Moment) (i : Item) (b : Bool) → is_ensemble i ≡ true → is_swap past i ≡ b → is_cut_off (Said i ∷ past) ≡ cond b false (cond (not (listener_after past).tuned) (is_flagged i) (is_cut_off past))
+pub cut_is : (past : List Moment) (i : Item) (b : Bool) → is_ensemble i ≡ true → is_swap past i ≡ b → is_cut_off (Said i ∷ past) ≡ cond b false (cond (not (listener_after past).tuned) (is_flagged i) (is_cut_off past))
 cut_is past i b e sw =
     ap (λ t. cond t false (cond (is_ensemble i && not (listener_after past).tuned) (is_flagged i) (is_cut_off past))) sw
     ∙ ap (λ t. cond b false (cond (t && not (listener_after past).tuned) (is_flagged i) (is_cut_off past))) e
 
-flagged_where : (plan : Plan) (u : State) → Airs plan u → (i : Item) → is_ensemble i ≡ true → said_ensemble i ≡ ensemble_of plan u → on_air plan u ≡ true → is_flagged i ≡ true
+pub flagged_where : (plan : Plan) (u : State) → Airs plan u → (i : Item) → is_ensemble i ≡ true → said_ensemble i ≡ ensemble_of plan u → on_air plan u ≡ true → is_flagged i ≡ true
 flagged_where plan u a i ens says on = ensemble_flags i ens ∙ ap has_flags says ∙ flags_on plan u a on
 
 -- of a frame by its entries

@@ -10,6 +10,7 @@ use Rattle.fib_codec.specs.Laws.{IsByte, FibHas32Bytes}
 use Rattle.fib_codec.specs.declared.modes.Mode.TheVariants.{II}
 use Rattle.fib_reader.specs.Raw.{Raw}
 use Rattle.fib_reader.specs.Listening.{blank, identifier_of}
+use Rattle.stream_check.specs.declared.finding.EntryName.TheVariants as names
 use Rattle.stream_check.specs.declared.finding.Fault.TheVariants as faults
 use Rattle.stream_check.specs.declared.finding.Event.TheVariants as named_events
 use Rattle.stream_check.specs.declared.finding.What.TheVariants as whats
@@ -27,6 +28,8 @@ use Rattle.stream_laws.specs.Framing.{frames_of}
 use Rattle.stream_laws.specs.InPlace.{is_of_frame, IsInPlace}
 use Rattle.stream_laws.specs.Agreeing.{is_of_word, KeepsWord}
 use Rattle.stream_laws.specs.Times.{is_of_times, IsTimely}
+use Rattle.stream_laws.specs.Faults.{IsReadTooSeldom, IsEventOrSeldom}
+use Rattle.stream_laws.specs.Sorts.{IsFreeOf, is_of_flags, is_of_silence, is_of_appearance}
 use Rattle.stream_laws.specs.Naming.{swap_frames, due_frames, due_after_first}
 
 -- ---- entries, FIBs and frames
@@ -134,6 +137,51 @@ timely = refl
 
 not_timely : IsTimely (whats.Fault (faults.AnnouncedTimes 2)) → ⊥
 not_timely h = absurd cc
+
+other_flags : is_of_flags (faults.Flags 1 2) ≡ true
+other_flags = refl
+
+not_of_flags : is_of_flags (faults.AnnouncedTimes 2) ≡ false
+not_of_flags = refl
+
+free_of_flags : IsFreeOf is_of_flags (whats.Fault (faults.NextHeard 2))
+free_of_flags = refl
+
+swap_is_free : IsFreeOf is_of_flags (whats.Event named_events.Swap)
+swap_is_free = tt
+
+not_free_of_flags : IsFreeOf is_of_flags (whats.Fault (faults.Flags 1 2)) → ⊥
+not_free_of_flags h = absurd cc
+
+silent : is_of_silence (faults.Silent (names.Sub 3)) ≡ true
+silent = refl
+
+not_silent : is_of_silence (faults.Appeared (names.Sub 3)) ≡ false
+not_silent = refl
+
+not_free_of_silence : IsFreeOf is_of_silence (whats.Fault (faults.Silent (names.Sub 3))) → ⊥
+not_free_of_silence h = absurd cc
+
+appeared : is_of_appearance (faults.Appeared (names.Sub 3)) ≡ true
+appeared = refl
+
+not_appeared : is_of_appearance (faults.Silent (names.Sub 3)) ≡ false
+not_appeared = refl
+
+not_free_of_appearances : IsFreeOf is_of_appearance (whats.Fault (faults.Appeared (names.Sub 3))) → ⊥
+not_free_of_appearances h = absurd cc
+
+read_too_seldom : IsReadTooSeldom (faults.NextHeard 2)
+read_too_seldom = tt
+
+not_too_seldom : IsReadTooSeldom (faults.AnnouncedTimes 2) → ⊥
+not_too_seldom h = h
+
+an_event : IsEventOrSeldom (whats.Event named_events.Swap)
+an_event = tt
+
+no_event : IsEventOrSeldom (whats.Fault (faults.Flags 1 2)) → ⊥
+no_event h = h
 
 abbrev swap_in : ℕ → Finding
 swap_in frame = record { frame = frame; count = 0; what = whats.Event named_events.Swap }

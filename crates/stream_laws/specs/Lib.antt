@@ -8,3 +8,5 @@ pub mod InPlace
 pub mod Agreeing
 pub mod Naming
 pub mod Times
+pub mod Sorts
+pub mod Faults

@@ -4,11 +4,13 @@
 ghost use Rattle.stream_laws.specs.Agreeing.{RunsAgree};
 ghost use Rattle.stream_laws.specs.Announcing.{SwapsAreAnnounced};
 ghost use Rattle.stream_laws.specs.Entries.{ChangesAreAnnounced};
+ghost use Rattle.stream_laws.specs.Faults.{RunsHaveNoOtherFault};
 ghost use Rattle.stream_laws.specs.Framing.{RunsAreFramed};
 ghost use Rattle.stream_laws.specs.InPlace.{RunsAreInPlace};
 ghost use Rattle.stream_laws.specs.Keeping.{CurrentIsKept};
 ghost use Rattle.stream_laws.specs.Naming.{SwapsAreNamed};
 ghost use Rattle.stream_laws.specs.Notices.{FramesAreOfBytes};
+ghost use Rattle.stream_laws.specs.Sorts.{RunsAreKnown, RunsAreNeverSilent, RunsFlagTheChange};
 ghost use Rattle.stream_laws.specs.Times.{RunsAreTimely};
 
 /// The law of the current configuration: in a stream without a fault each entry with C/N 0 agrees
@@ -112,4 +114,59 @@ pub fn announcements()
     fib_reader::laws::ensemble();
     fib_carousel::laws::pages();
     fib_carousel::laws::carried();
+}
+
+/// The law of flags: in the frames of a run of a typed code, from one with a FIG 0/0 on, the check
+/// of a stream finds at no swap flags that are not those of the change that it makes.
+pub fn flags()
+    ensures { RunsFlagTheChange }
+{
+    fib_codec::laws::one_list();
+    fib_codec::laws::spelling();
+    fib_reader::laws::ensemble();
+    fib_carousel::laws::pages();
+    fib_carousel::laws::carried();
+    mux_config::laws::changes();
+}
+
+/// The law of silence: in the frames of a run of a typed code, from one with a FIG 0/0 on, where
+/// the check of a stream asks for each entry of the current configuration in any N frames, and N is
+/// at least twice the period of the plan less one, it finds none that stayed away.
+pub fn silence()
+    ensures { RunsAreNeverSilent }
+{
+    fib_codec::laws::one_list();
+    fib_codec::laws::fib_length();
+    fib_reader::laws::ensemble();
+    fib_carousel::laws::pages();
+    fib_carousel::laws::carried();
+}
+
+/// The law of appearances: in the frames of a run of a typed code, from one with a FIG 0/0 on,
+/// where N is at least twice the period of the plan less one, the check of a stream finds no entry
+/// of the current configuration that appears once that configuration is settled.
+pub fn appearances()
+    ensures { RunsAreKnown }
+{
+    fib_codec::laws::one_list();
+    fib_codec::laws::fib_length();
+    fib_reader::laws::ensemble();
+    fib_carousel::laws::pages();
+    fib_carousel::laws::carried();
+}
+
+/// The law of faults: in the frames of a run of a typed code, from one with a FIG 0/0 on, where N
+/// is at least twice the period of the plan less one, the check of a stream finds no fault, unless
+/// it be that the next configuration could be read fewer than three times before a swap.
+pub fn faults()
+    ensures { RunsHaveNoOtherFault }
+{
+    fib_codec::laws::one_list();
+    fib_codec::laws::fib_length();
+    fib_codec::laws::spelling();
+    fib_reader::laws::ensemble();
+    fib_carousel::laws::pages();
+    fib_carousel::laws::carried();
+    mux_config::laws::changes();
+    plan_runs::laws::headline();
 }

@@ -1,0 +1,236 @@
+-- Once the current configuration is settled, all its entries are known.
+use Rattle.std.proofs.Common.{◌≡◌, ℕ, ◌%◌, ◌==◌, ◌&&◌, Bool, true, false, cond, nat_le, List, [], ◌∷◌, ◌++◌, length, Option, Some, None, refl, sym, ap, ◌∙◌, subst, inl, inr, ◌+◌}
+use Rattle.std.specs.List.{AllByRecursion}
+use Rattle.std.proofs.lemmas.Bool.{false≢true, eq-eqb}
+use Rattle.mux_config.specs.Configuration.{Configuration, IsConfiguration}
+use Rattle.mux_config.specs.Tables.{entry_at}
+use Rattle.mux_entries.specs.Entries.{EnsembleInformation}
+use Rattle.fib_codec.specs.Modes.{count_step}
+use Rattle.fib_reader.specs.Raw.{Raw, raw_entry}
+use Rattle.fib_reader.specs.Listening.{Pictured, Listening, identifier_of, hear_entry, at_ensemble, is_made}
+use Rattle.stream_check.specs.declared.finding.Fault.TheVariants as faults
+use Rattle.stream_check.specs.declared.heard_table.Standing.TheVariants as standings
+use Rattle.stream_check.specs.Frames.{Reading}
+use Rattle.stream_check.specs.Standing.{agree, standing_to, standing, standing_in}
+use Rattle.stream_check.specs.History.{Item, Moment, Said, said, frame_items, is_ensemble, ensemble_of as said_ensemble, frames_ended, listening, listener_after, settles_at, is_swap, is_cut_off}
+use Rattle.stream_check.specs.Rules.{Known as Knowledge, known_of, name_of, is_absent, is_settled, ensemble_findings, member_findings, has_no_room, findings_at}
+use Rattle.stream_check.specs.Stream.{findings_at_items}
+use Rattle.stream_check.proofs.Members.{after_is, ensemble_heard, member_heard, member_settles}
+use Rattle.plan_code.specs.declared.plan.Plan.{Plan}
+use Rattle.plan_code.specs.Program.{Program}
+use Rattle.plan_code.specs.Machine.{State}
+use Rattle.plan_verifier.specs.Typing.{Known}
+use Rattle.plan_runs.specs.Frames.{shown, frame_bytes, ensemble_of, ensemble_sent, is_due}
+use Rattle.plan_runs.proofs.Facts.{Holds, IsCode, airs}
+use Rattle.plan_listeners.proofs.Hearing.{headed}
+use Rattle.plan_listeners.proofs.Knowing.{InFrame}
+use Rattle.plan_listeners.proofs.Frame.{zero_or_not}
+use Rattle.plan_listeners.proofs.Parts.{In, partly, IsPart}
+use Rattle.plan_listeners.proofs.Pictures.{whole_of, IsOf, IsPartial, HasAll, entry_is_of, whole_is_set}
+use Rattle.plan_listeners.proofs.Tuned.{Tuned, Or, SaidIn, hears_entries, tuned_weaker}
+use Rattle.plan_listeners.proofs.Waiting.{Nothing}
+use Rattle.stream_laws.specs.Sorts.{is_of_appearance}
+use Rattle.stream_laws.proofs.Framing.{read_frame}
+use Rattle.stream_laws.proofs.Sending.{IsSentItem, IsHeadOf, frame_said}
+use Rattle.stream_laws.proofs.Agreeing.{sent_ext, one_heard}
+use Rattle.stream_laws.proofs.AgreeingRuns.{IsBetween, on_air}
+use Rattle.stream_laws.proofs.Noting.{ensemble_made}
+use Rattle.stream_laws.proofs.Named.{made_where_due}
+use Rattle.stream_laws.proofs.AgreeingFrames.{is_sent, not_sent}
+use Rattle.stream_laws.proofs.Sorting.{AreFreeOf, IsNarrow, IsSpared, free_both, free_either, head_free, member_free}
+use Rattle.stream_laws.proofs.Ages.{FrameLaws}
+
+-- ---- an entry that is known is not absent
+
+in_chosen : (b : Bool) (x y : Raw) (rest : List Raw) → In x rest → In x (cond b (y ∷ rest) rest)
+in_chosen true x y rest h = inr h
+in_chosen false x y rest h = h
+
+in_known : (known : ℕ → Bool) (xs : List Raw) (x : Raw) → In x xs → known (identifier_of x) ≡ true → In x (partly known xs)
+in_known known [] x h k = absurd h
+in_known known (y ∷ ys) x (inl same) k =
+    subst (λ (b : Bool). In x (cond b (y ∷ partly known ys) (partly known ys))) (sym (ap (λ (z : Raw). known (identifier_of z)) same ∙ k)) (inl same)
+in_known known (y ∷ ys) x (inr more) k = in_chosen (known (identifier_of y)) x y (partly known ys) (in_known known ys x more k)
+
+some_no_none : {X : Type 0} (x : Raw) → Some x ≡ None → X
+some_no_none x e = absurd cc
+
+not_none : (rs : List Raw) (x : Raw) → In x rs → entry_at identifier_of (identifier_of x) rs ≡ None → ⊥
+not_none [] x h e = absurd h
+not_none (y ∷ ys) x (inl same) e =
+    let here : (identifier_of y == identifier_of x) ≡ true = eq-eqb (identifier_of y) (identifier_of x) (ap identifier_of same) in
+    some_no_none y (sym (ap (λ b. cond b (Some y) (entry_at identifier_of (identifier_of x) ys)) here) ∙ e)
+not_none (y ∷ ys) x (inr more) e = elim (identifier_of y == identifier_of x) as (λ b. cond b (Some y) (entry_at identifier_of (identifier_of x) ys) ≡ None → ⊥) [
+  | true ↦ λ f. some_no_none y f
+  | false ↦ λ f. not_none ys x more f
+] e
+
+present_by : (raw : Raw) (part : List Raw) → In raw part → (found : Option Raw) → entry_at identifier_of (identifier_of raw) part ≡ found → is_absent (standing_to raw (length part) found) ≡ false
+present_by raw part h None e = absurd (not_none part raw h e)
+present_by raw part h (Some k) e = elim (agree k raw) as (λ b. is_absent (cond b standings.Same standings.Other) ≡ false) [ true ↦ refl | false ↦ refl ]
+
+present : (full : List Raw) (C : Raw → Type 0) (raw : Raw) (part : List Raw) → In raw full → IsPart full C part → C raw → is_absent (standing raw part) ≡ false
+present full C raw part inside h c =
+    let there : In raw part = subst (λ (xs : List Raw). In raw xs) (sym h.is) (in_known h.known full raw inside (h.has raw inside c)) in
+    present_by raw part there (entry_at identifier_of (identifier_of raw) part) refl
+
+pub present_in : (full : Pictured) (C : Raw → Type 0) (raw : Raw) (p : Pictured) → IsOf raw full → IsPartial full C p → C raw → is_absent (standing_in raw p) ≡ false
+present_in full C raw p (inl (ext, inside)) h c =
+    ap is_absent (ap (λ k. standing raw (cond (k == 1) p.subs (cond (k == 2) p.services p.packets))) ext) ∙ present full.subs C raw p.subs inside h.subs c
+present_in full C raw p (inr (inl (ext, inside))) h c =
+    ap is_absent (ap (λ k. standing raw (cond (k == 1) p.subs (cond (k == 2) p.services p.packets))) ext) ∙ present full.services C raw p.services inside h.services c
+present_in full C raw p (inr (inr (ext, inside))) h c =
+    ap is_absent (ap (λ k. standing raw (cond (k == 1) p.subs (cond (k == 2) p.services p.packets))) ext) ∙ present full.packets C raw p.packets inside h.packets c
+
+-- ---- the entries of a frame
+
+pub narrow : IsNarrow is_of_appearance
+narrow = record {
+  short = λ fibs. refl;
+  damaged = λ fibs. refl;
+  none = refl;
+  other = λ eid. refl;
+  count = λ due. refl;
+  place = refl;
+  again = λ flags low. refl;
+  falls = λ low. refl;
+  unannounced = refl;
+  changed = λ name. refl;
+  next_changed = λ name. refl;
+  for = λ low. refl;
+  times = λ times. refl;
+  shared = λ a b. refl;
+  past = λ a. refl;
+}
+
+and_false : (a b : Bool) → b ≡ false → (a && b) ≡ false
+and_false true b e = e
+and_false false b e = refl
+
+-- the current configuration is settled
+abbrev pub IsSettledAt : ℕ → List Moment → Type 0
+IsSettledAt period past = nat_le (settles_at period past) (frames_ended past) ≡ true
+
+pub members_settled : (step period : ℕ) (on : Bool) (c n : Configuration) → IsConfiguration c → IsConfiguration n → (C : Raw → Type 0) (awaited : Option ℕ) (items : List Item) (past : List Moment) (l : Listening)
+    → listening past ≡ Some l → Tuned on c n C Nothing awaited l → AllByRecursion (IsSentItem on c n) items → (IsSettledAt period past → HasAll c C) → AreFreeOf is_of_appearance (findings_at_items step period past items)
+members_settled step period on c n is_c is_n C awaited [] past l is h all whole = tt
+members_settled step period on c n is_c is_n C awaited (i ∷ items) past l is h all whole =
+    let s = all.0 in
+    let k : Knowledge = known_of step period past in
+    let e : is_ensemble i ≡ false = ap (λ (x : Raw). x.ext == 0) s.raw ∙ sent_ext on c n s.m s.sent in
+    let same : listener_after past ≡ l = after_is past l is in
+    let hears = hears_entries on c n C Nothing awaited (s.m ∷ []) l (whole_is_set c is_c) (whole_is_set n is_n) (s.sent, tt) h in
+    let heard : hear_entry s.m.next (raw_entry s.m.entry) l ≡ Some hears.after = one_heard (hear_entry s.m.next (raw_entry s.m.entry) l) hears.after hears.is in
+    let later : listening (Said i ∷ past) ≡ Some hears.after = member_heard past i l is ∙ ap (λ b. hear_entry b i.raw l) s.next ∙ ap (λ x. hear_entry s.m.next x l) s.raw ∙ heard in
+    let knows = tuned_weaker on c n (Or C (SaidIn false (s.m ∷ []))) C (Or Nothing (SaidIn true (s.m ∷ []))) Nothing awaited hears.after (λ x had. inl had) (λ x no_entry. absurd no_entry) hears.knows in
+    let rest = members_settled step period on c n is_c is_n C awaited items (Said i ∷ past) hears.after later knows all.1
+    (λ settled. whole (ap (λ t. nat_le t (frames_ended past)) (member_settles period past i e) ∙ settled)) in
+    let known : IsSettledAt period past → i.next ≡ false → is_absent (standing_in i.raw (listener_after past).current) ≡ false = λ settled current.
+    elim s.sent [
+      | inl sent ↦ (
+          let inside : IsOf i.raw (whole_of c) = subst (λ (x : Raw). IsOf x (whole_of c)) (sym s.raw) (entry_is_of c s.m.entry sent.1) in
+          let had : C i.raw = subst C (sym s.raw) (whole settled s.m.entry sent.1) in
+          ap (λ (x : Listening). is_absent (standing_in i.raw x.current)) same ∙ present_in (whole_of c) C i.raw l.current inside h.current had
+          )
+      | inr sent ↦ absurd (false≢true (sym current ∙ s.next ∙ sent.1))
+    ] in
+    free_either is_of_appearance (has_no_room k i) [] _ tt
+    (free_both is_of_appearance (findings_at k i) (findings_at_items step period (Said i ∷ past) items)
+    (subst (AreFreeOf is_of_appearance) (sym (ap (λ t. cond t (ensemble_findings k i.first (said_ensemble i)) (member_findings k i.next i.raw)) e))
+    (member_free is_of_appearance narrow k i.next i.raw (λ current. spared known current (is_settled k) refl)))
+    rest)
+  where
+    spared : (IsSettledAt period past → i.next ≡ false → is_absent (standing_in i.raw (listener_after past).current) ≡ false) → i.next ≡ false → (b : Bool) → is_settled (known_of step period past) ≡ b
+        → IsSpared is_of_appearance (is_absent (standing_in i.raw (listener_after past).current) && is_settled (known_of step period past)) (faults.Appeared (name_of i.raw))
+    spared known current true settled = inl (ap (λ t. t && is_settled (known_of step period past)) (known settled current))
+    spared known current false settled = inl (and_false (is_absent (standing_in i.raw (listener_after past).current)) _ settled)
+
+-- what a listener knows in the frame at hand: once settled, all
+pub record Enters (period : ℕ) (r : Reading) (p : Program) (s : State) (past : List Moment) (C N : Raw → Type 0) : Type 0 where
+  pub heard : Listening
+  pub is : listening past ≡ Some heard
+  pub entered : InFrame p.plan (shown p s) C N (headed (ensemble_sent p.plan (shown p s)) heard)
+  pub whole : IsSettledAt period (said (frame_items (read_frame r p.plan.mode (frame_bytes p s))) past) → HasAll (shown p s).current C
+
+pub said_settles : (period : ℕ) (on : Bool) (c n : Configuration) (items : List Item) (past : List Moment) → AllByRecursion (IsSentItem on c n) items → settles_at period (said items past) ≡ settles_at period past
+said_settles period on c n [] past all = refl
+said_settles period on c n (i ∷ is) past all =
+    let s = all.0 in
+    let e : is_ensemble i ≡ false = ap (λ (x : Raw). x.ext == 0) s.raw ∙ sent_ext on c n s.m s.sent in
+    said_settles period on c n is (Said i ∷ past) all.1 ∙ sym (member_settles period past i e)
+
+ended_same : (items : List Item) (past : List Moment) → frames_ended (said items past) ≡ frames_ended past
+ended_same [] past = refl
+ended_same (i ∷ is) past = ended_same is (Said i ∷ past)
+
+pub frame_settled : FrameLaws → (r : Reading) (period : ℕ) (p : Program) (ts : List Known) → IsCode p ts → (s : State) → Holds p ts s → (past : List Moment) (C N : Raw → Type 0) → Enters period r p s past C N
+    → AreFreeOf is_of_appearance (findings_at_items (count_step p.plan.mode) period past (frame_items (read_frame r p.plan.mode (frame_bytes p s))))
+frame_settled laws r period p ts c s holds past C N en =
+    let plan : Plan = p.plan in
+    let u : State = shown p s in
+    let step : ℕ = count_step plan.mode in
+    let on_it : Bool = on_air plan u in
+    let a = airs p ts c s holds in
+    let fs = frame_said laws.one laws.heard r plan u a in
+    let frame : List Item = frame_items (read_frame r plan.mode (frame_bytes p s)) in
+    elim (zero_or_not (u.count % step)) [
+      | inl on ↦
+          let head = subst (λ (o : Option EnsembleInformation). IsHeadOf o fs.heads) (is_sent plan u on) fs.header in
+          let h : Item = head.0 in
+          let items : frame ≡ h ∷ fs.members = fs.are ∙ ap (λ hs. hs ++ fs.members) head.1 in
+          let f : InFrame plan u C N (at_ensemble (ensemble_of plan u) en.heard) = subst (λ (o : Option EnsembleInformation). InFrame plan u C N (headed o en.heard)) (is_sent plan u on) en.entered in
+          let is : listening (Said h ∷ past) ≡ Some (at_ensemble (ensemble_of plan u) en.heard) = ensemble_heard past h en.heard head.2 en.is ∙ ap (λ x. Some (at_ensemble x en.heard)) head.3 in
+          let known = tuned_weaker on_it u.current u.next C C N Nothing f.awaited (at_ensemble (ensemble_of plan u) en.heard) (λ x y. y) (λ x no_entry. absurd no_entry) f.knows in
+          let k : Knowledge = known_of step period past in
+          let settles : settles_at period (said frame past) ≡ settles_at period (Said h ∷ past) = ap (λ is. settles_at period (said is past)) items ∙ said_settles period on_it u.current u.next fs.members (Said h ∷ past) fs.sent in
+          let rest = members_settled step period on_it u.current u.next a.current a.next C f.awaited fs.members (Said h ∷ past) (at_ensemble (ensemble_of plan u) en.heard) is known fs.sent
+          (λ settled. en.whole (ap (λ t. nat_le t (frames_ended (said frame past))) settles ∙ ap (nat_le (settles_at period (Said h ∷ past))) (ended_same frame past) ∙ settled)) in
+          subst (λ (is : List Item). AreFreeOf is_of_appearance (findings_at_items step period past is)) (sym items)
+          (free_either is_of_appearance (has_no_room k h) [] _ tt
+          (free_both is_of_appearance (findings_at k h) (findings_at_items step period (Said h ∷ past) fs.members)
+          (subst (AreFreeOf is_of_appearance) (sym (ap (λ t. cond t (ensemble_findings k h.first (said_ensemble h)) (member_findings k h.next h.raw)) head.2))
+          (head_free is_of_appearance narrow k h.first (said_ensemble h) (λ made. (inr refl, inr refl)))) rest))
+      | inr off ↦
+          let bare : fs.heads ≡ [] = subst (λ (o : Option EnsembleInformation). IsHeadOf o fs.heads) (not_sent plan u off) fs.header in
+          let items : frame ≡ fs.members = fs.are ∙ ap (λ hs. hs ++ fs.members) bare in
+          let f : InFrame plan u C N en.heard = subst (λ (o : Option EnsembleInformation). InFrame plan u C N (headed o en.heard)) (not_sent plan u off) en.entered in
+          let known = tuned_weaker on_it u.current u.next C C N Nothing f.awaited en.heard (λ x y. y) (λ x no_entry. absurd no_entry) f.knows in
+          let settles : settles_at period (said frame past) ≡ settles_at period past = ap (λ is. settles_at period (said is past)) items ∙ said_settles period on_it u.current u.next fs.members past fs.sent in
+          subst (λ (is : List Item). AreFreeOf is_of_appearance (findings_at_items step period past is)) (sym items)
+          (members_settled step period on_it u.current u.next a.current a.next C f.awaited fs.members past en.heard en.is known fs.sent
+          (λ settled. en.whole (ap (λ t. nat_le t (frames_ended (said frame past))) settles ∙ ap (nat_le (settles_at period past)) (ended_same frame past) ∙ settled)))
+    ]
+
+-- ---- when the current configuration is settled, a frame later
+
+pub headed_settles : FrameLaws → (r : Reading) (period : ℕ) (p : Program) (ts : List Known) → IsCode p ts → (s : State) → Holds p ts s → (past : List Moment) → (shown p s).count % count_step p.plan.mode ≡ 0 → (b : Bool)
+    → ((h : Item) → is_ensemble h ≡ true → said_ensemble h ≡ ensemble_of p.plan (shown p s) → is_swap past h ≡ b)
+    → settles_at period (said (frame_items (read_frame r p.plan.mode (frame_bytes p s))) past) ≡ cond b (cond (is_cut_off past) (frames_ended past + period) 0) (settles_at period past)
+headed_settles laws r period p ts c s holds past on b swap =
+    let plan : Plan = p.plan in
+    let u : State = shown p s in
+    let fs = frame_said laws.one laws.heard r plan u (airs p ts c s holds) in
+    let head = subst (λ (o : Option EnsembleInformation). IsHeadOf o fs.heads) (is_sent plan u on) fs.header in
+    let items : frame_items (read_frame r plan.mode (frame_bytes p s)) ≡ head.0 ∷ fs.members = fs.are ∙ ap (λ hs. hs ++ fs.members) head.1 in
+    ap (λ is. settles_at period (said is past)) items
+    ∙ said_settles period (on_air plan u) u.current u.next fs.members (Said head.0 ∷ past) fs.sent
+    ∙ ap (λ t. cond t (cond (is_cut_off past) (frames_ended past + period) 0) (settles_at period past)) (swap head.0 head.2 head.3)
+
+pub swap_where_due : (p : Program) (ts : List Known) → IsCode p ts → (s : State) → Holds p ts s → (past : List Moment) → IsBetween p.plan past s → (b : Bool) → is_due s.left ≡ b → (h : Item) → is_ensemble h ≡ true
+    → said_ensemble h ≡ ensemble_of p.plan (shown p s) → is_swap past h ≡ b
+swap_where_due p ts c s holds past between b due h ens says =
+    ensemble_made past h ens ∙ ap (λ (x : Listening). is_made x.awaited (said_ensemble h)) (after_is past between.heard between.is) ∙ ap (is_made between.heard.awaited) says
+    ∙ made_where_due p ts c s holds past between ∙ due
+
+pub still_settles : FrameLaws → (r : Reading) (period : ℕ) (p : Program) (ts : List Known) → IsCode p ts → (s : State) → Holds p ts s → (past : List Moment) → IsBetween p.plan past s → is_due s.left ≡ false
+    → settles_at period (said (frame_items (read_frame r p.plan.mode (frame_bytes p s))) past) ≡ settles_at period past
+still_settles laws r period p ts c s holds past between due =
+    let plan : Plan = p.plan in
+    let u : State = shown p s in
+    let fs = frame_said laws.one laws.heard r plan u (airs p ts c s holds) in
+    elim (zero_or_not (u.count % count_step plan.mode)) [
+      | inl on ↦ headed_settles laws r period p ts c s holds past on false (swap_where_due p ts c s holds past between false due)
+      | inr off ↦
+          let bare : fs.heads ≡ [] = subst (λ (o : Option EnsembleInformation). IsHeadOf o fs.heads) (not_sent plan u off) fs.header in
+          ap (λ is. settles_at period (said is past)) (fs.are ∙ ap (λ hs. hs ++ fs.members) bare) ∙ said_settles period (on_air plan u) u.current u.next fs.members past fs.sent
+    ]

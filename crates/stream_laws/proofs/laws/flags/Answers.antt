@@ -1,0 +1,12 @@
+use Rattle.plan_runs.proofs.Right.{PageLaws}
+use Rattle.plan_listeners.proofs.Contents.{Laws}
+use Rattle.stream_laws.proofs.Flagging.{SwapLaws, runs_flag_the_change}
+use Rattle.stream_laws.proofs.laws.flags.Goals as goal
+
+pub returns : goal.returns
+returns c =
+    let pages : PageLaws =
+    record { each = c.pages.ensures.each; pageable = c.carried.ensures.pageable; valid = c.carried.ensures.valid; heard = c.carried.ensures.heard; ensemble = c.carried.ensures.ensemble } in
+    let heard : Laws = record { pages = pages; fibs = c.pages.ensures.fibs; ensemble = c.ensemble.ensures } in
+    let laws : SwapLaws = record { one = c.one_list.ensures; heard = heard; tells = c.spelling.ensures.tells; change = c.changes.ensures } in
+    runs_flag_the_change laws
