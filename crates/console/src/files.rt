@@ -2,7 +2,8 @@
 
 ghost use Rattle.std.specs.Prelude.{◌≡◌};
 
-use std::io::{self, ErrorKind, Input, Read, Write};
+use std::fmt::Display;
+use std::io::{self, Eprint, ErrorKind, Input, Read, Write};
 use std::rt;
 
 /// Why a file can't be had.
@@ -43,6 +44,9 @@ pub trait Files {
 
     /// The file of this path, empty, to be written; what it held before is gone. `Failed` where the system refuses it.
     fn create(&mut self, path: &str) -> Result<Self::Out, FileFault>;
+
+    /// Writes a line on standard error. One that can't be written is lost.
+    fn tell<D: Display + Drop>(&mut self, line: D);
 }
 
 /// The files of the system.
@@ -80,7 +84,7 @@ impl<F: Read, I: Read> Read for Source<F, I> {
     }
 }
 
-impl<'a, R: rt::Files + Input> Files for System<'a, R> {
+impl<'a, R: rt::Files + Input + Eprint> Files for System<'a, R> {
     type In = Source<R::File, R::Reader>;
 
     type Out = R::File;
@@ -101,6 +105,10 @@ impl<'a, R: rt::Files + Input> Files for System<'a, R> {
             Ok(file) => Ok(file),
             Err(error) => Err(fault_of(&error)),
         }
+    }
+
+    fn tell<D: Display + Drop>(&mut self, line: D) {
+        let _ = self.rt.eprintln(line);
     }
 }
 

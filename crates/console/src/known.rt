@@ -5,6 +5,8 @@ ghost use Rattle.console.specs.Reading.{bytes_at};
 
 use crate::files::{FileFault, Files};
 use std::alloc::Global;
+use std::fmt::Display;
+use std::io::Write;
 
 /// A file whose bytes are known.
 #[derive(Clone, Copy)]
@@ -22,6 +24,7 @@ pub struct KnownFiles<'a> {
     alloc: Global,
     files: &'a [KnownFile<'a>],
     input: &'a [u8],
+    told: Vec<u8>,
 }
 
 impl<'a> KnownFiles<'a> {
@@ -34,7 +37,13 @@ impl<'a> KnownFiles<'a> {
             alloc,
             files,
             input,
+            told: Vec::new(alloc),
         }
+    }
+
+    /// The lines on standard error so far.
+    pub fn told(&self) -> &[u8] {
+        self.told.as_slice()
     }
 }
 
@@ -60,6 +69,10 @@ impl<'a> Files for KnownFiles<'a> {
 
     fn create(&mut self, _path: &str) -> Result<Self::Out, FileFault> {
         Ok(Vec::new(self.alloc))
+    }
+
+    fn tell<D: Display + Drop>(&mut self, line: D) {
+        let _ = writeln!(self.told, "{line}");
     }
 }
 

@@ -1,6 +1,6 @@
 //! Standard output: few writes, and none after one that failed.
 
-ghost use Rattle.std.specs.Prelude.{◌≡◌, ◌<◌, ◌≤◌, IfOk, OnOk, length, take};
+ghost use Rattle.std.specs.Prelude.{◌≡◌, ◌<◌, ◌≤◌, IfOk, OnOk, OnErr, length, take};
 ghost use Rattle.std.specs.Io.{WritesAtMost};
 ghost use Rattle.std.specs.Io.KnownBytes.{Appends, Keeps, WriteAppends};
 
@@ -77,6 +77,7 @@ impl<W: Write> Write for Output<'_, W> {
 pub fn write_out<W: Write>(bytes: &[u8], out: &mut W) -> (usize, io::Result<()>)
     ensures bound { result.0 ≤ length bytes.now }
     ensures all { OnOk result.1 (result.0 ≡ length bytes.now) }
+    ensures short { OnErr result.1 (result.0 < length bytes.now) }
     ensures taken { Appends (W.contents out.old) (W.contents out.new) (take result.0 bytes.now) }
 {
     let mut taken = 0;
