@@ -22,6 +22,8 @@ What goes in and comes out:
           FIBs of each frame to a file.
   debug   plays a plan by a file of commands, up to a line or to the next instruction, and says
           after each where the plan stands and which swaps were announced.
+  live    plays a plan over lines on standard input as they come, and writes the FIBs of each line's
+          frames to standard output before it reads the next one.
   map     reads a script, and prints or draws which capacity units each sub-channel has.
 'dabplan help COMMAND' tells more: each field, each line, an example.
 
@@ -163,7 +165,7 @@ In goes a script, the text of a plan of reconfigurations: the configuration that
 what changes when. Out comes the code file that 'verify', 'play' and 'debug' read. A script that is
 compiled gives a plan that 'verify' accepts.";
 
-pub const COMPILE_USAGE: &str = "dabplan compile <SCRIPT> <OUT>";
+pub const COMPILE_USAGE: &str = "dabplan compile <SCRIPT> <OUT> [--explain]";
 
 pub const AFTER_COMPILE: &str = "\
 A script:
@@ -193,6 +195,11 @@ The line:
                                 causes
   refused: Limit                the code would be too long
 
+With --explain a refusal is followed by what is wrong, with the objects and numbers at hand, and by
+a line 'hint:' with what mends it:
+  night.plan:7: ..              line 7 of the script; where the text is no script line and column,
+                                the line of the text and a caret under the column
+
 OUT is made last: where the script is refused it stays as it was.
 
 Example: a lower rate at night
@@ -215,7 +222,7 @@ where the plan is refused and why. An accepted plan never goes wrong, whatever t
 each configuration that it commits is sound, each swap can be announced in time and comes when it
 was announced, and no frame takes more instructions than the plan's budget.";
 
-pub const VERIFY_USAGE: &str = "dabplan verify <CODE>";
+pub const VERIFY_USAGE: &str = "dabplan verify <CODE> [--explain]";
 
 pub const AFTER_VERIFY: &str = "\
 The line:
@@ -224,6 +231,10 @@ The line:
                                 stands for no instruction
   code: Field 98                the bytes are no code file; the field that begins at byte 98,
                                 counted from 0, is out of its range
+
+With --explain a refusal is followed by what is wrong, with the objects and numbers at hand, and by
+a line 'hint:' with what mends it:
+  night.code:10: ..             what comes from line 10 of the script
 
 The causes of a refusal:
   Target         no label stands where the instruction jumps to
@@ -262,8 +273,9 @@ In go a code file, the binary form of a plan, and a text of events: frames of 24
 that are closed or opened between them. The FIBs of the frames go to OUT, one frame after
 another: three FIBs of 32 bytes, in transmission mode 3 four. One line says how many frames.";
 
-pub const PLAY_USAGE: &str =
-    "dabplan play <CODE> <EVENTS> <OUT> [--count <N>] [--day <N>] [--contacts <HHHH>]";
+pub const PLAY_USAGE: &str = "\
+dabplan play <CODE> <EVENTS> <OUT> [--count <N>] [--day <N> | --time <HH:MM:SS>]
+                           [--contacts <HHHH>]";
 
 pub const AFTER_PLAY: &str = "\
 The events, in order, with blanks, line ends and comments ('#' to the end of the line) between:
@@ -301,8 +313,9 @@ Plays a plan of reconfigurations by commands.
 In go a code file, the binary form of a plan, and a text of commands. Each command is carried out
 and answered by a line: how many frames of 24 ms it played, and where the plan stands after it.";
 
-pub const DEBUG_USAGE: &str =
-    "dabplan debug <CODE> <COMMANDS> [--count <N>] [--day <N>] [--contacts <HHHH>]";
+pub const DEBUG_USAGE: &str = "\
+dabplan debug <CODE> <COMMANDS> [--count <N>] [--day <N> | --time <HH:MM:SS>]
+                            [--contacts <HHHH>]";
 
 pub const AFTER_DEBUG: &str = "\
 The commands, in order, with blanks, line ends and comments ('#' to the end of the line) between:

@@ -3,22 +3,26 @@
 ghost use Rattle.std.specs.Prelude.{◌≡◌};
 ghost use Rattle.command_line.specs.Numbers.{mode_of_number};
 
+use crate::config_words::{self, DiffRequest, FrameScriptRequest, ListenScriptRequest};
 use crate::help;
+use crate::live_words::live;
 use crate::map_words::{MapRequest, map, map_request};
-use crate::script_words::{self, DiffRequest, FrameScriptRequest, ListenScriptRequest};
+use crate::plan_words::{
+    CompileRequest, DebugRequest, PlayRequest, VerifyRequest, compile, compile_request, debug,
+    debug_request, play, play_request, verify, verify_request,
+};
 use clap::error::ErrorKind;
 use clap::{Arg, ArgMatches, Command, value_parser};
 use console::hexadecimal::word_of;
 use fib_codec::Mode;
 use mux_config::Ensemble;
-use plan_code::Contacts;
 use std::alloc::{AllocError, Global};
 use std::convert::AsStr;
 
 /// The version of the program, as CHANGELOG.md counts.
 const VERSION: &str = "0.1.0";
 
-/// What is asked for.
+/// What is asked for, but for `live`, whose request is a [`LiveRequest`](crate::LiveRequest).
 #[derive(Drop)]
 pub enum Request<'a> {
     /// `frame`.
@@ -35,8 +39,8 @@ pub enum Request<'a> {
     Check(CheckRequest<'a>),
     /// `compile`.
     Compile(CompileRequest<'a>),
-    /// `verify`, and the path of its code file.
-    Verify(&'a str),
+    /// `verify`.
+    Verify(VerifyRequest<'a>),
     /// `play`.
     Play(PlayRequest<'a>),
     /// `debug`.
@@ -54,50 +58,6 @@ pub struct CheckRequest<'a> {
     pub mode: Mode,
     /// The number of successive frames in any of which each entry of the current configuration has to come.
     pub period: u16,
-}
-
-/// The files of `compile`.
-#[derive(Clone, Copy)]
-pub struct CompileRequest<'a> {
-    /// The path of the script.
-    pub script: &'a str,
-    /// The path of the code file that is made.
-    pub out: &'a str,
-}
-
-/// The files and options of `play`.
-#[derive(Clone, Copy)]
-pub struct PlayRequest<'a> {
-    /// The path of the code file.
-    pub code: &'a str,
-    /// The path of the event file.
-    pub events: &'a str,
-    /// The path of the file that the frames are written to.
-    pub out: &'a str,
-    /// How it starts.
-    pub start: StartOptions,
-}
-
-/// The files and options of `debug`.
-#[derive(Clone, Copy)]
-pub struct DebugRequest<'a> {
-    /// The path of the code file.
-    pub code: &'a str,
-    /// The path of the command file.
-    pub commands: &'a str,
-    /// How it starts.
-    pub start: StartOptions,
-}
-
-/// How a code starts to be played, which the code does not say.
-#[derive(Clone, Copy)]
-pub struct StartOptions {
-    /// The CIF count of the first frame.
-    pub count: u16,
-    /// The frame of the day of the first frame.
-    pub day: u32,
-    /// The contacts that are closed at first.
-    pub contacts: Contacts,
 }
 
 /// The options of `frame`.
@@ -127,6 +87,8 @@ pub enum UsageError<'a> {
         option: &'static str,
         value: &'a str,
     },
+    /// The value of `--time` is no time of the day.
+    Time(&'a str),
     /// They name no command, or lack what it needs.
     Nothing,
     /// They are no text.
@@ -151,7 +113,8 @@ impl From<AllocError> for UsageError<'_> {
     }
 }
 
-/// What these words, without the program's name, ask for.
+/// What these words, without the program's name, ask for. Words that begin with `live` are for
+/// [`live_request_of`](crate::live_request_of); here they ask for nothing.
 pub fn request_of<'a, S: AsStr>(
     alloc: Global,
     words: &'a [S],
@@ -160,7 +123,7 @@ pub fn request_of<'a, S: AsStr>(
     match matches.subcommand() {
         Some(("frame", options)) => frame_request(options),
         Some(("listen", options)) => listen_request(options),
-        Some(("diff", options)) => Ok(Request::Diff(script_words::diff_request(options)?)),
+        Some(("diff", options)) => Ok(Request::Diff(config_words::diff_request(options)?)),
         Some(("check", options)) => check_request(options),
         Some(("compile", options)) => compile_request(options),
         Some(("verify", options)) => verify_request(options),
@@ -171,7 +134,8 @@ pub fn request_of<'a, S: AsStr>(
     }
 }
 
-fn program<'a>(alloc: Global) -> Result<Command<'a>, AllocError> {
+/// The program's commands.
+pub(crate) fn program<'a>(alloc: Global) -> Result<Command<'a>, AllocError> {
     Command::new(alloc, "dabplan")
         .no_binary_name(true)
         .version(VERSION)
@@ -180,12 +144,13 @@ fn program<'a>(alloc: Global) -> Result<Command<'a>, AllocError> {
         .override_usage("dabplan <COMMAND>")
         .subcommand(frame(alloc)?)?
         .subcommand(listen(alloc)?)?
-        .subcommand(script_words::diff(alloc)?)?
+        .subcommand(config_words::diff(alloc)?)?
         .subcommand(check(alloc)?)?
         .subcommand(compile(alloc)?)?
         .subcommand(verify(alloc)?)?
         .subcommand(play(alloc)?)?
         .subcommand(debug(alloc)?)?
+        .subcommand(live(alloc)?)?
         .subcommand(map(alloc)?)
 }
 
@@ -201,8 +166,8 @@ fn frame<'a>(alloc: Global) -> Result<Command<'a>, AllocError> {
         .arg(frame_count(alloc))?
         .arg(page(alloc))?
         .arg(mode(alloc))?
-        .arg(script_words::reads_script(alloc)?)?
-        .arg(script_words::raw(alloc))
+        .arg(config_words::reads_script(alloc)?)?
+        .arg(config_words::raw(alloc))
 }
 
 /// An argument without an option, which is wanted.
@@ -274,11 +239,11 @@ fn listen<'a>(alloc: Global) -> Result<Command<'a>, AllocError> {
             "FILE",
             "The file of FIBs, or '-' for standard input",
         ))?
-        .arg(script_words::prints_script(alloc))?
-        .arg(script_words::script_mode(alloc)?)?
-        .arg(script_words::script_period(alloc)?)?
-        .arg(script_words::script_notice(alloc)?)?
-        .arg(script_words::script_budget(alloc)?)
+        .arg(config_words::prints_script(alloc))?
+        .arg(config_words::script_mode(alloc)?)?
+        .arg(config_words::script_period(alloc)?)?
+        .arg(config_words::script_notice(alloc)?)?
+        .arg(config_words::script_budget(alloc)?)
 }
 
 fn check<'a>(alloc: Global) -> Result<Command<'a>, AllocError> {
@@ -306,89 +271,9 @@ fn period<'a>(alloc: Global) -> Arg<'a> {
         )
 }
 
-fn compile<'a>(alloc: Global) -> Result<Command<'a>, AllocError> {
-    Command::new(alloc, "compile")
-        .about(help::COMPILE)
-        .long_about(help::LONG_COMPILE)
-        .after_long_help(help::AFTER_COMPILE)
-        .override_usage(help::COMPILE_USAGE)
-        .arg(file(alloc, "script", "SCRIPT", "The script"))?
-        .arg(file(alloc, "out", "OUT", "The code file that is made"))
-}
-
-fn verify<'a>(alloc: Global) -> Result<Command<'a>, AllocError> {
-    Command::new(alloc, "verify")
-        .about(help::VERIFY)
-        .long_about(help::LONG_VERIFY)
-        .after_long_help(help::AFTER_VERIFY)
-        .override_usage(help::VERIFY_USAGE)
-        .arg(file(alloc, "code", "CODE", "The code file"))
-}
-
-fn play<'a>(alloc: Global) -> Result<Command<'a>, AllocError> {
-    let out_help = "The file that the frames are written to";
-    Command::new(alloc, "play")
-        .about(help::PLAY)
-        .long_about(help::LONG_PLAY)
-        .after_long_help(help::AFTER_PLAY)
-        .override_usage(help::PLAY_USAGE)
-        .arg(file(alloc, "code", "CODE", "The code file"))?
-        .arg(file(alloc, "events", "EVENTS", "The event file"))?
-        .arg(file(alloc, "out", "OUT", out_help))?
-        .arg(count(alloc))?
-        .arg(day(alloc))?
-        .arg(contacts(alloc))
-}
-
-fn debug<'a>(alloc: Global) -> Result<Command<'a>, AllocError> {
-    Command::new(alloc, "debug")
-        .about(help::DEBUG)
-        .long_about(help::LONG_DEBUG)
-        .after_long_help(help::AFTER_DEBUG)
-        .override_usage(help::DEBUG_USAGE)
-        .arg(file(alloc, "code", "CODE", "The code file"))?
-        .arg(file(alloc, "commands", "COMMANDS", "The command file"))?
-        .arg(count(alloc))?
-        .arg(day(alloc))?
-        .arg(contacts(alloc))
-}
-
-/// The option of the first frame's count.
-fn count<'a>(alloc: Global) -> Arg<'a> {
-    Arg::new(alloc, "count")
-        .long("count")
-        .value_name("N")
-        .default_value("0")
-        .allow_negative_numbers(true)
-        .value_parser(value_parser!(u16))
-        .help("The CIF count of the first frame, 0 to 4999")
-}
-
-/// The option of the first frame's day frame.
-fn day<'a>(alloc: Global) -> Arg<'a> {
-    Arg::new(alloc, "day")
-        .long("day")
-        .value_name("N")
-        .default_value("0")
-        .allow_negative_numbers(true)
-        .value_parser(value_parser!(u32))
-        .help("The frame of the day of the first frame, 0 to 3599999, in frames of 24 ms")
-}
-
-/// The option of the contacts that are closed at first.
-fn contacts<'a>(alloc: Global) -> Arg<'a> {
-    Arg::new(alloc, "contacts")
-        .long("contacts")
-        .value_name("HHHH")
-        .default_value("0000")
-        .help(
-            "The contacts that are closed at first: four hexadecimal digits, contact 0 the lowest bit",
-        )
-}
-
 fn frame_request<'a>(options: &ArgMatches<'a>) -> Result<Request<'a>, UsageError<'a>> {
     if options.get_flag("script") {
-        return Ok(Request::FrameScript(script_words::frame_script_request(options)?));
+        return Ok(Request::FrameScript(config_words::frame_script_request(options)?));
     }
     let digits = options.get_str("ensemble").unwrap_or("");
     let Some(eid) = word_of(digits) else {
@@ -427,7 +312,7 @@ pub(crate) fn mode_of(number: u16) -> Option<Mode>
 
 fn listen_request<'a>(options: &ArgMatches<'a>) -> Result<Request<'a>, UsageError<'a>> {
     if options.get_flag("script") {
-        return Ok(Request::ListenScript(script_words::listen_script_request(options)?));
+        return Ok(Request::ListenScript(config_words::listen_script_request(options)?));
     }
     let file = options.get_str("file").ok_or(UsageError::Nothing)?;
     Ok(Request::Listen(file))
@@ -439,56 +324,4 @@ fn check_request<'a>(options: &ArgMatches<'a>) -> Result<Request<'a>, UsageError
     let mode = mode_of(mode).ok_or(UsageError::Nothing)?;
     let period = options.get_one::<u16>("period").ok_or(UsageError::Nothing)?;
     Ok(Request::Check(CheckRequest { file, mode, period }))
-}
-
-fn compile_request<'a>(options: &ArgMatches<'a>) -> Result<Request<'a>, UsageError<'a>> {
-    let script = options.get_str("script").ok_or(UsageError::Nothing)?;
-    let out = options.get_str("out").ok_or(UsageError::Nothing)?;
-    Ok(Request::Compile(CompileRequest { script, out }))
-}
-
-fn verify_request<'a>(options: &ArgMatches<'a>) -> Result<Request<'a>, UsageError<'a>> {
-    let code = options.get_str("code").ok_or(UsageError::Nothing)?;
-    Ok(Request::Verify(code))
-}
-
-fn play_request<'a>(options: &ArgMatches<'a>) -> Result<Request<'a>, UsageError<'a>> {
-    let start = start_options(options)?;
-    let code = options.get_str("code").ok_or(UsageError::Nothing)?;
-    let events = options.get_str("events").ok_or(UsageError::Nothing)?;
-    let out = options.get_str("out").ok_or(UsageError::Nothing)?;
-    Ok(Request::Play(PlayRequest {
-        code,
-        events,
-        out,
-        start,
-    }))
-}
-
-fn debug_request<'a>(options: &ArgMatches<'a>) -> Result<Request<'a>, UsageError<'a>> {
-    let start = start_options(options)?;
-    let code = options.get_str("code").ok_or(UsageError::Nothing)?;
-    let commands = options.get_str("commands").ok_or(UsageError::Nothing)?;
-    Ok(Request::Debug(DebugRequest {
-        code,
-        commands,
-        start,
-    }))
-}
-
-fn start_options<'a>(options: &ArgMatches<'a>) -> Result<StartOptions, UsageError<'a>> {
-    let digits = options.get_str("contacts").unwrap_or("");
-    let Some(contacts) = word_of(digits) else {
-        return Err(UsageError::Digits {
-            option: "--contacts <HHHH>",
-            value: digits,
-        });
-    };
-    let count = options.get_one::<u16>("count").ok_or(UsageError::Nothing)?;
-    let day = options.get_one::<u32>("day").ok_or(UsageError::Nothing)?;
-    Ok(StartOptions {
-        count,
-        day,
-        contacts: Contacts(contacts),
-    })
 }

@@ -1,0 +1,130 @@
+//! The words of `live`.
+
+use crate::start_words::{StartOptions, contacts, count, day, start_options, time};
+use crate::words::{UsageError, file, program};
+use clap::{Arg, ArgAction, ArgMatches, Command, value_parser};
+use std::alloc::{AllocError, Global};
+use std::convert::AsStr;
+
+/// The file and options of `live`.
+#[derive(Clone, Copy)]
+pub struct LiveRequest<'a> {
+    /// The path of the code file.
+    pub code: &'a str,
+    /// How it starts.
+    pub start: StartOptions,
+    /// How many frames, at the beginning, are made and not written.
+    pub skip: u32,
+    /// Whether swaps, notices that begin and the end of the plan are told on standard error.
+    pub status: bool,
+}
+
+const LIVE: &str = "Plays a plan of reconfigurations over standard input, line by line";
+
+const LONG_LIVE: &str = "\
+Plays a plan of reconfigurations over standard input, line by line, as the lines come.
+
+In go a code file, the binary form of a plan, and lines as those of an event file: frames of 24 ms,
+and contacts that are closed or opened between them. The FIBs of a line's frames go to standard
+output before the next line is read: three FIBs of 32 bytes a frame, in transmission mode 3 four.
+All messages go to standard error.";
+
+const LIVE_USAGE: &str = "\
+dabplan live <CODE> [--count <N>] [--day <N> | --time <HH:MM:SS>] [--contacts <HHHH>]
+                           [--skip <N>] [--status]";
+
+const AFTER_LIVE: &str = "\
+A line holds whole steps, with blanks between, or none:
+  frames 1                     one frame is made; up to 3600000 at a time
+  contact 3 closed             contact 3, of 0 to 15, is closed; 'open': it is opened
+  contact 3 open frames 2      one step after another
+  # 06:00 studio on air        a comment; nothing is done
+
+The messages:
+  line 5: 8: Number            line 5 does nothing, and the next line is read: it has no number in
+                               range at column 8; 'Expected': another word has to stand there;
+                               'Byte': no such byte may
+  line 5: Limit                it has more than 65536 bytes; 'line 5: Byte': it is not UTF-8
+  frame 4 count 4 announced 1 swap at low 28
+                               with --status: a notice begins in frame 4 of the run, counted from
+                               0, at CIF count 4. Sub-channels change (2: services, 3: both) at a
+                               count with the low part 28
+  frame 28 count 28 swap       with --status: the next configuration becomes the current one
+  frame 68 count 68 end        with --status: the plan comes to its end
+  refused at 3 line 10: Notice the plan or the start is refused, as 'dabplan play' says
+  write failed after 3 frames and 40 bytes
+                               standard output took no more; no further line is read
+
+A plan that stopped goes on where it was, from a log of the lines that it was given, with the other
+options as before. --skip is the number of frames that went on air:
+  cat today.log - | dabplan live day.code --skip 1800000
+
+Example: a contact is closed after the first frame; 24 frames and more later the swap is made
+  printf 'frames 1\\ncontact 3 closed\\nframes 39\\n' |
+    dabplan live examples/contact_lowers_a_rate.code --status > day.fib
+
+Exit status:
+  0  standard input came to its end, whatever its lines were
+  1  the plan or the start is refused, CODE or standard input can't be read, or standard output
+     failed
+  2  the command line is wrong";
+
+/// What these words, without the program's name, ask for, where the first of them is `live`.
+pub fn live_request_of<'a, S: AsStr>(
+    alloc: Global,
+    words: &'a [S],
+) -> Result<LiveRequest<'a>, UsageError<'a>> {
+    let matches = program(alloc)?.try_get_matches_from(words)?;
+    match matches.subcommand() {
+        Some(("live", options)) => live_request(options),
+        _ => Err(UsageError::Nothing),
+    }
+}
+
+/// What `live` is asked for.
+fn live_request<'a>(options: &ArgMatches<'a>) -> Result<LiveRequest<'a>, UsageError<'a>> {
+    let start = start_options(options)?;
+    let code = options.get_str("code").ok_or(UsageError::Nothing)?;
+    let skip = options.get_one::<u32>("skip").ok_or(UsageError::Nothing)?;
+    Ok(LiveRequest {
+        code,
+        start,
+        skip,
+        status: options.get_flag("status"),
+    })
+}
+
+/// The command `live`.
+pub(crate) fn live<'a>(alloc: Global) -> Result<Command<'a>, AllocError> {
+    Command::new(alloc, "live")
+        .about(LIVE)
+        .long_about(LONG_LIVE)
+        .after_long_help(AFTER_LIVE)
+        .override_usage(LIVE_USAGE)
+        .arg(file(alloc, "code", "CODE", "The code file"))?
+        .arg(count(alloc))?
+        .arg(day(alloc))?
+        .arg(time(alloc)?)?
+        .arg(contacts(alloc))?
+        .arg(skip(alloc))?
+        .arg(status(alloc))
+}
+
+/// The option of the frames that are not written.
+fn skip<'a>(alloc: Global) -> Arg<'a> {
+    Arg::new(alloc, "skip")
+        .long("skip")
+        .value_name("N")
+        .default_value("0")
+        .allow_negative_numbers(true)
+        .value_parser(value_parser!(u32))
+        .help("How many frames, at the beginning, are made and not written, 0 to 4294967295")
+}
+
+/// The option that tells swaps.
+fn status<'a>(alloc: Global) -> Arg<'a> {
+    Arg::new(alloc, "status")
+        .long("status")
+        .action(ArgAction::SetTrue)
+        .help("Tells on standard error each swap, each notice that begins, and the end of the plan")
+}
