@@ -22,8 +22,8 @@ What goes in and comes out:
           FIBs of each frame to a file.
   debug   plays a plan by a file of commands, up to a line or to the next instruction, and says
           after each where the plan stands and which swaps were announced.
-  live    plays a plan over lines on standard input as they come, and writes the FIBs of each line's
-          frames to standard output before it reads the next one.
+  live    plays a plan over lines on standard input as they come, and writes the FIBs of a line's
+          frames to standard output before it reads the next line.
   map     reads a script, and prints or draws which capacity units each sub-channel has.
 'dabplan help COMMAND' tells more: each field, each line, an example.
 

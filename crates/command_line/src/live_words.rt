@@ -45,12 +45,12 @@ The messages:
                                range at column 8; 'Expected': another word has to stand there;
                                'Byte': no such byte may
   line 5: Limit                it has more than 65536 bytes; 'line 5: Byte': it is not UTF-8
-  frame 4 count 4 announced 1 swap at low 28
-                               with --status: a notice begins in frame 4 of the run, counted from
-                               0, at CIF count 4. Sub-channels change (2: services, 3: both) at a
-                               count with the low part 28
-  frame 28 count 28 swap       with --status: the next configuration becomes the current one
-  frame 68 count 68 end        with --status: the plan comes to its end
+  frame 12 count 12 announced 1 swap at low 2
+                               with --status: a notice begins in frame 12 of the run, counted from
+                               0, at CIF count 12. Sub-channels change (2: services, 3: both) at a
+                               count with the low part 2
+  frame 252 count 252 swap     with --status: the next configuration becomes the current one
+  frame 300 count 300 end      with --status: the plan comes to its end
   refused at 3 line 10: Notice the plan or the start is refused, as 'dabplan play' says
   write failed after 3 frames and 40 bytes
                                standard output took no more; no further line is read
@@ -59,8 +59,8 @@ A plan that stopped goes on where it was, from a log of the lines that it was gi
 options as before. --skip is the number of frames that went on air:
   cat today.log - | dabplan live day.code --skip 1800000
 
-Example: a contact is closed after the first frame; 24 frames and more later the swap is made
-  printf 'frames 1\\ncontact 3 closed\\nframes 39\\n' |
+Example: contact 3 is closed after the first frame, and a change of rate is announced and made
+  printf 'frames 1\\ncontact 3 closed\\nframes 300\\n' |
     dabplan live examples/contact_lowers_a_rate.code --status > day.fib
 
 Exit status:
