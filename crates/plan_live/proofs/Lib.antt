@@ -1,0 +1,7 @@
+mod Going
+mod Joining
+mod Lines
+mod Reading
+mod Starts
+mod Steps
+mod Telling
