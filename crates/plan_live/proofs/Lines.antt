@@ -1,5 +1,6 @@
 -- Lines, and then one more.
 use Rattle.std.proofs.Common.{◌≡◌, ℕ, ◌+◌, ◌-◌, Bool, List, [], ◌∷◌, ◌++◌, length, take, Option, None, Some, refl, sym, ap, subst, ◌∙◌, arith, append_assoc, append-nil, length-append, inl, inr}
+use Rattle.std.specs.List.{AllByRecursion}
 use Rattle.std.specs.Io.KnownBytes.{Keeps, IsAtEnd}
 use Rattle.std.proofs.KnownBytes.{Appends-trans, Appends-nil}
 use Rattle.console.specs.Lines.{lines_of, GivesLines, GivesLine}
@@ -15,11 +16,11 @@ use Rattle.plan_live.specs.declared.message.Message.{Message}
 use Rattle.plan_live.specs.declared.message.Message.TheVariants.{Bad}
 use Rattle.plan_live.specs.Going.{Went, CutIn, StopsIn, LineWent, LineStops, Going}
 use Rattle.plan_live.specs.Lines.{LineHolds, IsLineFault, LineDoes, LinesDo}
-use Rattle.plan_live.specs.Living.{Streamed, streamed, kept_bytes, IsCutAt, Reached, Whole, Broken, Unserved, Cut, StoppedBy}
+use Rattle.plan_live.specs.Living.{Streamed, streamed, kept_bytes, IsCutAt, Reached, Whole, Broken, Unserved, Cut, StoppedBy, AreDone, IsPrompt, most}
 use Rattle.plan_live.specs.Notes.{notes_if}
-use Rattle.plan_live.specs.Telling.{Tells}
+use Rattle.plan_live.specs.Growing.{Grows}
 use Rattle.plan_live.proofs.Joining.{played_join, counts_join, kept_none, kept_from, events_join}
-use Rattle.plan_live.proofs.Telling.{tells_more, tells_none, tells_as}
+use Rattle.plan_live.proofs.Growing.{grows_more, grows_none, grows_as}
 use Rattle.plan_live.proofs.Going.{appends_as, appends_none}
 
 gives_more : (a b c : Option (List ℕ)) (lines : List (List ℕ)) (line : List ℕ) → GivesLines a lines b → GivesLine b line c → GivesLines a (lines ++ line ∷ []) c
@@ -80,7 +81,7 @@ going_first skip status p a = record {
     messages = [];
     does = (refl, refl);
     out = appends_as a.written a.written [] (kept_bytes skip p []) (sym (kept_none skip p)) (Appends-nil a.written);
-    telling = tells_none a.told;
+    telling = grows_none a.told;
   };
   player = refl;
   count = refl;
@@ -119,7 +120,7 @@ going_more skip status p q r m k number line old now after rest h given w =
         does = do_more status p q 0 m 0 h.lines line steps more h.reached.messages w.messages h.reached.does h.player counted (subst (λ (j : ℕ). LineDoes status q m j line more w.messages) next w.does);
         out = appends_as old.written after.written (kept_bytes skip p (events_of steps) ++ kept_bytes (skip - m) q (events_of more)) (kept_bytes skip p (events_of (steps ++ more))) bytes
             (Appends-trans old.written now.written after.written (kept_bytes skip p (events_of steps)) (kept_bytes (skip - m) q (events_of more)) h.reached.out w.out);
-        telling = tells_more old.told now.told after.told h.reached.messages w.messages h.reached.telling w.telling;
+        telling = grows_more old.told now.told after.told h.reached.messages w.messages h.reached.telling w.telling;
       };
       player = at;
       count = omega (arith, w.count, h.count, sum, later);
@@ -129,7 +130,7 @@ going_more skip status p q r m k number line old now after rest h given w =
 -- ---- a line that holds no steps
 
 pub line_bad : (skip : ℕ) (status : Bool) (q : Playing) (m number : ℕ) (line : List ℕ) (fault : LineFault) (a b : Streamed)
-    → IsLineFault line fault → b.left ≡ a.left → b.written ≡ a.written → Tells a.told b.told (Bad number fault ∷ []) → LineWent skip status q m number line q m a b
+    → IsLineFault line fault → b.left ≡ a.left → b.written ≡ a.written → Grows a.told b.told (Bad number fault ∷ []) → LineWent skip status q m number line q m a b
 line_bad skip status q m number line fault a b is left written told = record {
   steps = [];
   messages = Bad number fault ∷ [];
@@ -164,10 +165,10 @@ line_cut skip status q m line steps a b TooMany holds s = (steps, holds, s)
 
 -- ---- the run stops
 
-cut_line : (skip : ℕ) (status : Bool) (p q : Playing) (m number : ℕ) (line : List ℕ) (steps : List Step) (old now after : Streamed) (rest : Option (List ℕ)) (f k : ℕ)
-    → Going skip status p old now q m number → GivesLine now.left line rest → LineHolds line steps → CutIn skip status q m (events_of steps) (streamed rest now.written now.told) after f k
-    → Cut skip status p old after f k
-cut_line skip status p q m number line steps old now after rest f k h given holds c =
+cut_line : (skip : ℕ) (status : Bool) (p q : Playing) (m number : ℕ) (line : List ℕ) (steps : List Step) (old now after : Streamed) (rest : Option (List ℕ)) (made f k : ℕ)
+    → Going skip status p old now q m number → GivesLine now.left line rest → LineHolds line steps → CutIn skip status q m (events_of steps) (streamed rest now.written now.told) after made f k
+    → Cut skip status p old after made f k
+cut_line skip status p q m number line steps old now after rest made f k h given holds c =
     let before : List Event = events_of h.reached.steps in
     let done : List Event = c.done in
     let counted : m ≡ 0 + length (frames_of p before) = omega (arith, h.count) in
@@ -175,7 +176,6 @@ cut_line skip status p q m number line steps old now after rest f k h given hold
     let at : played q done ≡ played p (before ++ done) = ap (λ (x : Playing). played x done) h.player ∙ sym (played_join p before done) in
     let sum = counts_join p before done in
     let later : length (frames_of q done) ≡ length (frames_of (played p before) done) = ap (λ (x : Playing). length (frames_of x done)) h.player in
-    let passed : skip - (m + length (frames_of q done)) ≡ skip - length (frames_of p (before ++ done)) = omega (arith, h.count, sum, later) in
     let bytes : kept_bytes skip p before ++ (kept_bytes (skip - m) q done ++ take k (next_frame (played q done))) ≡ kept_bytes skip p (before ++ done) ++ take k (next_frame (played p (before ++ done))) =
     sym (append_assoc (kept_bytes skip p before) (kept_bytes (skip - m) q done) (take k (next_frame (played q done))))
     ∙ ap (λ (j : ℕ). (kept_bytes j p before ++ kept_bytes (skip - m) q done) ++ take k (next_frame (played q done))) (sym all)
@@ -197,14 +197,15 @@ cut_line skip status p q m number line steps old now after rest f k h given hold
       done = done;
       rest = c.rest;
       cut = c.cut;
-      whole = omega (arith, c.whole, h.count, sum, later);
-      part = subst (λ (j : ℕ). IsCutAt k j (played p (before ++ done)) c.rest) passed (subst (λ (x : Playing). IsCutAt k (skip - (m + length (frames_of q done))) x c.rest) at c.part);
+      count = omega (arith, c.count, h.count, sum, later);
+      whole = c.whole;
+      part = subst (λ (x : Playing). IsCutAt k (skip - made) x c.rest) at c.part;
       out = appends_as old.written after.written (kept_bytes skip p before ++ (kept_bytes (skip - m) q done ++ take k (next_frame (played q done)))) (kept_bytes skip p (before ++ done) ++ take k (next_frame (played p (before ++ done)))) bytes
           (Appends-trans old.written now.written after.written (kept_bytes skip p before) (kept_bytes (skip - m) q done ++ take k (next_frame (played q done))) h.reached.out c.out);
-      telling = tells_as old.told after.told (h.reached.messages ++ notes_if status m q.code q.state done)
+      telling = grows_as old.told after.told (h.reached.messages ++ notes_if status m q.code q.state done)
           (h.reached.messages ++ notes_if status (length (frames_of p before)) p.code (played p before).state done)
           (ap (λ (l : List Message). h.reached.messages ++ l) notes)
-          (tells_more old.told now.told after.told h.reached.messages (notes_if status m q.code q.state done) h.reached.telling c.telling);
+          (grows_more old.told now.told after.told h.reached.messages (notes_if status m q.code q.state done) h.reached.telling c.telling);
     }
 
 unserved : (skip : ℕ) (status : Bool) (p q : Playing) (m number : ℕ) (line : List ℕ) (old now after : Streamed) (rest : Option (List ℕ))
@@ -217,10 +218,10 @@ unserved skip status p q m number line old now after rest h given same =
 line_stops : (skip : ℕ) (status : Bool) (p q : Playing) (m number : ℕ) (line : List ℕ) (old now after : Streamed) (rest : Option (List ℕ)) (stop : Stop)
     → Going skip status p old now q m number → GivesLine now.left line rest → LineStops skip status q m line (streamed rest now.written now.told) after stop
     → StoppedBy skip status p old after stop
-line_stops skip status p q m number line old now after rest (Write f k) h given s = cut_line skip status p q m number line s.0 old now after rest f k h given s.1 s.2
+line_stops skip status p q m number line old now after rest (Write f k) h given s = (s.2.0, cut_line skip status p q m number line s.0 old now after rest s.2.0 f k h given s.1 s.2.1)
 line_stops skip status p q m number line old now after rest Read h given s = absurd s
 line_stops skip status p q m number line old now after rest Memory h given s = unserved skip status p q m number line old now after rest h given s
-line_stops skip status p q m number line old now after rest TooMany h given s = inr (s.2.0, cut_line skip status p q m number line s.0 old now after rest s.2.0 0 h given s.1 s.2.1)
+line_stops skip status p q m number line old now after rest TooMany h given s = inr (s.2.0, cut_line skip status p q m number line s.0 old now after rest most s.2.0 0 h given s.1 s.2.1)
 
 -- the input ends, or gives no more
 whole : (skip : ℕ) (status : Bool) (p q : Playing) (m number : ℕ) (old now : Streamed) (rest : Option (List ℕ))
@@ -270,3 +271,27 @@ pub broken_at : (skip : ℕ) (status : Bool) (p q : Playing) (m number : ℕ) (o
     → Going skip status p old now q m number → w ≡ now.written → t ≡ now.told → Broken skip status p old (streamed rest w t)
 broken_at skip status p q m number old now rest w t h e d =
     subst (λ (s : Streamed). Broken skip status p old s) (sym (mid_as rest w now.written t now.told e d)) (broken skip status p q m number old now rest h)
+
+-- the count of lines is at its end
+pub too_many : (skip : ℕ) (status : Bool) (p q : Playing) (m number : ℕ) (old now : Streamed)
+    → Going skip status p old now q m number → number ≡ most → StoppedBy skip status p old now TooMany
+too_many skip status p q m number old now h all = inl (h.lines, h.reached, h.numbered ∙ all)
+
+-- ---- the moments at which a line is asked for
+
+pub prompt_first : (skip : ℕ) (status : Bool) (p : Playing) (old : Streamed) (before : Option (List Streamed)) → IsPrompt skip status p old before before
+prompt_first skip status p old before = record { moments = []; grows = grows_none before; done = tt }
+
+each_more : (P : Streamed → Type 0) (xs : List Streamed) (x : Streamed) → AllByRecursion P xs → P x → AllByRecursion P (xs ++ x ∷ [])
+each_more P [] x all one = (one, tt)
+each_more P (y ∷ ys) x all one = (all.0, each_more P ys x all.1 one)
+
+pub prompt_more : (skip : ℕ) (status : Bool) (p q : Playing) (m number : ℕ) (old now : Streamed) (before there mid after : Option (List Streamed))
+    → Going skip status p old now q m number → IsPrompt skip status p old before there → Grows there mid (now ∷ []) → after ≡ mid → IsPrompt skip status p old before after
+prompt_more skip status p q m number old now before there mid after h prompt more same =
+    let here : IsPrompt skip status p old before mid = record {
+      moments = prompt.moments ++ now ∷ [];
+      grows = grows_more before there mid prompt.moments (now ∷ []) prompt.grows more;
+      done = each_more (AreDone skip status p old) prompt.moments now prompt.done (h.lines, h.reached);
+    } in
+    subst (λ (o : Option (List Streamed)). IsPrompt skip status p old before o) (sym same) here

@@ -10,7 +10,7 @@ use Rattle.plan_session.specs.declared.run_fault.RunFault.TheVariants.{Code, Ref
 use Rattle.plan_session.specs.Playback.{Request, start_of, IsFileOf, IsTypedFileOf, CanStart, or_zero}
 use Rattle.plan_live.specs.declared.fault.LiveFault.{LiveFault}
 use Rattle.plan_live.specs.declared.fault.LiveFault.TheVariants.{Playback, Stopped}
-use Rattle.plan_live.specs.Living.{Streamed, Whole, StoppedBy}
+use Rattle.plan_live.specs.Living.{Streamed, Whole, StoppedBy, HasFailed}
 
 -- the code can be played from the start, and this is the player there
 pub record Begins (r : Request) (p : Playing) : Type 0 where
@@ -36,3 +36,8 @@ IsBeginFault r (Write frames bytes) = ⊥
 abbrev pub IsLiveFault : Request → Streamed → Streamed → LiveFault → Type 0
 IsLiveFault r old new (Playback fault) = IsBeginFault r fault × (new ≡ old)
 IsLiveFault r old new (Stopped stop) = (p : Playing) × Begins r p
+
+-- the end that is blamed for a stop has failed
+abbrev pub HasLiveFailed : LiveFault → Bool → Bool → Type 0
+HasLiveFailed (Playback fault) input output = Unit {0}
+HasLiveFailed (Stopped stop) input output = HasFailed stop input output

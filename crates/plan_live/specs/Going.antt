@@ -10,9 +10,9 @@ use Rattle.plan_live.specs.declared.fault.Stop.{Stop}
 use Rattle.plan_live.specs.declared.fault.Stop.TheVariants.{Write, Read, Memory, TooMany}
 use Rattle.plan_live.specs.declared.message.Message.{Message}
 use Rattle.plan_live.specs.Lines.{LineHolds, LineDoes}
-use Rattle.plan_live.specs.Living.{Streamed, kept_bytes, IsCutAt, Reached}
+use Rattle.plan_live.specs.Living.{Streamed, kept_bytes, IsCutAt, Reached, most}
 use Rattle.plan_live.specs.Notes.{notes_if}
-use Rattle.plan_live.specs.Telling.{Tells}
+use Rattle.plan_live.specs.Growing.{Grows}
 
 -- the bytes of the frame of this number that are written
 abbrev pub kept : ℕ → ℕ → List ℕ → List ℕ
@@ -38,7 +38,7 @@ abbrev pub FrameStops : ℕ → List ℕ → ℕ → Streamed → Streamed → S
 FrameStops skip bytes n before after (Write frames taken) = FrameCut skip bytes n before after frames taken
 FrameStops skip bytes n before after Read = ⊥
 FrameStops skip bytes n before after Memory = ⊥
-FrameStops skip bytes n before after TooMany = after ≡ before
+FrameStops skip bytes n before after TooMany = (after ≡ before) × (n ≡ most)
 
 -- from a player whose next frame has number n these events lead to another, whose next frame has number m; their frames
 -- were written, but for those that are skipped, and what is told of them was told
@@ -47,24 +47,25 @@ pub record Went (skip : ℕ) (status : Bool) (old : Playing) (n : ℕ) (events :
   pub count : m ≡ n + length (frames_of old events)
   pub left : after.left ≡ before.left
   pub out : Appends before.written after.written (kept_bytes (skip - n) old events)
-  pub telling : Tells before.told after.told (notes_if status n old.code old.state events)
+  pub telling : Grows before.told after.told (notes_if status n old.code old.state events)
 
--- some of them were done, and then the output failed, or the count of frames was at its end
-pub record CutIn (skip : ℕ) (status : Bool) (old : Playing) (n : ℕ) (events : List Event) (before after : Streamed) (frames bytes : ℕ) : Type 0 where
+-- some of them were done, which makes so many frames in all, and then the output failed, or the count was at its end
+pub record CutIn (skip : ℕ) (status : Bool) (old : Playing) (n : ℕ) (events : List Event) (before after : Streamed) (made frames bytes : ℕ) : Type 0 where
   pub done : List Event
   pub rest : List Event
   pub cut : events ≡ done ++ rest
-  pub whole : frames ≡ (n + length (frames_of old done)) - skip
-  pub part : IsCutAt bytes (skip - (n + length (frames_of old done))) (played old done) rest
+  pub count : made ≡ n + length (frames_of old done)
+  pub whole : frames ≡ made - skip
+  pub part : IsCutAt bytes (skip - made) (played old done) rest
   pub left : after.left ≡ before.left
   pub out : Appends before.written after.written (kept_bytes (skip - n) old done ++ take bytes (next_frame (played old done)))
-  pub telling : Tells before.told after.told (notes_if status n old.code old.state done)
+  pub telling : Grows before.told after.told (notes_if status n old.code old.state done)
 
 abbrev pub StopsIn : ℕ → Bool → Playing → ℕ → List Event → Streamed → Streamed → Stop → Type 0
-StopsIn skip status old n events before after (Write frames bytes) = CutIn skip status old n events before after frames bytes
+StopsIn skip status old n events before after (Write frames bytes) = (made : ℕ) × CutIn skip status old n events before after made frames bytes
 StopsIn skip status old n events before after Read = ⊥
 StopsIn skip status old n events before after Memory = ⊥
-StopsIn skip status old n events before after TooMany = (frames : ℕ) × CutIn skip status old n events before after frames 0
+StopsIn skip status old n events before after TooMany = (frames : ℕ) × CutIn skip status old n events before after most frames 0
 
 -- a line was done
 pub record LineWent (skip : ℕ) (status : Bool) (old : Playing) (n number : ℕ) (line : List ℕ) (new : Playing) (m : ℕ) (before after : Streamed) : Type 0 where
@@ -75,15 +76,15 @@ pub record LineWent (skip : ℕ) (status : Bool) (old : Playing) (n number : ℕ
   pub count : m ≡ n + length (frames_of old (events_of steps))
   pub left : after.left ≡ before.left
   pub out : Appends before.written after.written (kept_bytes (skip - n) old (events_of steps))
-  pub telling : Tells before.told after.told messages
+  pub telling : Grows before.told after.told messages
 
 -- or was not
 abbrev pub LineStops : ℕ → Bool → Playing → ℕ → List ℕ → Streamed → Streamed → Stop → Type 0
-LineStops skip status old n line before after (Write frames bytes) = (steps : List Step) × LineHolds line steps × CutIn skip status old n (events_of steps) before after frames bytes
+LineStops skip status old n line before after (Write frames bytes) = (steps : List Step) × LineHolds line steps × ((made : ℕ) × CutIn skip status old n (events_of steps) before after made frames bytes)
 LineStops skip status old n line before after Read = ⊥
 LineStops skip status old n line before after Memory = after ≡ before
 LineStops skip status old n line before after TooMany =
-    (steps : List Step) × LineHolds line steps × ((frames : ℕ) × CutIn skip status old n (events_of steps) before after frames 0)
+    (steps : List Step) × LineHolds line steps × ((frames : ℕ) × CutIn skip status old n (events_of steps) before after most frames 0)
 
 -- some lines are done: this is the player, its next frame has number m, and the next line follows this many
 pub record Going (skip : ℕ) (status : Bool) (p : Playing) (old now : Streamed) (q : Playing) (m number : ℕ) : Type 0 where

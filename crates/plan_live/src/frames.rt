@@ -1,6 +1,6 @@
 //! The frames of steps, made, and written but for those that are skipped.
 
-ghost use Rattle.std.specs.Prelude.{◌≡◌, ◌-◌, ◌<◌, ◌≤◌, [], ◌∷◌, length, take, true, replicate, OnOk, IfErr};
+ghost use Rattle.std.specs.Prelude.{◌≡◌, ◌-◌, ◌<◌, ◌≤◌, [], ◌∷◌, length, take, true, replicate, OnOk, OnErr, IfErr};
 ghost use Rattle.std.specs.List.{AllByRecursion};
 ghost use Rattle.std.specs.Io.KnownBytes.{Appends, Keeps};
 ghost use Rattle.plan_runs.specs.declared.event.Event.TheVariants.{Frame};
@@ -8,7 +8,7 @@ ghost use Rattle.plan_player.specs.Playing.{played};
 ghost use Rattle.plan_player.specs.Delivery.{next_frame};
 ghost use Rattle.plan_session.specs.Events.{events_of_step, events_of};
 ghost use Rattle.plan_live.specs.Going.{kept, FrameWent, FrameStops, Went, StopsIn};
-ghost use Rattle.plan_live.specs.Living.{streamed};
+ghost use Rattle.plan_live.specs.Living.{streamed, HasFailed};
 ghost use Rattle.plan_live.specs.declared.fault.Stop.TheVariants.{Write};
 
 use crate::ends::Ends;
@@ -35,6 +35,8 @@ fn put<E: Ends>(bytes: &[u8], number: u64, skip: u32, ends: &mut E) -> Result<()
     ensures passed { IfErr result (λ n. skip ≤ number) }
     ensures part { IfErr result (λ n.
         Appends (E.written ends.old) (E.written ends.new) (take n bytes.now)) }
+    ensures failed { OnErr result (E.output_failed ends.new ≡ true) }
+    ensures moments { E.moments ends.new ≡ E.moments ends.old }
     ensures left { E.left ends.new ≡ E.left ends.old }
     ensures told { E.told ends.new ≡ E.told ends.old }
 {
@@ -52,6 +54,9 @@ fn write_frame<E: Ends>(bytes: &[u8], made: &mut u64, skip: u32, ends: &mut E) -
     ensures stopped { IfErr result (λ stop. FrameStops skip bytes.now made.old
         (streamed (E.left ends.old) (E.written ends.old) (E.told ends.old))
         (streamed (E.left ends.new) (E.written ends.new) (E.told ends.new)) stop) }
+    ensures failed { IfErr result (λ stop.
+        HasFailed stop (E.input_failed ends.new) (E.output_failed ends.new)) }
+    ensures moments { E.moments ends.new ≡ E.moments ends.old }
 {
     let number = *made;
     if number == u64::MAX {
@@ -92,6 +97,9 @@ fn play_frame<'a, S: Store, E: Ends>(
         player.old made.old (Frame ∷ [])
         (streamed (E.left ends.old) (E.written ends.old) (E.told ends.old))
         (streamed (E.left ends.new) (E.written ends.new) (E.told ends.new)) stop) }
+    ensures failed { IfErr result (λ stop.
+        HasFailed stop (E.input_failed ends.new) (E.output_failed ends.new)) }
+    ensures moments { E.moments ends.new ≡ E.moments ends.old }
 {
     let number = *made;
     let before = look_at(player);
@@ -121,6 +129,9 @@ fn play_frames<'a, S: Store, E: Ends>(
         player.old made.old (replicate count Frame)
         (streamed (E.left ends.old) (E.written ends.old) (E.told ends.old))
         (streamed (E.left ends.new) (E.written ends.new) (E.told ends.new)) stop) }
+    ensures failed { IfErr result (λ stop.
+        HasFailed stop (E.input_failed ends.new) (E.output_failed ends.new)) }
+    ensures moments { E.moments ends.new ≡ E.moments ends.old }
 {
     let mut done = 0u32;
     while done < count {
@@ -148,6 +159,9 @@ fn play_step<'a, S: Store, E: Ends>(
         player.old made.old (events_of_step step)
         (streamed (E.left ends.old) (E.written ends.old) (E.told ends.old))
         (streamed (E.left ends.new) (E.written ends.new) (E.told ends.new)) stop) }
+    ensures failed { IfErr result (λ stop.
+        HasFailed stop (E.input_failed ends.new) (E.output_failed ends.new)) }
+    ensures moments { E.moments ends.new ≡ E.moments ends.old }
 {
     match step {
         Step::Contact(contact, closed) => {
@@ -174,6 +188,9 @@ fn play_steps<'a, S: Store, E: Ends>(
         player.old made.old (events_of steps.now)
         (streamed (E.left ends.old) (E.written ends.old) (E.told ends.old))
         (streamed (E.left ends.new) (E.written ends.new) (E.told ends.new)) stop) }
+    ensures failed { IfErr result (λ stop.
+        HasFailed stop (E.input_failed ends.new) (E.output_failed ends.new)) }
+    ensures moments { E.moments ends.new ≡ E.moments ends.old }
 {
     for step in steps {
         match play_step(player, made, *step, options, ends) {
@@ -188,6 +205,9 @@ fn play_steps<'a, S: Store, E: Ends>(
 fn flush_line<E: Ends>(made: u64, skip: u32, ends: &mut E) -> Result<(), Stop>
     ensures flushed { OnOk result (E.is_flushed ends.new ≡ true) }
     ensures fault { IfErr result (λ stop. stop ≡ Write (made - skip) 0) }
+    ensures failed { IfErr result (λ stop.
+        HasFailed stop (E.input_failed ends.new) (E.output_failed ends.new)) }
+    ensures moments { E.moments ends.new ≡ E.moments ends.old }
     ensures written { Keeps (E.written ends.old) (E.written ends.new) }
     ensures left { E.left ends.new ≡ E.left ends.old }
     ensures told { E.told ends.new ≡ E.told ends.old }
@@ -218,6 +238,9 @@ pub(crate) fn play_line<'a, S: Store, E: Ends>(
         player.old made.old (events_of steps.now)
         (streamed (E.left ends.old) (E.written ends.old) (E.told ends.old))
         (streamed (E.left ends.new) (E.written ends.new) (E.told ends.new)) stop) }
+    ensures failed { IfErr result (λ stop.
+        HasFailed stop (E.input_failed ends.new) (E.output_failed ends.new)) }
+    ensures moments { E.moments ends.new ≡ E.moments ends.old }
     ensures flushed { OnOk result (E.is_flushed ends.new ≡ true) }
 {
     match play_steps(player, made, steps, options, ends) {

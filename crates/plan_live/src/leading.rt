@@ -2,7 +2,7 @@
 
 ghost use Rattle.std.specs.Prelude.{◌≡◌, ◌≤◌, length, true, OnOk, IfErr};
 ghost use Rattle.plan_live.specs.Going.{LineWent, LineStops};
-ghost use Rattle.plan_live.specs.Living.{streamed, Whole, StoppedBy};
+ghost use Rattle.plan_live.specs.Living.{streamed, Whole, StoppedBy, IsPrompt, HasFailed};
 
 use crate::ends::Ends;
 use crate::fault::Stop;
@@ -36,6 +36,9 @@ fn take_line<'a, S: Store, E: Ends>(
         player.old made.old line.now
         (streamed (E.left ends.old) (E.written ends.old) (E.told ends.old))
         (streamed (E.left ends.new) (E.written ends.new) (E.told ends.new)) stop) }
+    ensures failed { IfErr result (λ stop.
+        HasFailed stop (E.input_failed ends.new) (E.output_failed ends.new)) }
+    ensures moments { E.moments ends.new ≡ E.moments ends.old }
     ensures flushed { OnOk result (E.is_flushed ends.new ≡ true) }
 {
     match steps_of_line(alloc, line) {
@@ -74,6 +77,12 @@ pub fn lead<'a, S: Store, E: Ends>(
     ensures stopped { IfErr result (λ stop. StoppedBy options.skip options.status player.old
         (streamed (E.left ends.old) (E.written ends.old) (E.told ends.old))
         (streamed (E.left ends.new) (E.written ends.new) (E.told ends.new)) stop) }
+    ensures failed { IfErr result (λ stop.
+        HasFailed stop (E.input_failed ends.new) (E.output_failed ends.new)) }
+    // Each time that a line is asked for, all lines before it are done.
+    ensures prompt { IsPrompt options.skip options.status player.old
+        (streamed (E.left ends.old) (E.written ends.old) (E.told ends.old))
+        (E.moments ends.old) (E.moments ends.new) }
 {
     let mut line = ArrayVec::new();
     let mut made = 0u64;

@@ -5,7 +5,7 @@ ghost use Rattle.plan_code.specs.Machine.{State};
 ghost use Rattle.plan_runs.specs.declared.event.Event.TheVariants.{Frame};
 ghost use Rattle.plan_runs.specs.Frames.{is_first_noticed, left_after_frame, with_next_counts};
 ghost use Rattle.plan_player.specs.Playing.{Playing, played};
-ghost use Rattle.plan_live.specs.Telling.{Tells};
+ghost use Rattle.plan_live.specs.Growing.{Grows};
 ghost use Rattle.plan_live.specs.Notes.{has_ended, swap_note, notice_note, end_note, notes_if};
 ghost use Rattle.plan_live.specs.Looking.{look_of, notes_between};
 
@@ -51,11 +51,12 @@ pub(crate) fn look_at<S: Store>(player: &Player<'_, S>) -> Look
     }
 }
 
-/// Tells a swap.
+/// Grows a swap.
 fn tell_swap<E: Ends>(before: Look, frame: u64, ends: &mut E)
     ensures told { (s : State) → before ≡ look_of s →
-        Tells (E.told ends.old) (E.told ends.new) (swap_note frame s) }
+        Grows (E.told ends.old) (E.told ends.new) (swap_note frame s) }
     ensures flushed { E.is_flushed ends.new ≡ E.is_flushed ends.old }
+    ensures moments { E.moments ends.new ≡ E.moments ends.old }
     ensures written { E.written ends.new ≡ E.written ends.old }
     ensures left { E.left ends.new ≡ E.left ends.old }
 {
@@ -79,11 +80,12 @@ fn begins_notice(notice: u8, left: Option<u16>) -> bool
     }
 }
 
-/// Tells that a notice begins with the last frame, which had this count.
+/// Grows that a notice begins with the last frame, which had this count.
 fn tell_notice<S: Store, E: Ends>(player: &Player<'_, S>, count: u16, frame: u64, ends: &mut E)
     ensures told { let p = player.now in (t : State) → p.state ≡ with_next_counts p.code.plan t →
-        Tells (E.told ends.old) (E.told ends.new) (notice_note frame count p.code.plan t) }
+        Grows (E.told ends.old) (E.told ends.new) (notice_note frame count p.code.plan t) }
     ensures flushed { E.is_flushed ends.new ≡ E.is_flushed ends.old }
+    ensures moments { E.moments ends.new ≡ E.moments ends.old }
     ensures written { E.written ends.new ≡ E.written ends.old }
     ensures left { E.left ends.new ≡ E.left ends.old }
 {
@@ -98,11 +100,12 @@ fn tell_notice<S: Store, E: Ends>(player: &Player<'_, S>, count: u16, frame: u64
     }
 }
 
-/// Tells the end.
+/// Grows the end.
 fn tell_end<E: Ends>(before: Look, hold: Hold, frame: u64, ends: &mut E)
     ensures told { (s t : State) → before ≡ look_of s → hold ≡ t.hold →
-        Tells (E.told ends.old) (E.told ends.new) (end_note frame s t) }
+        Grows (E.told ends.old) (E.told ends.new) (end_note frame s t) }
     ensures flushed { E.is_flushed ends.new ≡ E.is_flushed ends.old }
+    ensures moments { E.moments ends.new ≡ E.moments ends.old }
     ensures written { E.written ends.new ≡ E.written ends.old }
     ensures left { E.left ends.new ≡ E.left ends.old }
 {
@@ -114,11 +117,12 @@ fn tell_end<E: Ends>(before: Look, hold: Hold, frame: u64, ends: &mut E)
     }
 }
 
-/// Tells the notes of the last frame of a player, which had this number in the run, and before which its state looked so.
+/// Grows the notes of the last frame of a player, which had this number in the run, and before which its state looked so.
 fn tell_notes<S: Store, E: Ends>(player: &Player<'_, S>, before: Look, frame: u64, ends: &mut E)
     ensures told { (s t : State) → before ≡ look_of s → player.now.state ≡ with_next_counts player.now.code.plan t →
-        Tells (E.told ends.old) (E.told ends.new) (notes_between frame player.now.code.plan s t) }
+        Grows (E.told ends.old) (E.told ends.new) (notes_between frame player.now.code.plan s t) }
     ensures flushed { E.is_flushed ends.new ≡ E.is_flushed ends.old }
+    ensures moments { E.moments ends.new ≡ E.moments ends.old }
     ensures written { E.written ends.new ≡ E.written ends.old }
     ensures left { E.left ends.new ≡ E.left ends.old }
 {
@@ -127,7 +131,7 @@ fn tell_notes<S: Store, E: Ends>(player: &Player<'_, S>, before: Look, frame: u6
     tell_end(before, player.hold(), frame, ends);
 }
 
-/// Tells what is to be told of the last frame of a player, where status is wanted; the frame had this number in the run,
+/// Grows what is to be told of the last frame of a player, where status is wanted; the frame had this number in the run,
 /// and before it the player's state looked so.
 pub(crate) fn tell_frame<S: Store, E: Ends>(
     player: &Player<'_, S>,
@@ -137,9 +141,10 @@ pub(crate) fn tell_frame<S: Store, E: Ends>(
     ends: &mut E,
 )
     ensures told { (p : Playing) → player.now ≡ played p (Frame ∷ []) → before ≡ look_of p.state →
-        Tells (E.told ends.old) (E.told ends.new)
+        Grows (E.told ends.old) (E.told ends.new)
         (notes_if status frame p.code p.state (Frame ∷ [])) }
     ensures flushed { E.is_flushed ends.new ≡ E.is_flushed ends.old }
+    ensures moments { E.moments ends.new ≡ E.moments ends.old }
     ensures written { E.written ends.new ≡ E.written ends.old }
     ensures left { E.left ends.new ≡ E.left ends.old }
 {

@@ -3,8 +3,8 @@
 ghost use Rattle.std.specs.Prelude.{◌≡◌, [], true, OnOk, IfErr};
 ghost use Rattle.plan_player.specs.Playing.{Playing};
 ghost use Rattle.plan_session.specs.Playback.{asked};
-ghost use Rattle.plan_live.specs.Beginning.{Begins, Lives, IsLiveFault};
-ghost use Rattle.plan_live.specs.Living.{streamed};
+ghost use Rattle.plan_live.specs.Beginning.{Begins, Lives, IsLiveFault, HasLiveFailed};
+ghost use Rattle.plan_live.specs.Living.{streamed, IsPrompt};
 
 use crate::ends::Ends;
 use crate::fault::LiveFault;
@@ -43,6 +43,14 @@ pub fn live<E: Ends>(
     ensures first_fault { IfErr result (λ e. IsLiveFault (asked code.now [] count day contacts)
         (streamed (E.left ends.old) (E.written ends.old) (E.told ends.old))
         (streamed (E.left ends.new) (E.written ends.new) (E.told ends.new)) e) }
+    // A stop that blames an end comes where that end has failed.
+    ensures failed { IfErr result (λ e.
+        HasLiveFailed e (E.input_failed ends.new) (E.output_failed ends.new)) }
+    // Each time that a line is asked for, all lines before it are done.
+    ensures prompt { (p : Playing) → Begins (asked code.now [] count day contacts) p
+        → IsPrompt options.skip options.status p
+        (streamed (E.left ends.old) (E.written ends.old) (E.told ends.old))
+        (E.moments ends.old) (E.moments ends.new) }
 {
     let verified = match typed_code(alloc, code) {
         Ok(verified) => verified,

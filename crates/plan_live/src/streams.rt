@@ -17,10 +17,12 @@ pub struct Streams<'a, R: Read + Drop, W, M> {
     out: &'a mut W,
     messages: &'a mut M,
     is_flushed: bool,
+    input_failed: bool,
+    output_failed: bool,
 }
 
 impl<'a, R: Read + Drop, W: Write, M: Messages> Streams<'a, R, W, M> {
-    ghost use Rattle.std.specs.Prelude.{◌≡◌, true};
+    ghost use Rattle.std.specs.Prelude.{◌≡◌, true, false};
     ghost use Rattle.plan_live.specs.Streaming.{writer_of, messages_of};
 
     /// The ends over these, into which nothing was written so far.
@@ -29,17 +31,21 @@ impl<'a, R: Read + Drop, W: Write, M: Messages> Streams<'a, R, W, M> {
         ensures written { W.contents (writer_of result) ≡ W.contents out.old }
         ensures told { M.told (messages_of result) ≡ M.told messages.old }
         ensures flushed { result.is_flushed ≡ true }
+        ensures working { (result.input_failed ≡ false) × (result.output_failed ≡ false) }
     {
         Streams {
             lines: Lines::new(reader),
             out,
             messages,
             is_flushed: true,
+            input_failed: false,
+            output_failed: false,
         }
     }
 }
 
 impl<R: Read + Drop, W: Write, M: Messages> Ends for Streams<'_, R, W, M> {
+    ghost use Rattle.std.specs.Prelude.{None};
     ghost use Rattle.plan_live.specs.Streaming.{writer_of, messages_of};
 
     ghost left = { λ s. s.lines };
@@ -50,8 +56,19 @@ impl<R: Read + Drop, W: Write, M: Messages> Ends for Streams<'_, R, W, M> {
 
     ghost is_flushed = { λ s. s.is_flushed };
 
+    ghost moments = { λ _. None };
+
+    ghost input_failed = { λ s. s.input_failed };
+
+    ghost output_failed = { λ s. s.output_failed };
+
     fn next(&mut self, line: &mut ArrayVec<u8, 65536>) -> Heard {
-        self.lines.next(line)
+        let heard = self.lines.next(line);
+        match heard {
+            Heard::Failed => self.input_failed = true,
+            Heard::Line | Heard::Long | Heard::End => {}
+        }
+        heard
     }
 
     fn write(&mut self, bytes: &[u8]) -> Result<(), usize> {
@@ -59,7 +76,10 @@ impl<R: Read + Drop, W: Write, M: Messages> Ends for Streams<'_, R, W, M> {
         let (taken, result) = write_out(bytes, self.out);
         match result {
             Ok(()) => Ok(()),
-            Err(_) => Err(taken),
+            Err(_) => {
+                self.output_failed = true;
+                Err(taken)
+            }
         }
     }
 
@@ -69,7 +89,10 @@ impl<R: Read + Drop, W: Write, M: Messages> Ends for Streams<'_, R, W, M> {
                 self.is_flushed = true;
                 true
             }
-            Err(_) => false,
+            Err(_) => {
+                self.output_failed = true;
+                false
+            }
         }
     }
 

@@ -47,4 +47,5 @@ loop-done-preserved g c =
     record {
       within = omega (arith, c.loop-done-test.true);
       went = subst (λ (l : List Event). Went skip status p n l c.play_frame.new.player c.play_frame.new.made a d) (sym (replicate_more k 1)) both;
+      moments = c.in-Ok.ensures.moments ∙ c.loop-done.invariant.moments;
     }

@@ -1,4 +1,4 @@
-use Rattle.std.proofs.Common.{◌-◌, ◌≤◌, replicate}
+use Rattle.std.proofs.Common.{◌≡◌, ◌-◌, ◌≤◌, replicate}
 use Rattle.plan_runs.specs.declared.event.Event.TheVariants.{Frame}
 use Rattle.plan_live.specs.Going.{Went}
 use Rattle.plan_live.specs.Living.{streamed}
@@ -11,6 +11,7 @@ invariant-loop-done g l = record {
   went : Went l.options.skip l.options.status l.initial.player l.initial.made (replicate l.done Frame) l.player l.made
       (streamed (g.E.Ends.left l.initial.ends) (g.E.Ends.written l.initial.ends) (g.E.Ends.told l.initial.ends))
       (streamed (g.E.Ends.left l.ends) (g.E.Ends.written l.ends) (g.E.Ends.told l.ends));
+  moments : g.E.Ends.moments l.ends ≡ g.E.Ends.moments l.initial.ends;
 }
 
 abbrev pub decreases-loop-done : goal.decreases-loop-done

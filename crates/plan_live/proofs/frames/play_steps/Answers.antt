@@ -27,7 +27,7 @@ returns-in-Err-clause-stopped g c =
     let step : Step = c.step-item.result in
     let more : take (i + 1) steps ≡ take i steps ++ step ∷ [] =
     take_more steps i step c.loop-step-test.true ∙ ap (λ (x : Step). take i steps ++ x ∷ []) (sym c.step-item.is) in
-    let here = stops_later skip status p c.loop-step.player n c.loop-step.made (events_of (take i steps)) (events_of_step step) a b d c.in-Err.stop c.loop-step.invariant c.in-Err.ensures.stopped in
+    let here = stops_later skip status p c.loop-step.player n c.loop-step.made (events_of (take i steps)) (events_of_step step) a b d c.in-Err.stop c.loop-step.invariant.went c.in-Err.ensures.stopped in
     let later = stops_before skip status p n (events_of (take i steps) ++ events_of_step step) (events_of (drop (i + 1) steps)) a d c.in-Err.stop here in
     subst (λ (l : List Event). StopsIn skip status p n l a d c.in-Err.stop) (events_cut steps i step more) later
 
@@ -48,5 +48,8 @@ loop-step-preserved g c =
     let step : Step = c.step-item.result in
     let more : take (i + 1) steps ≡ take i steps ++ step ∷ [] =
     take_more steps i step c.loop-step-test.true ∙ ap (λ (x : Step). take i steps ++ x ∷ []) (sym c.step-item.is) in
-    let both = went_join skip status p c.loop-step.player c.play_step.new.player n c.loop-step.made c.play_step.new.made (events_of (take i steps)) (events_of_step step) a b d c.loop-step.invariant c.in-Ok.ensures.done in
-    subst (λ (l : List Event). Went skip status p n l c.play_step.new.player c.play_step.new.made a d) (sym (events_more steps i step more)) both
+    let both = went_join skip status p c.loop-step.player c.play_step.new.player n c.loop-step.made c.play_step.new.made (events_of (take i steps)) (events_of_step step) a b d c.loop-step.invariant.went c.in-Ok.ensures.done in
+    record {
+      went = subst (λ (l : List Event). Went skip status p n l c.play_step.new.player c.play_step.new.made a d) (sym (events_more steps i step more)) both;
+      moments = c.in-Ok.ensures.moments ∙ c.loop-step.invariant.moments;
+    }

@@ -3,14 +3,18 @@ use Rattle.console.specs.Lines.{GivesLine}
 use Rattle.plan_player.specs.Playing.{Playing}
 use Rattle.plan_live.specs.declared.message.LineFault.TheVariants.{Limit}
 use Rattle.plan_live.specs.Living.{Streamed, streamed}
-use Rattle.plan_live.proofs.Lines.{going_first, line_bad, going_line, stops_line, whole_at, broken_at}
+use Rattle.plan_live.proofs.Lines.{going_first, line_bad, going_line, stops_line, whole_at, broken_at, prompt_first, prompt_more}
 use Rattle.plan_live.proofs.leading.lead.Goals.{in-Long, in-Line+in-Ok}
 use Rattle.plan_live.proofs.leading.lead.Goals as goal
 
 pub loop-number-init : goal.loop-number-init
 loop-number-init g c =
     let now : Streamed = streamed (g.E.Ends.left c.args.ends.now) (g.E.Ends.written c.args.ends.now) (g.E.Ends.told c.args.ends.now) in
-    record { going = going_first c.args.options.skip c.args.options.status c.args.player.now now; flushed = c.requires.flushed }
+    record {
+      going = going_first c.args.options.skip c.args.options.status c.args.player.now now;
+      flushed = c.requires.flushed;
+      prompt = prompt_first c.args.options.skip c.args.options.status c.args.player.now now (g.E.Ends.moments c.args.ends.now);
+    }
 
 pub returns-in-End-clause-whole : goal.returns-in-End-clause-whole
 returns-in-End-clause-whole g c =
@@ -51,6 +55,7 @@ loop-number-preserved g c =
     let left = g.E.Ends.left in
     let written = g.E.Ends.written in
     let told = g.E.Ends.told in
+    let moments = g.E.Ends.moments in
     let skip : ℕ = c.args.options.skip in
     let status : Bool = c.args.options.status in
     let p : Playing = c.args.player.now in
@@ -70,6 +75,7 @@ loop-number-preserved g c =
           rw (w.ends-is, w.player-is, w.made-is) (record {
             going = going_line skip status p q q m m number long.0 old now after rest (written c.next.new.self) (told c.next.new.self) going long.2 w.in-Long.ensures.written w.in-Long.ensures.told bad;
             flushed = w.tell.ensures.flushed ∙ w.in-Long.ensures.flushed;
+            prompt = prompt_more skip status p q m number old now (moments c.args.ends.now) (moments c.loop-number.ends) (moments c.next.new.self) (moments w.tell.new.self) going c.loop-number.invariant.prompt w.in-Long.ensures.moments w.tell.ensures.moments;
           })
       | in-Line+in-Ok w ↦
           let line : List ℕ = w.as_slice-line.result.now in
@@ -78,5 +84,39 @@ loop-number-preserved g c =
           rw (w.ends-is, w.player-is, w.made-is) (record {
             going = going_line skip status p q w.take_line.new.player m w.take_line.new.made number line old now after rest (written c.next.new.self) (told c.next.new.self) going given w.in-Line.ensures.written w.in-Line.ensures.told w.in-Ok.ensures.done;
             flushed = w.in-Ok.ensures.flushed;
+            prompt = prompt_more skip status p q m number old now (moments c.args.ends.now) (moments c.loop-number.ends) (moments c.next.new.self) (moments w.take_line.new.ends) going c.loop-number.invariant.prompt w.in-Line.ensures.moments w.take_line.ensures.moments;
           })
     ]
+
+pub returns-in-End-clause-prompt : goal.returns-in-End-clause-prompt
+returns-in-End-clause-prompt g c =
+    let left = g.E.Ends.left in
+    let written = g.E.Ends.written in
+    let told = g.E.Ends.told in
+    let moments = g.E.Ends.moments in
+    let old : Streamed = streamed (left c.args.ends.now) (written c.args.ends.now) (told c.args.ends.now) in
+    let now : Streamed = streamed (left c.loop-number.ends) (written c.loop-number.ends) (told c.loop-number.ends) in
+    prompt_more c.args.options.skip c.args.options.status c.args.player.now c.loop-number.player c.loop-number.made c.loop-number.number old now (moments c.args.ends.now) (moments c.loop-number.ends) (moments c.next.new.self) (moments c.next.new.self)
+    c.loop-number.invariant.going c.loop-number.invariant.prompt c.in-End.ensures.moments refl
+
+pub returns-in-Failed-clause-prompt : goal.returns-in-Failed-clause-prompt
+returns-in-Failed-clause-prompt g c =
+    let left = g.E.Ends.left in
+    let written = g.E.Ends.written in
+    let told = g.E.Ends.told in
+    let moments = g.E.Ends.moments in
+    let old : Streamed = streamed (left c.args.ends.now) (written c.args.ends.now) (told c.args.ends.now) in
+    let now : Streamed = streamed (left c.loop-number.ends) (written c.loop-number.ends) (told c.loop-number.ends) in
+    prompt_more c.args.options.skip c.args.options.status c.args.player.now c.loop-number.player c.loop-number.made c.loop-number.number old now (moments c.args.ends.now) (moments c.loop-number.ends) (moments c.next.new.self) (moments c.next.new.self)
+    c.loop-number.invariant.going c.loop-number.invariant.prompt c.in-Failed.ensures.moments refl
+
+pub returns-in-Err-clause-prompt : goal.returns-in-Err-clause-prompt
+returns-in-Err-clause-prompt g c =
+    let left = g.E.Ends.left in
+    let written = g.E.Ends.written in
+    let told = g.E.Ends.told in
+    let moments = g.E.Ends.moments in
+    let old : Streamed = streamed (left c.args.ends.now) (written c.args.ends.now) (told c.args.ends.now) in
+    let now : Streamed = streamed (left c.loop-number.ends) (written c.loop-number.ends) (told c.loop-number.ends) in
+    prompt_more c.args.options.skip c.args.options.status c.args.player.now c.loop-number.player c.loop-number.made c.loop-number.number old now (moments c.args.ends.now) (moments c.loop-number.ends) (moments c.next.new.self) (moments c.take_line.new.ends)
+    c.loop-number.invariant.going c.loop-number.invariant.prompt c.in-Line.ensures.moments c.take_line.ensures.moments

@@ -1,6 +1,6 @@
 use Rattle.std.proofs.Common.{◌≡◌, true}
 use Rattle.plan_live.specs.Going.{Going}
-use Rattle.plan_live.specs.Living.{streamed}
+use Rattle.plan_live.specs.Living.{streamed, IsPrompt}
 use Rattle.plan_live.proofs.leading.lead.Given as goal
 
 -- the lines so far
@@ -10,4 +10,7 @@ invariant-loop-number g l = record {
       (streamed (g.E.Ends.left l.initial.ends) (g.E.Ends.written l.initial.ends) (g.E.Ends.told l.initial.ends))
       (streamed (g.E.Ends.left l.ends) (g.E.Ends.written l.ends) (g.E.Ends.told l.ends)) l.player l.made l.number;
   flushed : g.E.Ends.is_flushed l.ends ≡ true;
+  prompt : IsPrompt l.options.skip l.options.status l.initial.player
+      (streamed (g.E.Ends.left l.initial.ends) (g.E.Ends.written l.initial.ends) (g.E.Ends.told l.initial.ends))
+      (g.E.Ends.moments l.initial.ends) (g.E.Ends.moments l.ends);
 }

@@ -5,9 +5,9 @@ use Rattle.plan_runs.specs.Frames.{shown, with_next_counts}
 use Rattle.plan_player.specs.Playing.{Playing}
 use Rattle.plan_live.specs.declared.message.Message.{Message}
 use Rattle.plan_live.specs.Looking.{notes_between}
-use Rattle.plan_live.specs.Telling.{Tells}
+use Rattle.plan_live.specs.Growing.{Grows}
 use Rattle.plan_live.specs.Notes.{frame_notes}
-use Rattle.plan_live.proofs.Telling.{tells_as}
+use Rattle.plan_live.proofs.Growing.{grows_as}
 use Rattle.plan_live.proofs.notes.tell_frame.Goals as goal
 
 pub returns-then-status-clause-told : goal.returns-then-status-clause-told
@@ -20,5 +20,5 @@ returns-then-status-clause-told g c = λ p state before.
     let t : State = shown p.code p.state in
     let after : q.state ≡ with_next_counts q.code.plan t = subst (λ (x : Playing). x.state ≡ with_next_counts x.code.plan t) (sym state) refl in
     let codes : q.code ≡ p.code = ap (λ (x : Playing). x.code) state in
-    let here : Tells first last (frame_notes n p.code p.state) = subst (λ (x : Program). Tells first last (notes_between n x.plan p.state t)) codes (c.tell_notes.ensures.told p.state t before after) in
-    rw (c.if-status.true) (tells_as first last (frame_notes n p.code p.state) (frame_notes n p.code p.state ++ []) (sym (append-nil (frame_notes n p.code p.state))) here)
+    let here : Grows first last (frame_notes n p.code p.state) = subst (λ (x : Program). Grows first last (notes_between n x.plan p.state t)) codes (c.tell_notes.ensures.told p.state t before after) in
+    rw (c.if-status.true) (grows_as first last (frame_notes n p.code p.state) (frame_notes n p.code p.state ++ []) (sym (append-nil (frame_notes n p.code p.state))) here)
