@@ -1,0 +1,10 @@
+mod Going
+mod Growing
+mod Joining
+mod Lines
+mod Reading
+mod Starts
+mod Steps
+mod Vectors
+mod VectorsOfGoing
+mod VectorsOfRuns

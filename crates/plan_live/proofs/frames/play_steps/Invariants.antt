@@ -1,0 +1,14 @@
+use Rattle.std.proofs.Common.{◌≡◌, take}
+use Rattle.plan_session.specs.Events.{events_of}
+use Rattle.plan_live.specs.Going.{Went}
+use Rattle.plan_live.specs.Living.{streamed}
+use Rattle.plan_live.proofs.frames.play_steps.Given as goal
+
+-- the steps so far
+abbrev pub invariant-loop-step : goal.invariant-loop-step
+invariant-loop-step g l = record {
+  went : Went l.options.skip l.options.status l.initial.player l.initial.made (events_of (take l.step-index l.steps)) l.player l.made
+      (streamed (g.E.Ends.left l.initial.ends) (g.E.Ends.written l.initial.ends) (g.E.Ends.told l.initial.ends))
+      (streamed (g.E.Ends.left l.ends) (g.E.Ends.written l.ends) (g.E.Ends.told l.ends));
+  moments : g.E.Ends.moments l.ends ≡ g.E.Ends.moments l.initial.ends;
+}

@@ -1,0 +1,43 @@
+-- How a live run of a code's file begins, and what it then comes to.
+use Rattle.std.specs.Prelude.{◌≡◌, ◌≢◌, ℕ, Bool, Result, Ok, Err, Some}
+use Rattle.plan_code.specs.declared.fault.CodeFault.TheVariants.{Memory as NoMemoryForCode}
+use Rattle.plan_code.specs.Faults.{HasCodeFault}
+use Rattle.plan_code.specs.Program.{Program, line_at}
+use Rattle.plan_verifier.specs.Refusals.{IsRefused}
+use Rattle.plan_player.specs.Playing.{Playing, IsAtStart, start_fault}
+use Rattle.plan_session.specs.declared.run_fault.RunFault.{RunFault}
+use Rattle.plan_session.specs.declared.run_fault.RunFault.TheVariants.{Code, Refused, Start, Events, Write}
+use Rattle.plan_session.specs.Playback.{Request, start_of, IsFileOf, IsTypedFileOf, CanStart, or_zero}
+use Rattle.plan_live.specs.declared.fault.LiveFault.{LiveFault}
+use Rattle.plan_live.specs.declared.fault.LiveFault.TheVariants.{Playback, Stopped}
+use Rattle.plan_live.specs.Living.{Streamed, Whole, StoppedBy, HasFailed}
+
+-- the code can be played from the start, and this is the player there
+pub record Begins (r : Request) (p : Playing) : Type 0 where
+  pub ready : CanStart p.code r
+  pub begins : IsAtStart p.code (start_of p.code r) p
+
+-- what a run that begins with this player comes to, memory for the code aside
+abbrev pub Lives : ℕ → Bool → Playing → Streamed → Streamed → Result (Unit {0}) LiveFault → Type 0
+Lives skip status p old new (Ok done) = Whole skip status p old new
+Lives skip status p old new (Err (Playback fault)) = fault ≡ Code NoMemoryForCode
+Lives skip status p old new (Err (Stopped stop)) = StoppedBy skip status p old new stop
+
+-- what holds where a run does not begin
+abbrev pub IsBeginFault : Request → RunFault → Type 0
+IsBeginFault r (Code fault) = fault ≢ NoMemoryForCode → HasCodeFault r.file fault
+IsBeginFault r (Refused pc line cause) = (code : Program) × IsFileOf code r.file × IsRefused code pc cause × (line ≡ or_zero (line_at code pc))
+IsBeginFault r (Start fault) = (code : Program) × IsTypedFileOf code r.file × (start_fault (start_of code r) ≡ Some fault)
+IsBeginFault r (Events fault) = ⊥
+IsBeginFault r (Write frames bytes) = ⊥
+
+-- what holds where a fault comes: that it is one, or that the run began; and where it did not, nothing was read, written or
+-- told
+abbrev pub IsLiveFault : Request → Streamed → Streamed → LiveFault → Type 0
+IsLiveFault r old new (Playback fault) = IsBeginFault r fault × (new ≡ old)
+IsLiveFault r old new (Stopped stop) = (p : Playing) × Begins r p
+
+-- the end that is blamed for a stop has failed
+abbrev pub HasLiveFailed : LiveFault → Bool → Bool → Type 0
+HasLiveFailed (Playback fault) input output = Unit {0}
+HasLiveFailed (Stopped stop) input output = HasFailed stop input output

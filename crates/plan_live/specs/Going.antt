@@ -1,0 +1,95 @@
+-- A live run from one moment to the next. No public contract needs this to be believed.
+use Rattle.std.specs.Prelude.{◌≡◌, ℕ, ◌+◌, ◌-◌, ◌<◌, ◌≤◌, nat_lt, if◌then◌else◌, Bool, List, [], ◌++◌, length, take}
+use Rattle.std.specs.Io.KnownBytes.{Appends}
+use Rattle.plan_runs.specs.declared.event.Event.{Event}
+use Rattle.plan_player.specs.Playing.{Playing, played}
+use Rattle.plan_player.specs.Delivery.{frames_of, next_frame}
+use Rattle.plan_session.specs.declared.step.Step.{Step}
+use Rattle.plan_session.specs.Events.{events_of}
+use Rattle.plan_live.specs.declared.fault.Stop.{Stop}
+use Rattle.plan_live.specs.declared.fault.Stop.TheVariants.{Write, Read, Memory, TooMany}
+use Rattle.plan_live.specs.declared.message.Message.{Message}
+use Rattle.plan_live.specs.Lines.{LineHolds, LineDoes}
+use Rattle.plan_live.specs.Living.{Streamed, kept_bytes, IsCutAt, Reached, most}
+use Rattle.plan_live.specs.Notes.{notes_if}
+use Rattle.plan_live.specs.Growing.{Grows}
+
+-- the bytes of the frame of this number that are written
+abbrev pub kept : ℕ → ℕ → List ℕ → List ℕ
+kept skip n frame = if nat_lt n skip then [] else frame
+
+-- a frame of this number and these bytes was written, or is skipped, and was counted
+pub record FrameWent (skip : ℕ) (bytes : List ℕ) (n m : ℕ) (before after : Streamed) : Type 0 where
+  pub count : m ≡ n + 1
+  pub left : after.left ≡ before.left
+  pub told : after.told ≡ before.told
+  pub out : Appends before.written after.written (kept skip n bytes)
+
+-- the output took so many bytes of it, which is no skipped one
+pub record FrameCut (skip : ℕ) (bytes : List ℕ) (n : ℕ) (before after : Streamed) (frames taken : ℕ) : Type 0 where
+  pub whole : frames ≡ n - skip
+  pub passed : skip ≤ n
+  pub bound : taken < length bytes
+  pub left : after.left ≡ before.left
+  pub told : after.told ≡ before.told
+  pub out : Appends before.written after.written (take taken bytes)
+
+abbrev pub FrameStops : ℕ → List ℕ → ℕ → Streamed → Streamed → Stop → Type 0
+FrameStops skip bytes n before after (Write frames taken) = FrameCut skip bytes n before after frames taken
+FrameStops skip bytes n before after Read = ⊥
+FrameStops skip bytes n before after Memory = ⊥
+FrameStops skip bytes n before after TooMany = (after ≡ before) × (n ≡ most)
+
+-- from a player whose next frame has number n these events lead to another, whose next frame has number m; their frames
+-- were written, but for those that are skipped, and what is told of them was told
+pub record Went (skip : ℕ) (status : Bool) (old : Playing) (n : ℕ) (events : List Event) (new : Playing) (m : ℕ) (before after : Streamed) : Type 0 where
+  pub state : new ≡ played old events
+  pub count : m ≡ n + length (frames_of old events)
+  pub left : after.left ≡ before.left
+  pub out : Appends before.written after.written (kept_bytes (skip - n) old events)
+  pub telling : Grows before.told after.told (notes_if status n old.code old.state events)
+
+-- some of them were done, which makes so many frames in all, and then the output failed, or the count was at its end
+pub record CutIn (skip : ℕ) (status : Bool) (old : Playing) (n : ℕ) (events : List Event) (before after : Streamed) (made frames bytes : ℕ) : Type 0 where
+  pub done : List Event
+  pub rest : List Event
+  pub cut : events ≡ done ++ rest
+  pub count : made ≡ n + length (frames_of old done)
+  pub whole : frames ≡ made - skip
+  pub part : IsCutAt bytes (skip - made) (played old done) rest
+  pub left : after.left ≡ before.left
+  pub out : Appends before.written after.written (kept_bytes (skip - n) old done ++ take bytes (next_frame (played old done)))
+  pub telling : Grows before.told after.told (notes_if status n old.code old.state done)
+
+abbrev pub StopsIn : ℕ → Bool → Playing → ℕ → List Event → Streamed → Streamed → Stop → Type 0
+StopsIn skip status old n events before after (Write frames bytes) = (made : ℕ) × CutIn skip status old n events before after made frames bytes
+StopsIn skip status old n events before after Read = ⊥
+StopsIn skip status old n events before after Memory = ⊥
+StopsIn skip status old n events before after TooMany = (frames : ℕ) × CutIn skip status old n events before after most frames 0
+
+-- a line was done
+pub record LineWent (skip : ℕ) (status : Bool) (old : Playing) (n number : ℕ) (line : List ℕ) (new : Playing) (m : ℕ) (before after : Streamed) : Type 0 where
+  pub steps : List Step
+  pub messages : List Message
+  pub does : LineDoes status old n number line steps messages
+  pub state : new ≡ played old (events_of steps)
+  pub count : m ≡ n + length (frames_of old (events_of steps))
+  pub left : after.left ≡ before.left
+  pub out : Appends before.written after.written (kept_bytes (skip - n) old (events_of steps))
+  pub telling : Grows before.told after.told messages
+
+-- or was not
+abbrev pub LineStops : ℕ → Bool → Playing → ℕ → List ℕ → Streamed → Streamed → Stop → Type 0
+LineStops skip status old n line before after (Write frames bytes) = (steps : List Step) × LineHolds line steps × ((made : ℕ) × CutIn skip status old n (events_of steps) before after made frames bytes)
+LineStops skip status old n line before after Read = ⊥
+LineStops skip status old n line before after Memory = after ≡ before
+LineStops skip status old n line before after TooMany =
+    (steps : List Step) × LineHolds line steps × ((frames : ℕ) × CutIn skip status old n (events_of steps) before after most frames 0)
+
+-- some lines are done: this is the player, its next frame has number m, and the next line follows this many
+pub record Going (skip : ℕ) (status : Bool) (p : Playing) (old now : Streamed) (q : Playing) (m number : ℕ) : Type 0 where
+  pub lines : List (List ℕ)
+  pub reached : Reached skip status p old now lines
+  pub player : q ≡ played p (events_of reached.steps)
+  pub count : m ≡ length (frames_of p (events_of reached.steps))
+  pub numbered : length lines ≡ number

@@ -1,0 +1,115 @@
+-- What a live run comes to: what was read, written and told.
+use Rattle.std.specs.Prelude.{◌≡◌, ◌⊎◌, ℕ, ◌-◌, ◌<◌, Bool, true, List, [], ◌∷◌, ◌++◌, length, take, drop, Option}
+use Rattle.std.specs.List.{AllByRecursion, concat}
+use Rattle.std.specs.Io.KnownBytes.{Appends, IsAtEnd}
+use Rattle.console.specs.Lines.{GivesLines}
+use Rattle.plan_runs.specs.declared.event.Event.{Event}
+use Rattle.plan_runs.specs.declared.event.Event.TheVariants.{Frame}
+use Rattle.plan_player.specs.Playing.{Playing, played}
+use Rattle.plan_player.specs.Delivery.{frames_of, next_frame}
+use Rattle.plan_session.specs.declared.step.Step.{Step}
+use Rattle.plan_session.specs.Events.{events_of}
+use Rattle.plan_live.specs.declared.fault.Stop.{Stop}
+use Rattle.plan_live.specs.declared.fault.Stop.TheVariants.{Write, Read, Memory, TooMany}
+use Rattle.plan_live.specs.declared.message.Message.{Message}
+use Rattle.plan_live.specs.Lines.{LineHolds, LinesDo}
+use Rattle.plan_live.specs.Notes.{notes_if}
+use Rattle.plan_live.specs.Growing.{Grows}
+
+-- the bytes of the frames of these events, but for the first `skip` of them
+abbrev pub kept_bytes : ℕ → Playing → List Event → List ℕ
+kept_bytes skip p events = concat (drop skip (frames_of p events))
+
+-- ---- the three ends, before and after
+
+pub record Streamed : Type 0 where
+  pub left : Option (List ℕ)
+  pub written : Option (List ℕ)
+  pub told : Option (List Message)
+
+abbrev pub streamed : Option (List ℕ) → Option (List ℕ) → Option (List Message) → Streamed
+streamed left written told = record { left = left; written = written; told = told }
+
+-- ---- lines that are done
+
+-- these lines were read; the frames of the steps that they hold were written, but for the first `skip`; and what is told
+-- of them was told
+pub record Reached (skip : ℕ) (status : Bool) (p : Playing) (old new : Streamed) (lines : List (List ℕ)) : Type 0 where
+  pub given : GivesLines old.left lines new.left
+  pub steps : List Step
+  pub messages : List Message
+  pub does : LinesDo status p 0 0 lines steps messages
+  pub out : Appends old.written new.written (kept_bytes skip p (events_of steps))
+  pub telling : Grows old.told new.told messages
+
+-- some lines are done
+abbrev pub AreDone : ℕ → Bool → Playing → Streamed → Streamed → Type 0
+AreDone skip status p old new = (lines : List (List ℕ)) × Reached skip status p old new lines
+
+-- all lines are, and the input is at its end
+abbrev pub Whole : ℕ → Bool → Playing → Streamed → Streamed → Type 0
+Whole skip status p old new = (lines : List (List ℕ)) × Reached skip status p old new lines × IsAtEnd new.left
+
+-- each time that a line was asked for, all lines before it were done: these are the moments at which it was
+pub record IsPrompt (skip : ℕ) (status : Bool) (p : Playing) (old : Streamed) (before after : Option (List Streamed)) : Type 0 where
+  pub moments : List Streamed
+  pub grows : Grows before after moments
+  pub done : AllByRecursion (AreDone skip status p old) moments
+
+-- ---- a run that stops
+
+-- as many as are counted of lines, and of frames
+abbrev pub most : ℕ
+most = 18446744073709551615
+
+-- some lines were done, and then the input gave no more
+abbrev pub Broken : ℕ → Bool → Playing → Streamed → Streamed → Type 0
+Broken skip status p old new = (lines : List (List ℕ)) × (rest : Option (List ℕ)) × Reached skip status p old (record new { left = rest }) lines
+
+-- some lines were done, and one more was read, of which nothing was
+abbrev pub Unserved : ℕ → Bool → Playing → Streamed → Streamed → Type 0
+Unserved skip status p old new = (lines : List (List ℕ)) × (last : List ℕ) × (rest : Option (List ℕ))
+    × Reached skip status p old (record new { left = rest }) lines × GivesLines old.left (lines ++ last ∷ []) new.left
+
+-- where the output fails at the next of these events, of which this many bytes went out; or between two frames
+abbrev pub IsCutAt : ℕ → ℕ → Playing → List Event → Type 0
+IsCutAt bytes passed p rest =
+    (bytes ≡ 0)
+    ⊎ ((more : List Event) × (rest ≡ Frame ∷ more) × (bytes < length (next_frame p)) × (passed ≡ 0))
+
+-- some lines were done, and one more was read, of which the first events were done: so many frames were made in all, so
+-- many of them went out, which are those without the skipped ones, and so many bytes of the next one
+pub record Cut (skip : ℕ) (status : Bool) (p : Playing) (old new : Streamed) (made frames bytes : ℕ) : Type 0 where
+  pub lines : List (List ℕ)
+  pub last : List ℕ
+  pub given : GivesLines old.left (lines ++ last ∷ []) new.left
+  pub steps : List Step
+  pub messages : List Message
+  pub does : LinesDo status p 0 0 lines steps messages
+  pub more : List Step
+  pub holds : LineHolds last more
+  pub done : List Event
+  pub rest : List Event
+  pub cut : events_of more ≡ done ++ rest
+  pub count : made ≡ length (frames_of p (events_of steps ++ done))
+  pub whole : frames ≡ made - skip
+  pub part : IsCutAt bytes (skip - made) (played p (events_of steps ++ done)) rest
+  pub out : Appends old.written new.written
+      (kept_bytes skip p (events_of steps ++ done) ++ take bytes (next_frame (played p (events_of steps ++ done))))
+  pub telling : Grows old.told new.told (messages ++ notes_if status (length (frames_of p (events_of steps)))
+      p.code (played p (events_of steps)).state done)
+
+abbrev pub StoppedBy : ℕ → Bool → Playing → Streamed → Streamed → Stop → Type 0
+StoppedBy skip status p old new (Write frames bytes) = (made : ℕ) × Cut skip status p old new made frames bytes
+StoppedBy skip status p old new Read = Broken skip status p old new
+StoppedBy skip status p old new Memory = Unserved skip status p old new
+StoppedBy skip status p old new TooMany =
+    ((lines : List (List ℕ)) × Reached skip status p old new lines × (length lines ≡ most))
+    ⊎ ((frames : ℕ) × Cut skip status p old new most frames 0)
+
+-- the end that is blamed for the stop has failed: the input, or the output
+abbrev pub HasFailed : Stop → Bool → Bool → Type 0
+HasFailed (Write frames bytes) input output = output ≡ true
+HasFailed Read input output = input ≡ true
+HasFailed Memory input output = Unit {0}
+HasFailed TooMany input output = Unit {0}

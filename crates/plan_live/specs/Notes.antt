@@ -1,0 +1,49 @@
+-- What is told of the frames of a run: the swaps, the notices that begin, and the end.
+use Rattle.std.specs.Prelude.{ℕ, ◌+◌, Bool, true, false, if◌then◌else◌, List, [], ◌∷◌, ◌++◌}
+use Rattle.mux_config.specs.Change.{change_of, bits_of}
+use Rattle.plan_code.specs.declared.hold.Hold.{Hold}
+use Rattle.plan_code.specs.declared.hold.Hold.TheVariants.{Waits, WaitsDay, WaitsContact, WaitsSwap, Ended}
+use Rattle.plan_code.specs.declared.plan.Plan.{Plan}
+use Rattle.plan_code.specs.Program.{Program}
+use Rattle.plan_code.specs.Machine.{State}
+use Rattle.plan_runs.specs.declared.event.Event.{Event}
+use Rattle.plan_runs.specs.declared.event.Event.TheVariants.{Contact, Frame}
+use Rattle.plan_runs.specs.Frames.{is_due, is_first_noticed, shown, low_of_swap, after_frame}
+use Rattle.plan_runs.specs.Runs.{happens}
+use Rattle.plan_live.specs.declared.message.Message.{Message}
+use Rattle.plan_live.specs.declared.message.Message.TheVariants.{Swap, Notice, End}
+
+-- a swap is due in the frame of this number, before which the state is s
+abbrev pub swap_note : ℕ → State → List Message
+swap_note n s = if is_due s.left then Swap n s.count ∷ [] else []
+
+-- the frame of this number and count, whose bytes show the state t, is the first of a notice: the change flags that it
+-- announces, and the low part of the count of the swap
+abbrev pub notice_note : ℕ → ℕ → Plan → State → List Message
+notice_note n count plan t =
+    if is_first_noticed plan.notice t.left then Notice n count (bits_of (change_of t.current t.next)) (low_of_swap count t.left) ∷ [] else []
+
+-- the plan has come to its end after the frame, and had not before it
+abbrev pub has_ended : Hold → Bool
+has_ended (Waits n) = false
+has_ended (WaitsDay t) = false
+has_ended (WaitsContact c closed) = false
+has_ended WaitsSwap = false
+has_ended Ended = true
+
+abbrev pub end_note : ℕ → State → State → List Message
+end_note n s t = if has_ended s.hold then [] else if has_ended t.hold then End n s.count ∷ [] else []
+
+-- what is told of the frame of this number
+abbrev pub frame_notes : ℕ → Program → State → List Message
+frame_notes n p s = swap_note n s ++ (notice_note n s.count p.plan (shown p s) ++ end_note n s (after_frame p s))
+
+-- what is told of the frames of these events, of which the first has this number; nothing where no status is wanted
+abbrev pub notes : ℕ → Program → State → List Event → List Message
+notes n p s [] = []
+notes n p s (Contact c closed ∷ es) = notes n p (happens p s (Contact c closed)) es
+notes n p s (Frame ∷ es) = frame_notes n p s ++ notes (n + 1) p (after_frame p s) es
+
+abbrev pub notes_if : Bool → ℕ → Program → State → List Event → List Message
+notes_if false n p s events = []
+notes_if true n p s events = notes n p s events

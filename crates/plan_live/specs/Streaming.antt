@@ -1,0 +1,8 @@
+-- The ends that streams stand over, as they are.
+use Rattle.plan_live.specs.declared.streams.Streams.{Streams}
+
+abbrev pub writer_of : {R W M : Type 0} → Streams R W M → W
+writer_of s = s.out.now
+
+abbrev pub messages_of : {R W M : Type 0} → Streams R W M → M
+messages_of s = s.messages.now

@@ -1,0 +1,98 @@
+//! What a live run reads from and writes to.
+
+ghost use Rattle.std.specs.Prelude.{◌≡◌, ◌<◌, ◌≤◌, ℕ, List, ◌∷◌, [], length, take, true, false, OnOk, OnErr, IfErr};
+ghost use Rattle.std.specs.Io.KnownBytes.{Appends, Keeps, IsAtEnd};
+ghost use Rattle.console.specs.Lines.{GivesLine};
+ghost use Rattle.console.specs.declared.lines.Heard.TheVariants.{Line as IsLine, Long as IsLong, End as IsEnd, Failed as IsFailed};
+ghost use Rattle.plan_live.specs.Growing.{Grows};
+ghost use Rattle.plan_live.specs.Living.{streamed};
+
+use crate::message::Message;
+use arrayvec::ArrayVec;
+use console::lines::Heard;
+
+/// Takes messages. One that can't be delivered is lost: nothing waits for it.
+pub trait Messages {
+    ghost use Rattle.std.specs.Prelude.{List, Option};
+    ghost use Rattle.plan_live.specs.declared.message.Message.{Message};
+
+    /// The messages so far, where it tells them.
+    ghost told: { Self → Option (List Message) };
+
+    /// Takes one more.
+    fn tell(&mut self, message: Message)
+        ensures { Grows (told self.old) (told self.new) (message ∷ []) };
+}
+
+/// The three ends of a live run: an input that gives lines, an output that takes bytes, and what takes messages. No line
+/// is read before the output has passed on all that it took.
+pub trait Ends {
+    ghost use Rattle.std.specs.Prelude.{ℕ, List, Option, Bool};
+    ghost use Rattle.plan_live.specs.declared.message.Message.{Message};
+    ghost use Rattle.plan_live.specs.Living.{Streamed};
+
+    /// The bytes that are left of the input, where it tells them.
+    ghost left: { Self → Option (List ℕ) };
+
+    /// The bytes that the output has taken, where it tells them.
+    ghost written: { Self → Option (List ℕ) };
+
+    /// The messages so far, where they are told.
+    ghost told: { Self → Option (List Message) };
+
+    /// Whether the output has passed on all that it took.
+    ghost is_flushed: { Self → Bool };
+
+    /// What was left, written and told each time that a line was asked for, where it tells that.
+    ghost moments: { Self → Option (List Streamed) };
+
+    /// Whether the input could not be read.
+    ghost input_failed: { Self → Bool };
+
+    /// Whether the output could not take or pass on all that it was given.
+    ghost output_failed: { Self → Bool };
+
+    /// Reads up to the next line's feed and no byte further, and puts the line, without its feed, into `line`. At any
+    /// answer but `Line` what stands in `line` means nothing.
+    fn next(&mut self, line: &mut ArrayVec<u8, 65536>) -> Heard
+        requires flushed { is_flushed self.old ≡ true }
+        ensures line { result ≡ IsLine → GivesLine (left self.old) line.new.items (left self.new) }
+        ensures bound { result ≡ IsLine → length line.new.items ≤ 65536 }
+        ensures long { result ≡ IsLong
+            → (line : List ℕ) × (65536 < length line) × GivesLine (left self.old) line (left self.new) }
+        ensures end { result ≡ IsEnd → Keeps (left self.old) (left self.new) × IsAtEnd (left self.new) }
+        ensures failed { result ≡ IsFailed → input_failed self.new ≡ true }
+        ensures moments { Grows (moments self.old) (moments self.new)
+            (streamed (left self.old) (written self.old) (told self.old) ∷ []) }
+        ensures flushed { is_flushed self.new ≡ true }
+        ensures written { written self.new ≡ written self.old }
+        ensures told { told self.new ≡ told self.old };
+
+    /// Writes these bytes. `Err`: the output failed after this many of them, fewer than all.
+    fn write(&mut self, bytes: &[u8]) -> Result<(), usize>
+        ensures all { OnOk result (Appends (written self.old) (written self.new) bytes.now) }
+        ensures bound { IfErr result (λ n. n < length bytes.now) }
+        ensures part { IfErr result (λ n.
+            Appends (written self.old) (written self.new) (take n bytes.now)) }
+        ensures failed { OnErr result (output_failed self.new ≡ true) }
+        ensures moments { moments self.new ≡ moments self.old }
+        ensures left { left self.new ≡ left self.old }
+        ensures told { told self.new ≡ told self.old };
+
+    /// Passes on all that the output has taken; whether that was done.
+    fn flush(&mut self) -> bool
+        ensures flushed { result ≡ true → is_flushed self.new ≡ true }
+        ensures failed { result ≡ false → output_failed self.new ≡ true }
+        ensures written { Keeps (written self.old) (written self.new) }
+        ensures moments { moments self.new ≡ moments self.old }
+        ensures left { left self.new ≡ left self.old }
+        ensures told { told self.new ≡ told self.old };
+
+    /// Takes a message.
+    fn tell(&mut self, message: Message)
+        ensures told { Grows (told self.old) (told self.new) (message ∷ []) }
+        ensures moments { moments self.new ≡ moments self.old }
+        ensures flushed { is_flushed self.new ≡ is_flushed self.old }
+        ensures written { written self.new ≡ written self.old }
+        ensures left { left self.new ≡ left self.old };
+}

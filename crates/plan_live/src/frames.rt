@@ -1,0 +1,253 @@
+//! The frames of steps, made, and written but for those that are skipped.
+
+ghost use Rattle.std.specs.Prelude.{◌≡◌, ◌-◌, ◌<◌, ◌≤◌, [], ◌∷◌, length, take, true, replicate, OnOk, OnErr, IfErr};
+ghost use Rattle.std.specs.List.{AllByRecursion};
+ghost use Rattle.std.specs.Io.KnownBytes.{Appends, Keeps};
+ghost use Rattle.plan_runs.specs.declared.event.Event.TheVariants.{Frame};
+ghost use Rattle.plan_player.specs.Playing.{played};
+ghost use Rattle.plan_player.specs.Delivery.{next_frame};
+ghost use Rattle.plan_session.specs.Events.{events_of_step, events_of};
+ghost use Rattle.plan_live.specs.Going.{kept, FrameWent, FrameStops, Went, StopsIn};
+ghost use Rattle.plan_live.specs.Living.{streamed, HasFailed};
+ghost use Rattle.plan_live.specs.declared.fault.Stop.TheVariants.{Write};
+
+use crate::ends::Ends;
+use crate::fault::Stop;
+use crate::notes::{look_at, tell_frame};
+use crate::options::LiveOptions;
+use fib_codec::FibFrame;
+use mux_config::Store;
+use plan_player::Player;
+use plan_session::Step;
+
+/// How many frames went out of this many that were made.
+fn written_of(made: u64, skip: u32) -> u64
+    ensures { result ≡ made - skip }
+{
+    made.saturating_sub(u64::from(skip))
+}
+
+/// Writes the bytes of the frame of this number, unless it is skipped. `Err`: the output took this many of them.
+fn put<E: Ends>(bytes: &[u8], number: u64, skip: u32, ends: &mut E) -> Result<(), usize>
+    ensures all { OnOk result
+        (Appends (E.written ends.old) (E.written ends.new) (kept skip number bytes.now)) }
+    ensures bound { IfErr result (λ n. n < length bytes.now) }
+    ensures passed { IfErr result (λ n. skip ≤ number) }
+    ensures part { IfErr result (λ n.
+        Appends (E.written ends.old) (E.written ends.new) (take n bytes.now)) }
+    ensures failed { OnErr result (E.output_failed ends.new ≡ true) }
+    ensures moments { E.moments ends.new ≡ E.moments ends.old }
+    ensures left { E.left ends.new ≡ E.left ends.old }
+    ensures told { E.told ends.new ≡ E.told ends.old }
+{
+    if number < u64::from(skip) {
+        return Ok(());
+    }
+    ends.write(bytes)
+}
+
+/// Writes the bytes of the next frame, unless it is skipped, and counts it.
+fn write_frame<E: Ends>(bytes: &[u8], made: &mut u64, skip: u32, ends: &mut E) -> Result<(), Stop>
+    ensures done { OnOk result (FrameWent skip bytes.now made.old made.new
+        (streamed (E.left ends.old) (E.written ends.old) (E.told ends.old))
+        (streamed (E.left ends.new) (E.written ends.new) (E.told ends.new))) }
+    ensures stopped { IfErr result (λ stop. FrameStops skip bytes.now made.old
+        (streamed (E.left ends.old) (E.written ends.old) (E.told ends.old))
+        (streamed (E.left ends.new) (E.written ends.new) (E.told ends.new)) stop) }
+    ensures failed { IfErr result (λ stop.
+        HasFailed stop (E.input_failed ends.new) (E.output_failed ends.new)) }
+    ensures moments { E.moments ends.new ≡ E.moments ends.old }
+{
+    let number = *made;
+    if number == u64::MAX {
+        return Err(Stop::TooMany);
+    }
+    match put(bytes, number, skip, ends) {
+        Ok(()) => {
+            *made = number + 1;
+            Ok(())
+        }
+        Err(bytes) => Err(Stop::Write {
+            frames: written_of(number, skip),
+            bytes,
+        }),
+    }
+}
+
+/// Makes the next frame.
+fn make_frame<'a, S: Store>(player: &mut Player<'a, S>) -> FibFrame
+    ensures state { player.new ≡ played player.old (Frame ∷ []) }
+    ensures bytes { result ≡ next_frame player.old }
+{
+    player.frame()
+}
+
+/// Makes the next frame, writes it, and tells what is to be told of it.
+fn play_frame<'a, S: Store, E: Ends>(
+    player: &mut Player<'a, S>,
+    made: &mut u64,
+    options: LiveOptions,
+    ends: &mut E,
+) -> Result<(), Stop>
+    ensures done { OnOk result (Went options.skip options.status
+        player.old made.old (Frame ∷ []) player.new made.new
+        (streamed (E.left ends.old) (E.written ends.old) (E.told ends.old))
+        (streamed (E.left ends.new) (E.written ends.new) (E.told ends.new))) }
+    ensures stopped { IfErr result (λ stop. StopsIn options.skip options.status
+        player.old made.old (Frame ∷ [])
+        (streamed (E.left ends.old) (E.written ends.old) (E.told ends.old))
+        (streamed (E.left ends.new) (E.written ends.new) (E.told ends.new)) stop) }
+    ensures failed { IfErr result (λ stop.
+        HasFailed stop (E.input_failed ends.new) (E.output_failed ends.new)) }
+    ensures moments { E.moments ends.new ≡ E.moments ends.old }
+{
+    let number = *made;
+    let before = look_at(player);
+    let frame = make_frame(player);
+    match write_frame(frame.bytes(), made, options.skip, ends) {
+        Ok(()) => {
+            tell_frame(player, before, number, options.status, ends);
+            Ok(())
+        }
+        Err(stop) => Err(stop),
+    }
+}
+
+/// Makes this many frames.
+fn play_frames<'a, S: Store, E: Ends>(
+    player: &mut Player<'a, S>,
+    made: &mut u64,
+    count: u32,
+    options: LiveOptions,
+    ends: &mut E,
+) -> Result<(), Stop>
+    ensures done { OnOk result (Went options.skip options.status
+        player.old made.old (replicate count Frame) player.new made.new
+        (streamed (E.left ends.old) (E.written ends.old) (E.told ends.old))
+        (streamed (E.left ends.new) (E.written ends.new) (E.told ends.new))) }
+    ensures stopped { IfErr result (λ stop. StopsIn options.skip options.status
+        player.old made.old (replicate count Frame)
+        (streamed (E.left ends.old) (E.written ends.old) (E.told ends.old))
+        (streamed (E.left ends.new) (E.written ends.new) (E.told ends.new)) stop) }
+    ensures failed { IfErr result (λ stop.
+        HasFailed stop (E.input_failed ends.new) (E.output_failed ends.new)) }
+    ensures moments { E.moments ends.new ≡ E.moments ends.old }
+{
+    let mut done = 0u32;
+    while done < count {
+        match play_frame(player, made, options, ends) {
+            Ok(()) => done += 1,
+            Err(stop) => return Err(stop),
+        }
+    }
+    Ok(())
+}
+
+/// Plays a step.
+fn play_step<'a, S: Store, E: Ends>(
+    player: &mut Player<'a, S>,
+    made: &mut u64,
+    step: Step,
+    options: LiveOptions,
+    ends: &mut E,
+) -> Result<(), Stop>
+    ensures done { OnOk result (Went options.skip options.status
+        player.old made.old (events_of_step step) player.new made.new
+        (streamed (E.left ends.old) (E.written ends.old) (E.told ends.old))
+        (streamed (E.left ends.new) (E.written ends.new) (E.told ends.new))) }
+    ensures stopped { IfErr result (λ stop. StopsIn options.skip options.status
+        player.old made.old (events_of_step step)
+        (streamed (E.left ends.old) (E.written ends.old) (E.told ends.old))
+        (streamed (E.left ends.new) (E.written ends.new) (E.told ends.new)) stop) }
+    ensures failed { IfErr result (λ stop.
+        HasFailed stop (E.input_failed ends.new) (E.output_failed ends.new)) }
+    ensures moments { E.moments ends.new ≡ E.moments ends.old }
+{
+    match step {
+        Step::Contact(contact, closed) => {
+            player.contact(contact, closed);
+            Ok(())
+        }
+        Step::Frames(count) => play_frames(player, made, count, options, ends),
+    }
+}
+
+/// Plays steps, one after another.
+fn play_steps<'a, S: Store, E: Ends>(
+    player: &mut Player<'a, S>,
+    made: &mut u64,
+    steps: &[Step],
+    options: LiveOptions,
+    ends: &mut E,
+) -> Result<(), Stop>
+    ensures done { OnOk result (Went options.skip options.status
+        player.old made.old (events_of steps.now) player.new made.new
+        (streamed (E.left ends.old) (E.written ends.old) (E.told ends.old))
+        (streamed (E.left ends.new) (E.written ends.new) (E.told ends.new))) }
+    ensures stopped { IfErr result (λ stop. StopsIn options.skip options.status
+        player.old made.old (events_of steps.now)
+        (streamed (E.left ends.old) (E.written ends.old) (E.told ends.old))
+        (streamed (E.left ends.new) (E.written ends.new) (E.told ends.new)) stop) }
+    ensures failed { IfErr result (λ stop.
+        HasFailed stop (E.input_failed ends.new) (E.output_failed ends.new)) }
+    ensures moments { E.moments ends.new ≡ E.moments ends.old }
+{
+    for step in steps {
+        match play_step(player, made, *step, options, ends) {
+            Ok(()) => {}
+            Err(stop) => return Err(stop),
+        }
+    }
+    Ok(())
+}
+
+/// Flushes the output. `Err`: that failed after this many frames were made.
+fn flush_line<E: Ends>(made: u64, skip: u32, ends: &mut E) -> Result<(), Stop>
+    ensures flushed { OnOk result (E.is_flushed ends.new ≡ true) }
+    ensures fault { IfErr result (λ stop. stop ≡ Write (made - skip) 0) }
+    ensures failed { IfErr result (λ stop.
+        HasFailed stop (E.input_failed ends.new) (E.output_failed ends.new)) }
+    ensures moments { E.moments ends.new ≡ E.moments ends.old }
+    ensures written { Keeps (E.written ends.old) (E.written ends.new) }
+    ensures left { E.left ends.new ≡ E.left ends.old }
+    ensures told { E.told ends.new ≡ E.told ends.old }
+{
+    if ends.flush() {
+        Ok(())
+    } else {
+        Err(Stop::Write {
+            frames: written_of(made, skip),
+            bytes: 0,
+        })
+    }
+}
+
+/// Plays the steps of a line, and flushes the output.
+pub(crate) fn play_line<'a, S: Store, E: Ends>(
+    player: &mut Player<'a, S>,
+    made: &mut u64,
+    steps: &[Step],
+    options: LiveOptions,
+    ends: &mut E,
+) -> Result<(), Stop>
+    ensures done { OnOk result (Went options.skip options.status
+        player.old made.old (events_of steps.now) player.new made.new
+        (streamed (E.left ends.old) (E.written ends.old) (E.told ends.old))
+        (streamed (E.left ends.new) (E.written ends.new) (E.told ends.new))) }
+    ensures stopped { IfErr result (λ stop. StopsIn options.skip options.status
+        player.old made.old (events_of steps.now)
+        (streamed (E.left ends.old) (E.written ends.old) (E.told ends.old))
+        (streamed (E.left ends.new) (E.written ends.new) (E.told ends.new)) stop) }
+    ensures failed { IfErr result (λ stop.
+        HasFailed stop (E.input_failed ends.new) (E.output_failed ends.new)) }
+    ensures moments { E.moments ends.new ≡ E.moments ends.old }
+    ensures flushed { OnOk result (E.is_flushed ends.new ≡ true) }
+{
+    match play_steps(player, made, steps, options, ends) {
+        Err(stop) => Err(stop),
+        Ok(()) => match flush_line(*made, options.skip, ends) {
+            Ok(()) => Ok(()),
+            Err(stop) => Err(stop),
+        },
+    }
+}

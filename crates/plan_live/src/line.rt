@@ -1,0 +1,46 @@
+//! The steps that a line holds.
+
+ghost use Rattle.std.specs.Prelude.{◌≡◌, ◌≤◌, length, IfOk, IfErr};
+ghost use Rattle.plan_live.specs.Lines.{LineHolds, IsUnread, unread_of};
+
+use crate::message::LineFault;
+use plan_session::{EventFault, Step, read_events};
+use std::alloc::Global;
+use std::str;
+
+/// Why the steps of a line can't be had.
+#[derive(Clone, Copy)]
+pub(crate) enum Unread {
+    /// It holds none.
+    Bad(LineFault),
+    /// There was no memory for them.
+    Memory,
+}
+
+/// What the fault of an event file says of the only line that it has.
+fn fault_of(fault: EventFault) -> Unread
+    ensures { result ≡ unread_of fault }
+{
+    match fault {
+        EventFault::Byte(position) => Unread::Bad(LineFault::Byte(position.column)),
+        EventFault::Number(position) => Unread::Bad(LineFault::Number(position.column)),
+        EventFault::Expected(position) => Unread::Bad(LineFault::Expected(position.column)),
+        EventFault::Memory => Unread::Memory,
+    }
+}
+
+/// The steps of a line; a line is an event file of its own.
+pub(crate) fn steps_of_line(alloc: Global, line: &[u8]) -> Result<Vec<Step>, Unread>
+    requires { length line.now ≤ 65536 }
+    ensures found { IfOk result (λ steps. LineHolds line.now steps.items) }
+    ensures fault { IfErr result (λ unread. IsUnread line.now unread) }
+{
+    let text = match str::from_utf8(line) {
+        Ok(text) => text,
+        Err(_) => return Err(Unread::Bad(LineFault::NoText)),
+    };
+    match read_events(alloc, text) {
+        Ok(steps) => Ok(steps),
+        Err(fault) => Err(fault_of(fault)),
+    }
+}

@@ -1,0 +1,73 @@
+//! A code's file, led line by line.
+
+ghost use Rattle.std.specs.Prelude.{◌≡◌, [], true, OnOk, IfErr};
+ghost use Rattle.plan_player.specs.Playing.{Playing};
+ghost use Rattle.plan_session.specs.Playback.{asked};
+ghost use Rattle.plan_live.specs.Beginning.{Begins, Lives, IsLiveFault, HasLiveFailed};
+ghost use Rattle.plan_live.specs.Living.{streamed, IsPrompt};
+
+use crate::ends::Ends;
+use crate::fault::LiveFault;
+use crate::leading::lead;
+use crate::options::LiveOptions;
+use mux_tables::Tables;
+use plan_code::Contacts;
+use plan_player::{Player, Start};
+use plan_session::{RunFault, typed_code};
+use std::alloc::Global;
+
+/// Plays the code in a file over the lines of an input as they come: the player starts at this CIF count and frame of the
+/// day, with these contacts closed. It ends where the input does.
+///
+/// # Errors
+///
+/// The first of these: `Playback` where the code can't be played from there, with `Code`, `Refused` or `Start`; nothing
+/// was read, written or told then. `Stopped` where the run stops, as [`lead`] says.
+pub fn live<E: Ends>(
+    alloc: Global,
+    code: &[u8],
+    count: u16,
+    day: u32,
+    contacts: Contacts,
+    options: LiveOptions,
+    ends: &mut E,
+) -> Result<(), LiveFault>
+    requires flushed { E.is_flushed ends.old ≡ true }
+    // A typed code and a start in range are played, unless memory for the code is refused.
+    ensures played { (p : Playing) → Begins (asked code.now [] count day contacts) p
+        → Lives options.skip options.status p
+        (streamed (E.left ends.old) (E.written ends.old) (E.told ends.old))
+        (streamed (E.left ends.new) (E.written ends.new) (E.told ends.new)) result }
+    // Nothing else is.
+    ensures only { OnOk result ((p : Playing) × Begins (asked code.now [] count day contacts) p) }
+    ensures first_fault { IfErr result (λ e. IsLiveFault (asked code.now [] count day contacts)
+        (streamed (E.left ends.old) (E.written ends.old) (E.told ends.old))
+        (streamed (E.left ends.new) (E.written ends.new) (E.told ends.new)) e) }
+    // A stop that blames an end comes where that end has failed.
+    ensures failed { IfErr result (λ e.
+        HasLiveFailed e (E.input_failed ends.new) (E.output_failed ends.new)) }
+    // Each time that a line is asked for, all lines before it are done.
+    ensures prompt { (p : Playing) → Begins (asked code.now [] count day contacts) p
+        → IsPrompt options.skip options.status p
+        (streamed (E.left ends.old) (E.written ends.old) (E.told ends.old))
+        (E.moments ends.old) (E.moments ends.new) }
+{
+    let verified = match typed_code(alloc, code) {
+        Ok(verified) => verified,
+        Err(fault) => return Err(LiveFault::Playback(fault)),
+    };
+    let start = Start {
+        eid: verified.code().plan().eid,
+        count,
+        day,
+        contacts,
+    };
+    let mut player: Player<Tables> = match Player::new(&verified, start) {
+        Ok(player) => player,
+        Err(fault) => return Err(LiveFault::Playback(RunFault::Start(fault))),
+    };
+    match lead(alloc, &mut player, options, ends) {
+        Ok(()) => Ok(()),
+        Err(stop) => Err(LiveFault::Stopped(stop)),
+    }
+}

@@ -1,0 +1,102 @@
+//! The three ends over a reader, a writer and what takes messages.
+
+ghost use Rattle.std.specs.Prelude.{◌≡◌};
+
+use crate::ends::{Ends, Messages};
+use crate::message::Message;
+use arrayvec::ArrayVec;
+use console::lines::{Heard, Lines};
+use console::output::write_out;
+use std::io::{Read, Write};
+
+/// The lines of a reader, a writer that is flushed, and what takes messages. A write that fails, takes nothing or is
+/// interrupted is not tried again. They tell what the reader, the writer and the messages tell.
+#[derive(Drop)]
+pub struct Streams<'a, R: Read + Drop, W, M> {
+    lines: Lines<R>,
+    out: &'a mut W,
+    messages: &'a mut M,
+    is_flushed: bool,
+    input_failed: bool,
+    output_failed: bool,
+}
+
+impl<'a, R: Read + Drop, W: Write, M: Messages> Streams<'a, R, W, M> {
+    ghost use Rattle.std.specs.Prelude.{◌≡◌, true, false};
+    ghost use Rattle.plan_live.specs.Streaming.{writer_of, messages_of};
+
+    /// The ends over these, into which nothing was written so far.
+    pub fn new(reader: R, out: &'a mut W, messages: &'a mut M) -> Self
+        ensures left { result.lines ≡ R.remaining reader }
+        ensures written { W.contents (writer_of result) ≡ W.contents out.old }
+        ensures told { M.told (messages_of result) ≡ M.told messages.old }
+        ensures flushed { result.is_flushed ≡ true }
+        ensures working { (result.input_failed ≡ false) × (result.output_failed ≡ false) }
+    {
+        Streams {
+            lines: Lines::new(reader),
+            out,
+            messages,
+            is_flushed: true,
+            input_failed: false,
+            output_failed: false,
+        }
+    }
+}
+
+impl<R: Read + Drop, W: Write, M: Messages> Ends for Streams<'_, R, W, M> {
+    ghost use Rattle.std.specs.Prelude.{None};
+    ghost use Rattle.plan_live.specs.Streaming.{writer_of, messages_of};
+
+    ghost left = { λ s. s.lines };
+
+    ghost written = { λ s. W.contents (writer_of s) };
+
+    ghost told = { λ s. M.told (messages_of s) };
+
+    ghost is_flushed = { λ s. s.is_flushed };
+
+    ghost moments = { λ _. None };
+
+    ghost input_failed = { λ s. s.input_failed };
+
+    ghost output_failed = { λ s. s.output_failed };
+
+    fn next(&mut self, line: &mut ArrayVec<u8, 65536>) -> Heard {
+        let heard = self.lines.next(line);
+        match heard {
+            Heard::Failed => self.input_failed = true,
+            Heard::Line | Heard::Long | Heard::End => {}
+        }
+        heard
+    }
+
+    fn write(&mut self, bytes: &[u8]) -> Result<(), usize> {
+        self.is_flushed = false;
+        let (taken, result) = write_out(bytes, self.out);
+        match result {
+            Ok(()) => Ok(()),
+            Err(_) => {
+                self.output_failed = true;
+                Err(taken)
+            }
+        }
+    }
+
+    fn flush(&mut self) -> bool {
+        match self.out.flush() {
+            Ok(()) => {
+                self.is_flushed = true;
+                true
+            }
+            Err(_) => {
+                self.output_failed = true;
+                false
+            }
+        }
+    }
+
+    fn tell(&mut self, message: Message) {
+        self.messages.tell(message);
+    }
+}
