@@ -1,135 +1,17 @@
 //! Why a code is refused, explained.
 
 use crate::cause::explain_instr;
-use crate::config::explain_config;
-use crate::history::{Deed, commits};
+use crate::labels::{explain_cost, explain_mismatch, target_at};
+use crate::reach::Reach;
 use crate::room::explain_opening;
-use crate::walk::{Walk, copied};
-use crate::ways::explain_label;
-use mux_config::{Config, ConfigFault};
-use plan_code::{Code, Instr, Label};
-use plan_flow::ways::target_of;
-use plan_flow::{Cause, Flow};
-use std::alloc::{AllocError, Global};
+use plan_code::{Code, Instr};
+use plan_flow::{Cause, test_opening};
+use std::alloc::Global;
 use std::io::{self, Error, ErrorKind, Write};
-
-/// What a label declares of the configurations and the swap.
-fn flow_of(code: &Code, label: Label) -> Option<Flow<Config>> {
-    let current = code.config(label.cur)?;
-    let next = code.config(label.next)?;
-    Some(Flow {
-        current: copied(current),
-        next: copied(next),
-        pending: label.pending,
-    })
-}
-
-/// Becomes what the label at an instruction declares, where one stands there.
-fn enter(code: &Code, pc: u16, walk: &mut Walk) {
-    let Some(label) = code.label_at(pc) else {
-        return;
-    };
-    if let Some(flow) = flow_of(code, label) {
-        walk.flow = flow;
-    }
-}
-
-/// What is known where the machine comes to an instruction from the one before, and what was done up to it in the order of
-/// the code.
-fn walk_to(alloc: Global, code: &Code, pc: u16) -> Result<Walk, AllocError> {
-    let opening = Config::new();
-    let mut walk = Walk::new(alloc, &opening, Vec::new(alloc));
-    let plan = code.plan();
-    enter(code, 0, &mut walk);
-    let mut at = 0u16;
-    for line in code.lines() {
-        if at < pc {
-            enter(code, at, &mut walk);
-            let _ = walk.flow.apply(&plan, line.instr);
-            let done = Deed {
-                line: line.number,
-                instr: line.instr,
-            };
-            if walk.deeds.push(done).is_err() {
-                return Err(AllocError);
-            }
-            at += 1;
-        }
-    }
-    Ok(walk)
-}
-
-/// Explains what differs between what is known and what a label declares.
-fn explain_mismatch<W: Write>(code: &Code, walk: &Walk, pc: u16, out: &mut W) -> io::Result<()> {
-    let Some(flow) = declared_near(code, walk, pc) else {
-        return writeln!(
-            out,
-            "the label here does not declare what is known where the machine comes to it"
-        );
-    };
-    explain_label(&walk.flow, &flow, out)
-}
-
-/// What the label at an instruction declares, where one stands there.
-fn declared_at(code: &Code, pc: u16) -> Option<Flow<Config>> {
-    match code.label_at(pc) {
-        Some(label) => flow_of(code, label),
-        None => None,
-    }
-}
-
-/// The instruction to which the one at this place jumps, if it jumps.
-fn target_at(code: &Code, pc: u16) -> Option<u16> {
-    match code.instr(pc) {
-        Some(instr) => target_of(instr),
-        None => None,
-    }
-}
-
-/// Whether a label stands at an instruction that what is known does not fit.
-fn is_unfit(code: &Code, walk: &Walk, pc: u16) -> bool {
-    match declared_at(code, pc) {
-        Some(flow) => !walk.flow.fits(&flow.current, &flow.next, flow.pending),
-        None => false,
-    }
-}
-
-/// What the label declares that does not fit what is known: the one at the instruction, or the one that it jumps to.
-fn declared_near(code: &Code, walk: &Walk, pc: u16) -> Option<Flow<Config>> {
-    if is_unfit(code, walk, pc) {
-        return declared_at(code, pc);
-    }
-    match target_at(code, pc) {
-        Some(target) => declared_at(code, target),
-        None => None,
-    }
-}
-
-/// Explains a cost over the budget, or over the allowance of a label.
-fn explain_cost<W: Write>(code: &Code, pc: u16, out: &mut W) -> io::Result<()> {
-    let budget = code.plan().budget;
-    match code.label_at(pc) {
-        Some(label) => {
-            let cost = label.cost;
-            writeln!(
-                out,
-                "the label at instruction {pc} declares a cost of {cost}; the budget is {budget}"
-            )
-        }
-        None => writeln!(
-            out,
-            "more instructions may run in this frame than the label before instruction {pc} declares, or the budget of {budget} allows"
-        ),
-    }
-}
 
 /// Explains an instruction that jumps to a place without a label.
 fn explain_target<W: Write>(code: &Code, pc: u16, out: &mut W) -> io::Result<()> {
-    let target = match code.instr(pc) {
-        Some(instr) => target_of(instr),
-        None => None,
-    };
-    match target {
+    match target_at(code, pc) {
         Some(target) => writeln!(
             out,
             "instruction {pc} jumps to {target}, where no label stands"
@@ -138,61 +20,102 @@ fn explain_target<W: Write>(code: &Code, pc: u16, out: &mut W) -> io::Result<()>
     }
 }
 
-/// Explains a configuration that is not sound: the one that is committed, or else the opening.
-fn explain_unsound<W: Write>(walk: &Walk, fault: ConfigFault, out: &mut W) -> io::Result<()> {
-    explain_config(&walk.flow.next, walk.deeds.as_slice(), fault, out)
+/// Explains an instruction without a label, where one has to stand.
+fn explain_table<W: Write>(code: &Code, pc: u16, out: &mut W) -> io::Result<()> {
+    if pc == 0 {
+        return writeln!(out, "no label stands at instruction 0, where a code begins");
+    }
+    let before = pc - 1;
+    match code.line_at(before) {
+        Some(line) => writeln!(
+            out,
+            "instruction {pc} can't be reached: nothing goes on behind instruction {before}, of line {line}, and no label stands here"
+        ),
+        None => writeln!(out, "no label stands at instruction {pc}, where one has to"),
+    }
+}
+
+/// Explains a loop on a counter that may not be set.
+fn explain_counter<W: Write>(pc: u16, instr: &Instr, out: &mut W) -> io::Result<()> {
+    let Instr::Loop { counter, .. } = instr else {
+        return writeln!(
+            out,
+            "instruction {pc} loops on a counter that may not be set"
+        );
+    };
+    let counter = counter.get();
+    writeln!(
+        out,
+        "instruction {pc} loops on counter {counter}, which may not be set here"
+    )
+}
+
+/// Explains pages that have no room: those of the opening at the first instruction, and else those of a commit.
+fn explain_pages<W: Write>(
+    code: &Code,
+    reach: &Reach,
+    pc: u16,
+    instr: &Instr,
+    out: &mut W,
+) -> io::Result<()> {
+    let plan = code.plan();
+    if pc == 0 && test_opening(&plan, &reach.walk.flow.current).is_err() {
+        return explain_opening(&plan, &reach.walk.flow.current, out);
+    }
+    explain_known(code, reach, instr, Cause::Round, out)
+}
+
+/// Explains a cause by what is known at the instruction.
+fn explain_known<W: Write>(
+    code: &Code,
+    reach: &Reach,
+    instr: &Instr,
+    cause: Cause,
+    out: &mut W,
+) -> io::Result<()> {
+    explain_instr(
+        &code.plan(),
+        &reach.walk.flow,
+        reach.walk.deeds.as_slice(),
+        instr,
+        cause,
+        out,
+    )
 }
 
 /// Explains a cause at an instruction that is there.
 fn explain_at<W: Write>(
     code: &Code,
-    walk: &mut Walk,
+    reach: &mut Reach,
     pc: u16,
     instr: &Instr,
     cause: Cause,
     out: &mut W,
 ) -> io::Result<()> {
     match cause {
-        Cause::Mismatch => explain_mismatch(code, walk, pc, out),
-        Cause::Cost => explain_cost(code, pc, out),
+        Cause::Mismatch => explain_mismatch(code, reach, pc, out),
+        Cause::Cost => explain_cost(code, reach, pc, out),
         Cause::Target => explain_target(code, pc, out),
-        Cause::Table => writeln!(out, "no label stands at instruction {pc}, where one has to"),
-        Cause::CounterUnset => writeln!(
-            out,
-            "instruction {pc} loops on a counter that may not be set"
-        ),
+        Cause::Table => explain_table(code, pc, out),
+        Cause::CounterUnset => explain_counter(pc, instr, out),
         Cause::FallsOff => writeln!(
             out,
             "the last instruction, {pc}, continues to one that is not there"
         ),
-        Cause::Config(fault) => {
-            enter(code, pc, walk);
-            explain_unsound(walk, fault, out)
-        }
         Cause::Round => {
-            enter(code, pc, walk);
-            if commits(instr) {
-                return explain_instr(
-                    &code.plan(),
-                    &walk.flow,
-                    walk.deeds.as_slice(),
-                    instr,
-                    cause,
-                    out,
-                );
-            }
-            explain_opening(&code.plan(), &walk.flow.next, out)
+            reach.enter(code, pc);
+            explain_pages(code, reach, pc, instr, out)
         }
-        _ => {
-            enter(code, pc, walk);
-            explain_instr(
-                &code.plan(),
-                &walk.flow,
-                walk.deeds.as_slice(),
-                instr,
-                cause,
-                out,
-            )
+        Cause::Edit(_)
+        | Cause::Config(_)
+        | Cause::Pending
+        | Cause::NoChange
+        | Cause::Notice
+        | Cause::Count
+        | Cause::JoinIdle
+        | Cause::SwapUncertain => {
+            reach.enter(code, pc);
+            explain_known(code, reach, instr, cause, out)
         }
     }
 }
@@ -211,7 +134,7 @@ pub fn explain_code<W: Write>(
     cause: Cause,
     out: &mut W,
 ) -> io::Result<()> {
-    let Ok(mut walk) = walk_to(alloc, code, pc) else {
+    let Ok(mut reach) = Reach::at(alloc, code, pc) else {
         return Err(Error::from(ErrorKind::OutOfMemory));
     };
     let line = match code.line_at(pc) {
@@ -220,7 +143,7 @@ pub fn explain_code<W: Write>(
     };
     write!(out, "{path}:{line}: ")?;
     match code.instr(pc) {
-        Some(instr) => explain_at(code, &mut walk, pc, &instr, cause, out),
+        Some(instr) => explain_at(code, &mut reach, pc, &instr, cause, out),
         None => writeln!(out, "a label stands at {pc}, past the last instruction"),
     }
 }

@@ -118,7 +118,12 @@ fn explain_used<W: Write>(
         }
         Edit::AddService(sid) => service_used(config, *sid, out),
         Edit::AddComponent { sid, component } => component_used(config, *sid, component, out),
-        _ => writeln!(out, "what is added is there already"),
+        Edit::DropSub(_)
+        | Edit::MoveSub { .. }
+        | Edit::RateSub { .. }
+        | Edit::DropService(_)
+        | Edit::DropComponent { .. }
+        | Edit::DropPacket(_) => writeln!(out, "what is added is there already"),
     }
 }
 
@@ -199,7 +204,9 @@ fn explain_absent<W: Write>(
         Edit::DropComponent { sid, carrier } => {
             component_absent(config, deeds, *sid, carrier, out)
         }
-        _ => writeln!(out, "what the edit names is not there"),
+        Edit::AddSub(_) | Edit::AddService(_) | Edit::AddPacket(_) => {
+            writeln!(out, "what the edit names is not there")
+        }
     }
 }
 
@@ -221,7 +228,13 @@ fn edited_sub(config: &Config, edit: &Edit) -> Option<Sub> {
                 ..sub
             })
         }
-        _ => None,
+        Edit::DropSub(_)
+        | Edit::AddService(_)
+        | Edit::DropService(_)
+        | Edit::AddComponent { .. }
+        | Edit::DropComponent { .. }
+        | Edit::AddPacket(_)
+        | Edit::DropPacket(_) => None,
     }
 }
 
@@ -330,13 +343,26 @@ fn explain_components<W: Write>(config: &Config, edit: &Edit, out: &mut W) -> io
 
 /// A set that is full.
 fn explain_full<W: Write>(edit: &Edit, out: &mut W) -> io::Result<()> {
-    let word = match edit {
-        Edit::AddService(_) => "services",
-        _ => "packet components",
+    let word = if matches!(edit, Edit::AddService(_)) {
+        "services"
+    } else {
+        "packet components"
     };
     writeln!(
         out,
         "there are 64 {word}, the most of a configuration\nhint: 'drop' one first"
+    )
+}
+
+/// A packet address out of range.
+fn explain_packet_address<W: Write>(edit: &Edit, out: &mut W) -> io::Result<()> {
+    let Edit::AddPacket(packet) = edit else {
+        return writeln!(out, "packet addresses are 1 to 1023");
+    };
+    let address = packet.address;
+    writeln!(
+        out,
+        "{address} is no packet address\nhint: packet addresses are 1 to 1023"
     )
 }
 
@@ -361,15 +387,6 @@ pub(crate) fn explain_edit<W: Write>(
             Some(sub) => explain_rate(&sub, out),
             None => writeln!(out),
         },
-        EditFault::BadAddress => {
-            let address = match edit {
-                Edit::AddPacket(packet) => packet.address,
-                _ => 0,
-            };
-            writeln!(
-                out,
-                "{address} is no packet address\nhint: packet addresses are 1 to 1023"
-            )
-        }
+        EditFault::BadAddress => explain_packet_address(edit, out),
     }
 }

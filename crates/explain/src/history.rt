@@ -12,32 +12,32 @@ pub(crate) struct Deed {
     pub(crate) instr: Instr,
 }
 
-/// Whether an edit takes away what a component or a packet component names.
-fn takes_away(edit: &Edit, carrier: &Carrier) -> bool {
-    match edit {
-        Edit::DropSub(id) => Carrier::Sub(*id) == *carrier,
-        Edit::DropPacket(scid) => Carrier::Packet(*scid) == *carrier,
-        _ => false,
+/// The edit that takes a sub-channel or a packet component away.
+fn drop_of(carrier: &Carrier) -> Edit {
+    match carrier {
+        Carrier::Sub(id) => Edit::DropSub(*id),
+        Carrier::Packet(scid) => Edit::DropPacket(*scid),
     }
 }
 
 /// Whether an edit adds what a component or a packet component names.
 fn adds(edit: &Edit, carrier: &Carrier) -> bool {
-    match edit {
-        Edit::AddSub(sub) => Carrier::Sub(sub.get().id) == *carrier,
-        Edit::AddPacket(packet) => Carrier::Packet(packet.scid) == *carrier,
-        _ => false,
+    if let Edit::AddSub(sub) = edit {
+        return Carrier::Sub(sub.get().id) == *carrier;
     }
+    if let Edit::AddPacket(packet) = edit {
+        return Carrier::Packet(packet.scid) == *carrier;
+    }
+    false
 }
 
 /// The line that took a sub-channel or a packet component away last.
 pub(crate) fn dropped_in(deeds: &[Deed], carrier: &Carrier) -> Option<u16> {
     let mut found = None;
+    let wanted = Instr::Edit(drop_of(carrier));
     for deed in deeds {
-        if let Instr::Edit(edit) = &deed.instr {
-            if takes_away(edit, carrier) {
-                found = Some(deed.line);
-            }
+        if deed.instr == wanted {
+            found = Some(deed.line);
         }
     }
     found
@@ -84,12 +84,8 @@ pub(crate) fn component_dropped_in(deeds: &[Deed], sid: Sid, carrier: &Carrier) 
 }
 
 /// Whether an instruction commits the next configuration.
-pub(crate) fn commits(instr: &Instr) -> bool {
-    match instr {
-        Instr::CommitIn(_) => true,
-        Instr::CommitAt(_) => true,
-        _ => false,
-    }
+fn commits(instr: &Instr) -> bool {
+    matches!(instr, Instr::CommitIn(_) | Instr::CommitAt(_))
 }
 
 /// The line of the last commit.

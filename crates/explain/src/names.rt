@@ -29,7 +29,7 @@ pub(crate) fn units_of(sub: &Sub) -> u16
 {
     match size_of(sub.protection, sub.kbits) {
         Ok(size) => size,
-        Err(_) => 0,
+        Err(_fault) => 0,
     }
 }
 

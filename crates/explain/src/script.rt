@@ -113,7 +113,19 @@ fn explain_begin<W: Write>(plan: &Plan, walk: &Walk, cause: Cause, out: &mut W) 
             explain_config(&walk.flow.next, walk.deeds.as_slice(), fault, out)
         }
         Cause::Round => explain_opening(plan, &walk.flow.next, out),
-        _ => writeln!(out, "the script can't begin so"),
+        Cause::Edit(_)
+        | Cause::Pending
+        | Cause::NoChange
+        | Cause::Notice
+        | Cause::Count
+        | Cause::JoinIdle
+        | Cause::SwapUncertain
+        | Cause::Mismatch
+        | Cause::Cost
+        | Cause::Target
+        | Cause::Table
+        | Cause::CounterUnset
+        | Cause::FallsOff => writeln!(out, "the script can't begin so"),
     }
 }
 
