@@ -1,0 +1,80 @@
+//! Why an instruction is refused, explained by what is known before it.
+
+use crate::config::explain_config;
+use crate::edit::explain_edit;
+use crate::history::Deed;
+use crate::room::explain_round;
+use crate::swap::{
+    explain_count, explain_join, explain_no_change, explain_notice, explain_pending, explain_wait,
+};
+use mux_config::{Config, EditFault};
+use plan_code::{Instr, Plan};
+use plan_flow::{Cause, Flow};
+use std::io::{self, Write};
+
+/// Explains an edit that is refused.
+fn explain_change<W: Write>(
+    flow: &Flow<Config>,
+    deeds: &[Deed],
+    instr: &Instr,
+    fault: EditFault,
+    out: &mut W,
+) -> io::Result<()> {
+    let Instr::Edit(edit) = instr else {
+        return writeln!(out, "the edit is refused");
+    };
+    explain_edit(&flow.next, deeds, edit, fault, out)
+}
+
+/// Explains a commit whose delay or whose count is refused.
+fn explain_commit<W: Write>(plan: &Plan, instr: &Instr, out: &mut W) -> io::Result<()> {
+    if let Instr::CommitIn(delay) = instr {
+        return explain_notice(plan, *delay, out);
+    }
+    if let Instr::CommitAt(count) = instr {
+        return explain_count(plan, *count, out);
+    }
+    writeln!(out, "the commit is refused")
+}
+
+/// Explains a wait that is refused.
+fn explain_frames<W: Write>(
+    flow: &Flow<Config>,
+    deeds: &[Deed],
+    instr: &Instr,
+    out: &mut W,
+) -> io::Result<()> {
+    let Instr::Wait(frames) = instr else {
+        return writeln!(out, "the wait is refused");
+    };
+    explain_wait(flow.pending, *frames, deeds, out)
+}
+
+/// Explains why an instruction is refused, behind the place: by what is known before it, and by what was done. Causes that
+/// are not of what an instruction needs have no numbers here.
+pub(crate) fn explain_instr<W: Write>(
+    plan: &Plan,
+    flow: &Flow<Config>,
+    deeds: &[Deed],
+    instr: &Instr,
+    cause: Cause,
+    out: &mut W,
+) -> io::Result<()> {
+    match cause {
+        Cause::Edit(fault) => explain_change(flow, deeds, instr, fault, out),
+        Cause::Config(fault) => explain_config(&flow.next, deeds, fault, out),
+        Cause::Pending => explain_pending(flow.pending, deeds, out),
+        Cause::NoChange => explain_no_change(out),
+        Cause::Notice => explain_commit(plan, instr, out),
+        Cause::Count => explain_commit(plan, instr, out),
+        Cause::JoinIdle => explain_join(flow.pending, out),
+        Cause::SwapUncertain => explain_frames(flow, deeds, instr, out),
+        Cause::Round => explain_round(plan, &flow.current, &flow.next, out),
+        Cause::Mismatch
+        | Cause::Cost
+        | Cause::Target
+        | Cause::Table
+        | Cause::CounterUnset
+        | Cause::FallsOff => writeln!(out, "the instruction can't stand here"),
+    }
+}

@@ -1,0 +1,195 @@
+//! Budgets that are too small, explained: the longest path is the least budget with which `compile` does not refuse.
+
+use plan_flow::Cause;
+use script_compiler::{CompileFault, compile};
+use script_front::{Script, Statement, lex, parse};
+use std::alloc::{AllocError, Global};
+use std::io::{self, Write};
+
+/// The text of a script with another budget, if its header has one.
+fn with_budget(alloc: Global, text: &str, budget: u16) -> Result<Option<String>, AllocError> {
+    let Ok(tokens) = lex(alloc, text) else {
+        return Ok(None);
+    };
+    let mut is_budget = false;
+    for token in tokens.as_slice() {
+        let (Some(word), Some(front), Some(rest)) = (
+            text.get(token.start..token.end),
+            text.get(..token.start),
+            text.get(token.end..),
+        ) else {
+            return Ok(None);
+        };
+        if is_budget {
+            let changed = format!(in alloc; "{front}{budget}{rest}")?;
+            return Ok(Some(changed));
+        }
+        is_budget = word == "budget";
+    }
+    Ok(None)
+}
+
+/// Whether a script with another budget is refused for its costs.
+fn costs_more(alloc: Global, text: &str, budget: u16) -> Result<bool, AllocError> {
+    let Some(changed) = with_budget(alloc, text, budget)? else {
+        return Ok(true);
+    };
+    let Ok(script) = parse(alloc, changed.as_str()) else {
+        return Ok(true);
+    };
+    match compile(alloc, &script) {
+        Ok(_code) => Ok(false),
+        Err(CompileFault::Memory) => Err(AllocError),
+        Err(CompileFault::Limit) => Ok(false),
+        Err(CompileFault::Refused { cause, .. }) => Ok(cause == Cause::Cost),
+    }
+}
+
+/// The instructions of the longest path that runs in one frame, where this many are too few; None where they are more
+/// than 255, or have no bound.
+fn longest(alloc: Global, text: &str, budget: u8) -> Result<Option<u16>, AllocError> {
+    let mut low = u16::from(budget);
+    let mut high = 255u16;
+    if costs_more(alloc, text, high)? {
+        return Ok(None);
+    }
+    for _halving in 0..9 {
+        if low.saturating_add(1) < high {
+            let middle = low + (high - low) / 2;
+            if costs_more(alloc, text, middle)? {
+                low = middle;
+            } else {
+                high = middle;
+            }
+        }
+    }
+    Ok(Some(high))
+}
+
+/// The last line of a loop that begins in this line, if one does.
+#[cycle(loops)]
+fn loop_end(statements: &[Statement], wanted: u16) -> Option<u16> {
+    for statement in statements {
+        let found = loop_end_in(statement, wanted);
+        if found.is_some() {
+            return found;
+        }
+    }
+    None
+}
+
+/// The same in one statement.
+#[cycle(loops)]
+fn loop_end_in(statement: &Statement, wanted: u16) -> Option<u16> {
+    match statement {
+        Statement::Repeat { line, body, .. } => {
+            if *line == wanted {
+                return Some(last_line(body, *line));
+            }
+            loop_end(body, wanted)
+        }
+        Statement::Forever { line, body } => {
+            if *line == wanted {
+                return Some(last_line(body, *line));
+            }
+            loop_end(body, wanted)
+        }
+        Statement::If { first, .. } => loop_end(first, wanted),
+        Statement::IfElse { first, second, .. } => {
+            let found = loop_end(first, wanted);
+            if found.is_some() {
+                return found;
+            }
+            loop_end(second, wanted)
+        }
+        Statement::Act { .. } => None,
+        Statement::End { .. } => None,
+        Statement::Apply { .. } => None,
+    }
+}
+
+/// The line of the last of these statements; another one where there is none.
+fn last_line(statements: &[Statement], line: u16) -> u16 {
+    match statements.last() {
+        None => line,
+        Some(statement) => match statement {
+            Statement::Act { line, .. } => *line,
+            Statement::End { line } => *line,
+            Statement::If { line, .. } => *line,
+            Statement::IfElse { line, .. } => *line,
+            Statement::Repeat { line, .. } => *line,
+            Statement::Forever { line, .. } => *line,
+            Statement::Apply { line, .. } => *line,
+        },
+    }
+}
+
+/// The last line of the loop of a script that begins in this line, after `begin` or in a block.
+fn loop_of(script: &Script, line: u16) -> Option<u16> {
+    let found = loop_end(script.statements(), line);
+    if found.is_some() {
+        return found;
+    }
+    for block in script.blocks() {
+        let found = loop_end(block.as_slice(), line);
+        if found.is_some() {
+            return found;
+        }
+    }
+    None
+}
+
+/// What is said of costs.
+#[derive(Clone, Copy)]
+pub(crate) struct Costs {
+    /// The instructions of the longest path in one frame, where it has 255 at most.
+    longest: Option<u16>,
+    /// The last line of the loop that begins in the refused line, if one does.
+    loop_end: Option<u16>,
+    /// The line that is refused.
+    line: u16,
+    /// The budget of the script.
+    budget: u8,
+}
+
+/// What is to be said of a script that is refused in this line for its costs.
+pub(crate) fn costs_of(
+    alloc: Global,
+    text: &str,
+    script: &Script,
+    line: u16,
+) -> Result<Costs, AllocError> {
+    let budget = script.header().budget;
+    Ok(Costs {
+        longest: longest(alloc, text, budget)?,
+        loop_end: loop_of(script, line),
+        line,
+        budget,
+    })
+}
+
+/// Explains why a script costs more than its budget, behind the place.
+pub(crate) fn explain_costs<W: Write>(costs: &Costs, out: &mut W) -> io::Result<()> {
+    let budget = costs.budget;
+    if let Some(longest) = costs.longest {
+        writeln!(
+            out,
+            "the longest path runs {longest} instructions in one frame; the budget is {budget}"
+        )?;
+        return writeln!(
+            out,
+            "hint: a budget of {longest}, or a 'wait 1' between the instructions that follow this line"
+        );
+    }
+    let first = costs.line;
+    match costs.loop_end {
+        Some(last) => writeln!(
+            out,
+            "the loop of lines {first} to {last} can go round without a wait, so that its instructions in one frame have no bound\nhint: a 'wait 1' in the loop, on each way through it"
+        ),
+        None => writeln!(
+            out,
+            "from here more than 255 instructions run in one frame; the budget is {budget}\nhint: a 'wait 1' between them"
+        ),
+    }
+}

@@ -1,0 +1,392 @@
+//! Edits that are refused, explained.
+
+ghost use Rattle.std.specs.Prelude.{◌≤◌};
+
+use crate::history::{Deed, added_in, component_dropped_in, dropped_in, service_dropped_in};
+use crate::names::{put_carrier, put_packet, put_profile, put_service, put_sid, put_sub, units_of};
+use mux_config::{Carrier, Component, Config, Edit, EditFault, Packet, Service, Sid, Sub, SubId};
+use mux_eep::{EepFault, EepSet, Protection, size_of};
+use std::io::{self, Write};
+
+/// The sub-channel of an identifier.
+pub(crate) fn sub_of(config: &Config, id: SubId) -> Option<Sub> {
+    for sub in config.subs() {
+        if sub.id == id {
+            return Some(*sub);
+        }
+    }
+    None
+}
+
+/// The packet component of an identifier.
+pub(crate) fn packet_of(config: &Config, carrier: &Carrier) -> Option<Packet> {
+    for packet in config.packets() {
+        if Carrier::Packet(packet.scid) == *carrier {
+            return Some(*packet);
+        }
+    }
+    None
+}
+
+/// The service of an identifier.
+pub(crate) fn service_of(config: &Config, sid: Sid) -> Option<&Service> {
+    for service in config.services() {
+        if service.sid == sid {
+            return Some(service);
+        }
+    }
+    None
+}
+
+/// Whether a sub-channel or a packet component is there.
+pub(crate) fn is_there(config: &Config, carrier: &Carrier) -> bool {
+    match carrier {
+        Carrier::Sub(id) => sub_of(config, *id).is_some(),
+        Carrier::Packet(_) => packet_of(config, carrier).is_some(),
+    }
+}
+
+/// Writes in which line something was done, if one did it, and ends the line.
+pub(crate) fn put_since<W: Write>(line: Option<u16>, word: &str, out: &mut W) -> io::Result<()> {
+    match line {
+        Some(line) => writeln!(out, "; line {line} {word} it"),
+        None => writeln!(out),
+    }
+}
+
+/// A sub-channel or a packet component that is there already.
+fn carrier_used<W: Write>(
+    config: &Config,
+    deeds: &[Deed],
+    carrier: &Carrier,
+    out: &mut W,
+) -> io::Result<()> {
+    match carrier {
+        Carrier::Sub(id) => {
+            if let Some(sub) = sub_of(config, *id) {
+                put_sub(&sub, out)?;
+            }
+        }
+        Carrier::Packet(_) => {
+            if let Some(packet) = packet_of(config, carrier) {
+                put_packet(&packet, out)?;
+            }
+        }
+    }
+    out.write_all(b" is there already")?;
+    put_since(added_in(deeds, carrier), "added", out)?;
+    out.write_all(b"hint: 'drop' it first, or take another number\n")
+}
+
+/// A service that is there already.
+fn service_used<W: Write>(config: &Config, sid: Sid, out: &mut W) -> io::Result<()> {
+    match service_of(config, sid) {
+        Some(service) => put_service(service, out)?,
+        None => put_sid(sid, out)?,
+    }
+    out.write_all(b" is there already\nhint: 'drop service' first, or take another SId\n")
+}
+
+/// A service that names a carrier already.
+fn component_used<W: Write>(
+    config: &Config,
+    sid: Sid,
+    component: &Component,
+    out: &mut W,
+) -> io::Result<()> {
+    if let Some(service) = service_of(config, sid) {
+        put_service(service, out)?;
+    }
+    out.write_all(b" has a component on ")?;
+    put_carrier(&component.carrier(), out)?;
+    out.write_all(
+        b" already\nhint: 'drop component' first, or name another sub-channel or packet component\n",
+    )
+}
+
+/// What is there already.
+fn explain_used<W: Write>(
+    config: &Config,
+    deeds: &[Deed],
+    edit: &Edit,
+    out: &mut W,
+) -> io::Result<()> {
+    match edit {
+        Edit::AddSub(sub) => carrier_used(config, deeds, &Carrier::Sub(sub.get().id), out),
+        Edit::AddPacket(packet) => {
+            carrier_used(config, deeds, &Carrier::Packet(packet.scid), out)
+        }
+        Edit::AddService(sid) => service_used(config, *sid, out),
+        Edit::AddComponent { sid, component } => component_used(config, *sid, component, out),
+        Edit::DropSub(_)
+        | Edit::MoveSub { .. }
+        | Edit::RateSub { .. }
+        | Edit::DropService(_)
+        | Edit::DropComponent { .. }
+        | Edit::DropPacket(_) => writeln!(out, "what is added is there already"),
+    }
+}
+
+/// Writes the sub-channels that are there.
+fn put_subs<W: Write>(config: &Config, out: &mut W) -> io::Result<()> {
+    out.write_all(b"hint: the sub-channels there are")?;
+    let mut count = 0u32;
+    for sub in config.subs() {
+        let id = sub.id.get();
+        write!(out, " {id}")?;
+        count = count.saturating_add(1);
+    }
+    if count == 0 {
+        return writeln!(out, " none");
+    }
+    writeln!(out)
+}
+
+/// A sub-channel or a packet component that is not there.
+fn carrier_absent<W: Write>(
+    config: &Config,
+    deeds: &[Deed],
+    carrier: &Carrier,
+    out: &mut W,
+) -> io::Result<()> {
+    put_carrier(carrier, out)?;
+    out.write_all(b" is not there")?;
+    put_since(dropped_in(deeds, carrier), "dropped", out)?;
+    match carrier {
+        Carrier::Sub(_) => put_subs(config, out),
+        Carrier::Packet(_) => out.write_all(b"hint: add it first, as 'packet' does\n"),
+    }
+}
+
+/// A service that is not there.
+fn service_absent<W: Write>(deeds: &[Deed], sid: Sid, out: &mut W) -> io::Result<()> {
+    out.write_all(b"service ")?;
+    put_sid(sid, out)?;
+    out.write_all(b" is not there")?;
+    put_since(service_dropped_in(deeds, sid), "dropped", out)?;
+    out.write_all(b"hint: add it first, as 'service ")?;
+    put_sid(sid, out)?;
+    out.write_all(b"' does\n")
+}
+
+/// A component that is not there, or whose service is not.
+fn component_absent<W: Write>(
+    config: &Config,
+    deeds: &[Deed],
+    sid: Sid,
+    carrier: &Carrier,
+    out: &mut W,
+) -> io::Result<()> {
+    let Some(service) = service_of(config, sid) else {
+        return service_absent(deeds, sid, out);
+    };
+    put_service(service, out)?;
+    out.write_all(b" has no component on ")?;
+    put_carrier(carrier, out)?;
+    put_since(component_dropped_in(deeds, sid, carrier), "dropped", out)?;
+    out.write_all(b"hint: name one that it has\n")
+}
+
+/// What is not there.
+fn explain_absent<W: Write>(
+    config: &Config,
+    deeds: &[Deed],
+    edit: &Edit,
+    out: &mut W,
+) -> io::Result<()> {
+    match edit {
+        Edit::DropSub(id) => carrier_absent(config, deeds, &Carrier::Sub(*id), out),
+        Edit::MoveSub { id, .. } => carrier_absent(config, deeds, &Carrier::Sub(*id), out),
+        Edit::RateSub { id, .. } => carrier_absent(config, deeds, &Carrier::Sub(*id), out),
+        Edit::DropPacket(scid) => carrier_absent(config, deeds, &Carrier::Packet(*scid), out),
+        Edit::DropService(sid) => service_absent(deeds, *sid, out),
+        Edit::AddComponent { sid, .. } => service_absent(deeds, *sid, out),
+        Edit::DropComponent { sid, carrier } => {
+            component_absent(config, deeds, *sid, carrier, out)
+        }
+        Edit::AddSub(_) | Edit::AddService(_) | Edit::AddPacket(_) => {
+            writeln!(out, "what the edit names is not there")
+        }
+    }
+}
+
+/// The sub-channel that an edit would make.
+fn edited_sub(config: &Config, edit: &Edit) -> Option<Sub> {
+    match edit {
+        Edit::AddSub(sub) => Some(sub.get()),
+        Edit::MoveSub { id, start } => {
+            let sub = sub_of(config, *id)?;
+            Some(Sub {
+                start: start.get(),
+                ..sub
+            })
+        }
+        Edit::RateSub { id, kbits } => {
+            let sub = sub_of(config, *id)?;
+            Some(Sub {
+                kbits: *kbits,
+                ..sub
+            })
+        }
+        Edit::DropSub(_)
+        | Edit::AddService(_)
+        | Edit::DropService(_)
+        | Edit::AddComponent { .. }
+        | Edit::DropComponent { .. }
+        | Edit::AddPacket(_)
+        | Edit::DropPacket(_) => None,
+    }
+}
+
+/// A sub-channel that would end past the multiplex.
+fn explain_end<W: Write>(sub: &Sub, out: &mut W) -> io::Result<()> {
+    let units = units_of(sub);
+    let start = sub.start;
+    let last = (u32::from(start) + u32::from(units)).saturating_sub(1);
+    let latest = 864 - units;
+    put_sub(sub, out)?;
+    writeln!(
+        out,
+        " has {units} CU, so CU {start} to {last}; the last one is 863"
+    )?;
+    writeln!(
+        out,
+        "hint: it can begin at {latest} at most; where its start and its rate change, 'move' before a rate that grows"
+    )
+}
+
+/// The rates of a set are the multiples of this.
+fn rate_step(protection: Protection) -> u16
+    ensures low { 8 ≤ result }
+    ensures high { result ≤ 32 }
+{
+    match protection.set() {
+        EepSet::A => 8,
+        EepSet::B => 32,
+    }
+}
+
+/// The capacity units for each step of the rate.
+fn step_units(protection: Protection) -> u32
+    ensures low { 4 ≤ result }
+    ensures high { result ≤ 864 }
+{
+    match size_of(protection, rate_step(protection)) {
+        Ok(size) => u32::from(size).max(4),
+        Err(_fault) => 4,
+    }
+}
+
+/// A rate that is no multiple of the step of its set.
+fn explain_multiple<W: Write>(sub: &Sub, out: &mut W) -> io::Result<()> {
+    let kbits = sub.kbits;
+    let step = rate_step(sub.protection);
+    let low = kbits - kbits % step;
+    let high = u32::from(low) + u32::from(step);
+    writeln!(
+        out,
+        "a rate of {kbits} kbit/s is no multiple of {step}, as those of the profile are"
+    )?;
+    if low == 0 {
+        return writeln!(out, "hint: {high} is");
+    }
+    writeln!(out, "hint: {low} and {high} are")
+}
+
+/// A rate that takes more than the multiplex.
+fn explain_size<W: Write>(sub: &Sub, out: &mut W) -> io::Result<()> {
+    let kbits = sub.kbits;
+    let step = u32::from(rate_step(sub.protection));
+    let units = step_units(sub.protection);
+    let wanted = (u32::from(kbits) / step).saturating_mul(units);
+    let most = (864 / units).saturating_mul(step);
+    write!(out, "{kbits} kbit/s at ")?;
+    put_profile(sub.protection, out)?;
+    writeln!(out, " would take {wanted} CU; a multiplex has 864")?;
+    writeln!(out, "hint: {most} kbit/s is the most at this profile")
+}
+
+/// A rate that has no size.
+fn explain_rate<W: Write>(sub: &Sub, out: &mut W) -> io::Result<()> {
+    match size_of(sub.protection, sub.kbits) {
+        Ok(_size) => Ok(()),
+        Err(EepFault::ZeroRate) => {
+            writeln!(
+                out,
+                "a rate of 0 kbit/s has no size\nhint: 'drop sub' takes a sub-channel away"
+            )
+        }
+        Err(EepFault::NotMultiple) => explain_multiple(sub, out),
+        Err(EepFault::PastMultiplex) => explain_size(sub, out),
+    }
+}
+
+/// A service that can't have one more component.
+fn explain_components<W: Write>(config: &Config, edit: &Edit, out: &mut W) -> io::Result<()> {
+    let Edit::AddComponent { sid, .. } = edit else {
+        return Ok(());
+    };
+    let sid = *sid;
+    let Some(service) = service_of(config, sid) else {
+        return Ok(());
+    };
+    let count = service.components.len();
+    let limit = service.limit();
+    out.write_all(b"service ")?;
+    put_sid(sid, out)?;
+    writeln!(
+        out,
+        " has {count} components; one with such an SId has {limit} at most"
+    )?;
+    out.write_all(b"hint: put some of them into another service\n")
+}
+
+/// A set that is full.
+fn explain_full<W: Write>(edit: &Edit, out: &mut W) -> io::Result<()> {
+    let word = if matches!(edit, Edit::AddService(_)) {
+        "services"
+    } else {
+        "packet components"
+    };
+    writeln!(
+        out,
+        "there are 64 {word}, the most of a configuration\nhint: 'drop' one first"
+    )
+}
+
+/// A packet address out of range.
+fn explain_packet_address<W: Write>(edit: &Edit, out: &mut W) -> io::Result<()> {
+    let Edit::AddPacket(packet) = edit else {
+        return writeln!(out, "packet addresses are 1 to 1023");
+    };
+    let address = packet.address;
+    writeln!(
+        out,
+        "{address} is no packet address\nhint: packet addresses are 1 to 1023"
+    )
+}
+
+/// Explains an edit that is refused, behind the place, where this is the configuration and this was done before.
+pub(crate) fn explain_edit<W: Write>(
+    config: &Config,
+    deeds: &[Deed],
+    edit: &Edit,
+    fault: EditFault,
+    out: &mut W,
+) -> io::Result<()> {
+    match fault {
+        EditFault::IdUsed => explain_used(config, deeds, edit, out),
+        EditFault::IdAbsent => explain_absent(config, deeds, edit, out),
+        EditFault::TooManyComponents => explain_components(config, edit, out),
+        EditFault::TableFull => explain_full(edit, out),
+        EditFault::PastEnd => match edited_sub(config, edit) {
+            Some(sub) => explain_end(&sub, out),
+            None => writeln!(out),
+        },
+        EditFault::BadRate => match edited_sub(config, edit) {
+            Some(sub) => explain_rate(&sub, out),
+            None => writeln!(out),
+        },
+        EditFault::BadAddress => explain_packet_address(edit, out),
+    }
+}

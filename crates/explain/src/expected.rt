@@ -1,0 +1,209 @@
+//! What may stand at a place of a script, in words.
+
+use crate::probe::{Answer, Front};
+use script_front::lex;
+use std::alloc::{AllocError, Global};
+use std::io::{self, Write};
+
+/// The words of the grammar beside those that begin a statement.
+const WORDS: [&str; 20] = [
+    "ensemble",
+    "mode",
+    "period",
+    "notice",
+    "budget",
+    "begin",
+    "at",
+    "eep",
+    "in",
+    "groups",
+    "raw",
+    "type",
+    "address",
+    "component",
+    "contact",
+    "closed",
+    "open",
+    "else",
+    "{",
+    "}",
+];
+
+/// Words with which items and definitions begin, and some of which stand elsewhere too.
+const ITEM_WORDS: [&str; 7] = [
+    "sub", "service", "audio", "data", "carry", "packet", "define",
+];
+
+/// What may stand at a place, each in words.
+#[derive(Drop)]
+pub(crate) struct Expected {
+    phrases: Vec<String>,
+}
+
+impl Expected {
+    /// One phrase more.
+    fn add(&mut self, alloc: Global, phrase: &str) -> Result<(), AllocError> {
+        let phrase = String::from_str(alloc, phrase)?;
+        match self.phrases.push(phrase) {
+            Ok(()) => Ok(()),
+            Err(_full) => Err(AllocError),
+        }
+    }
+
+    /// A phrase, where a token may stand behind the beginning.
+    fn add_if(
+        &mut self,
+        alloc: Global,
+        front: &Front,
+        token: &str,
+        phrase: &str,
+    ) -> Result<(), AllocError> {
+        if front.passes(alloc, token)? {
+            return self.add(alloc, phrase);
+        }
+        Ok(())
+    }
+
+    /// Those of some words that may stand there.
+    fn add_words(
+        &mut self,
+        alloc: Global,
+        front: &Front,
+        words: &[&str],
+    ) -> Result<(), AllocError> {
+        for word in words {
+            if front.passes(alloc, word)? {
+                let phrase = format!(in alloc; "'{word}'")?;
+                self.add(alloc, phrase.as_str())?;
+            }
+        }
+        Ok(())
+    }
+
+    /// The values with digits 0-9 and A-F.
+    fn add_identifiers(&mut self, alloc: Global, front: &Front) -> Result<(), AllocError> {
+        if front.passes(alloc, "A1B2C3D4")? {
+            return self.add(
+                alloc,
+                "an SId: four or eight digits 0-9 A-F, in capitals and without 0x",
+            );
+        }
+        self.add_if(
+            alloc,
+            front,
+            "A1B2",
+            "an EId: four digits 0-9 A-F, in capitals and without 0x",
+        )
+    }
+
+    /// A decimal, with its range.
+    fn add_number(&mut self, alloc: Global, front: &Front) -> Result<(), AllocError> {
+        let Some((low, high)) = front.range(alloc)? else {
+            return Ok(());
+        };
+        let what = number_word(alloc, front, high)?;
+        let phrase = format!(in alloc; "{what}, {low} to {high}")?;
+        self.add(alloc, phrase.as_str())
+    }
+
+    /// A name of a block.
+    fn add_name(&mut self, alloc: Global, front: &Front) -> Result<(), AllocError> {
+        if front.ask(alloc, "zz_name")? == Answer::Refused {
+            return Ok(());
+        }
+        self.add(
+            alloc,
+            "the name of a block: a lower-case letter, then lower-case letters, digits or '_', and no word of the grammar",
+        )
+    }
+
+    /// A statement, or else the words with which items begin.
+    fn add_statement(&mut self, alloc: Global, front: &Front) -> Result<(), AllocError> {
+        if front.passes(alloc, "join")? {
+            return self.add(alloc, "a statement");
+        }
+        self.add_words(alloc, front, &ITEM_WORDS)
+    }
+
+    /// What may stand behind the beginning.
+    pub(crate) fn at(alloc: Global, front: &Front) -> Result<Expected, AllocError> {
+        let mut found = Expected {
+            phrases: Vec::new(alloc),
+        };
+        found.add_identifiers(alloc, front)?;
+        found.add_number(alloc, front)?;
+        found.add_if(
+            alloc,
+            front,
+            "3-A",
+            "a protection profile, 1-A to 4-A or 1-B to 4-B",
+        )?;
+        found.add_if(
+            alloc,
+            front,
+            "06:00:00",
+            "a time HH:MM:SS, 00:00:00 to 23:59:59",
+        )?;
+        found.add_name(alloc, front)?;
+        found.add_statement(alloc, front)?;
+        found.add_words(alloc, front, &WORDS)?;
+        if front.may_end(alloc)? {
+            found.add(alloc, "the end of the script")?;
+        }
+        Ok(found)
+    }
+
+    /// Writes them one after another.
+    pub(crate) fn put<W: Write>(&self, out: &mut W) -> io::Result<()> {
+        let count = self.phrases.len();
+        for (at, phrase) in self.phrases.as_slice().iter().enumerate() {
+            if at > 0 {
+                let between = if at + 1 == count { " or " } else { ", " };
+                out.write_all(between.as_bytes())?;
+            }
+            out.write_all(phrase.as_bytes())?;
+        }
+        Ok(())
+    }
+}
+
+/// What a decimal at a place is, by the word before it.
+fn number_word(alloc: Global, front: &Front, high: u32) -> Result<&'static str, AllocError> {
+    let text = front.text();
+    let Ok(tokens) = lex(alloc, text) else {
+        return Ok("a number");
+    };
+    let Some(last) = tokens.as_slice().last() else {
+        return Ok("a number");
+    };
+    let Some(word) = text.get(last.start..last.end) else {
+        return Ok("a number");
+    };
+    Ok(number_behind(word.as_bytes(), high))
+}
+
+/// What a decimal up to this one is behind a word of the grammar.
+fn number_behind(word: &[u8], high: u32) -> &'static str {
+    match word {
+        b"mode" => "a transmission mode",
+        b"period" => "the period in frames",
+        b"notice" => "the notice in frames",
+        b"budget" => "the budget in instructions per frame",
+        b"sub" => "a SubChId",
+        b"audio" | b"data" | b"type" => "a type",
+        b"packet" | b"carry" => "an SCId",
+        b"address" => "a packet address",
+        b"contact" => "a contact",
+        b"wait" => "a number of frames",
+        b"in" => "a number of frames",
+        b"repeat" => "a number of times",
+        b"at" => {
+            if high < 1024 {
+                "a start address in capacity units"
+            } else {
+                "a CIF count"
+            }
+        }
+        _ => "a rate in kbit/s",
+    }
+}

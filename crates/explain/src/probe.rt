@@ -1,0 +1,127 @@
+//! What may stand at a place of a script, as `parse` answers.
+
+use crate::place::offset_of;
+use script_front::{Position, ScriptFault, parse};
+use std::alloc::{AllocError, Global};
+
+/// The beginning of a script, up to a token that is at fault.
+#[derive(Clone, Copy)]
+pub(crate) struct Front<'a> {
+    text: &'a str,
+    /// Where a token stands that is put on a line of its own behind it.
+    position: Position,
+}
+
+/// What `parse` makes of a token behind the beginning.
+#[derive(Clone, Copy, PartialEq, Eq)]
+pub(crate) enum Answer {
+    /// It may stand there.
+    Passes,
+    /// A name may stand there, but this one is used or unknown.
+    Name,
+    /// It may not.
+    Refused,
+}
+
+impl<'a> Front<'a> {
+    /// The beginning of a text before this position.
+    pub(crate) fn new(text: &'a str, position: Position) -> Front<'a> {
+        let at = offset_of(text.as_bytes(), position);
+        let front = match text.get(..at) {
+            Some(front) => front,
+            None => text,
+        };
+        Front {
+            text: front,
+            position: Position {
+                line: position.line.saturating_add(1),
+                column: 1,
+            },
+        }
+    }
+
+    /// The text of the beginning.
+    pub(crate) fn text(&self) -> &'a str {
+        self.text
+    }
+
+    /// Whether a token may stand behind the beginning: `parse` finds no fault at its position.
+    pub(crate) fn ask(&self, alloc: Global, token: &str) -> Result<Answer, AllocError> {
+        let mut text = String::from_str(alloc, self.text)?;
+        text.push_str("\n")?;
+        text.push_str(token)?;
+        match parse(alloc, text.as_str()) {
+            Ok(_script) => Ok(Answer::Passes),
+            Err(fault) => self.judge(fault),
+        }
+    }
+
+    /// Whether the script may end there.
+    pub(crate) fn may_end(&self, alloc: Global) -> Result<bool, AllocError> {
+        match parse(alloc, self.text) {
+            Ok(_script) => Ok(true),
+            Err(ScriptFault::Memory) => Err(AllocError),
+            Err(_fault) => Ok(false),
+        }
+    }
+
+    /// What a fault of the text with the token says of the token.
+    fn judge(&self, fault: ScriptFault) -> Result<Answer, AllocError> {
+        match fault {
+            ScriptFault::Memory => Err(AllocError),
+            ScriptFault::NameUsed(at) => Ok(self.unless_here(at, Answer::Name)),
+            ScriptFault::NameUnknown(at) => Ok(self.unless_here(at, Answer::Name)),
+            ScriptFault::Byte(at) => Ok(self.unless_here(at, Answer::Refused)),
+            ScriptFault::Number(at) => Ok(self.unless_here(at, Answer::Refused)),
+            ScriptFault::Expected(at) => Ok(self.unless_here(at, Answer::Refused)),
+            ScriptFault::Depth(at) => Ok(self.unless_here(at, Answer::Refused)),
+            ScriptFault::Limit(at) => Ok(self.unless_here(at, Answer::Refused)),
+        }
+    }
+
+    /// This answer where the fault is at the token, and else that the token passes.
+    fn unless_here(&self, at: Position, answer: Answer) -> Answer {
+        if at == self.position {
+            answer
+        } else {
+            Answer::Passes
+        }
+    }
+
+    /// Whether a token passes.
+    pub(crate) fn passes(&self, alloc: Global, token: &str) -> Result<bool, AllocError> {
+        Ok(self.ask(alloc, token)? == Answer::Passes)
+    }
+
+    /// Whether a decimal passes.
+    fn passes_number(&self, alloc: Global, number: u32) -> Result<bool, AllocError> {
+        let token = format!(in alloc; "{number}")?;
+        self.passes(alloc, token.as_str())
+    }
+
+    /// The least and the greatest decimal that pass, where some do: those of a value of the grammar begin at 0, 1, 2 or 12
+    /// and end at 65,535 or before.
+    pub(crate) fn range(&self, alloc: Global) -> Result<Option<(u32, u32)>, AllocError> {
+        for low in [0u32, 1, 2, 12] {
+            if self.passes_number(alloc, low)? {
+                let high = self.last_number(alloc, low)?;
+                return Ok(Some((low, high)));
+            }
+        }
+        Ok(None)
+    }
+
+    /// The greatest decimal that passes, where this one does, by halves.
+    fn last_number(&self, alloc: Global, first: u32) -> Result<u32, AllocError> {
+        let mut low = first;
+        let mut step = 65_536u32;
+        for _halving in 0..17 {
+            let tested = low.saturating_add(step);
+            if tested <= 65_535 && self.passes_number(alloc, tested)? {
+                low = tested;
+            }
+            step /= 2;
+        }
+        Ok(low)
+    }
+}

@@ -1,0 +1,177 @@
+//! Why a text is no script, explained.
+
+use crate::expected::Expected;
+use crate::place::{offset_of, put_bytes, show_position, token_at};
+use crate::probe::Front;
+use crate::repair::meant_by;
+use script_front::{Position, ScriptFault};
+use std::alloc::Global;
+use std::io::{self, Error, ErrorKind, Write};
+
+/// Writes where a fault is, and what is said of it begins behind that.
+fn put_place<W: Write>(path: &str, position: Position, out: &mut W) -> io::Result<()> {
+    let line = position.line;
+    let column = position.column;
+    write!(out, "{path}:{line}:{column}: ")
+}
+
+/// The token at a position of a text; empty past its end.
+fn token_of(text: &str, position: Position) -> &[u8] {
+    let at = offset_of(text.as_bytes(), position);
+    token_at(&text.as_bytes()[at..])
+}
+
+/// Writes what stands at a position, behind this word.
+fn put_found<W: Write>(text: &str, position: Position, word: &str, out: &mut W) -> io::Result<()> {
+    let token = token_of(text, position);
+    if token.is_empty() {
+        return out.write_all(b"the script ends here");
+    }
+    out.write_all(word.as_bytes())?;
+    out.write_all(b"'")?;
+    put_bytes(token, out)?;
+    out.write_all(b"'")
+}
+
+/// Explains a token that may not stand where it does: what may, and what may have been meant.
+fn explain_token<W: Write>(
+    alloc: Global,
+    path: &str,
+    text: &str,
+    position: Position,
+    out: &mut W,
+) -> io::Result<()> {
+    let front = Front::new(text, position);
+    let Ok(expected) = Expected::at(alloc, &front) else {
+        return Err(Error::from(ErrorKind::OutOfMemory));
+    };
+    let Ok(meant) = meant_by(alloc, &front, token_of(text, position)) else {
+        return Err(Error::from(ErrorKind::OutOfMemory));
+    };
+    put_place(path, position, out)?;
+    out.write_all(b"expected ")?;
+    expected.put(out)?;
+    out.write_all(b"; ")?;
+    put_found(text, position, "found ", out)?;
+    out.write_all(b"\n")?;
+    show_position(text.as_bytes(), position, out)?;
+    match meant {
+        Some(token) => writeln!(out, "hint: write '{token}'"),
+        None => Ok(()),
+    }
+}
+
+/// Explains a byte that has no place in a script.
+fn explain_byte<W: Write>(
+    path: &str,
+    text: &str,
+    position: Position,
+    out: &mut W,
+) -> io::Result<()> {
+    let at = offset_of(text.as_bytes(), position);
+    let byte = match text.as_bytes().get(at) {
+        Some(byte) => *byte,
+        None => 0,
+    };
+    put_place(path, position, out)?;
+    writeln!(
+        out,
+        "the byte {byte:02X} has no place in a script outside comments"
+    )?;
+    show_position(text.as_bytes(), position, out)?;
+    out.write_all(
+        b"hint: letters, digits, '_', ':', '-', '{', '}', blanks and ';' may stand there; '#' begins a comment\n",
+    )
+}
+
+/// Explains a name that is defined already, or not yet.
+fn explain_name<W: Write>(
+    path: &str,
+    text: &str,
+    position: Position,
+    what: &str,
+    hint: &str,
+    out: &mut W,
+) -> io::Result<()> {
+    put_place(path, position, out)?;
+    put_found(text, position, "", out)?;
+    writeln!(out, "{what}")?;
+    show_position(text.as_bytes(), position, out)?;
+    writeln!(out, "hint: {hint}")
+}
+
+/// Explains a limit.
+fn explain_limit<W: Write>(
+    path: &str,
+    text: &str,
+    position: Position,
+    out: &mut W,
+) -> io::Result<()> {
+    let bytes = text.len();
+    let token = token_of(text, position);
+    let letters = token.len();
+    put_place(path, position, out)?;
+    if bytes > 1_048_576 {
+        return writeln!(out, "the text has more than 1048576 bytes");
+    }
+    if position.line > 65_535 {
+        return writeln!(out, "a token stands behind line 65535");
+    }
+    if letters > 32 {
+        writeln!(out, "a word of {letters} bytes; the longest has 32")?;
+        return show_position(text.as_bytes(), position, out);
+    }
+    if token == b"define".as_slice() {
+        return writeln!(out, "the 65th definition; a script has 64 at most");
+    }
+    writeln!(
+        out,
+        "the 8193rd item or statement; a script has 8192 at most"
+    )
+}
+
+/// Explains why a text is no script: where the fault is, what may stand there and, where one is found that may, which
+/// token may have been meant, with the line and a caret under the column. Nothing for want of memory.
+///
+/// # Errors
+///
+/// Those of the writer, and `OutOfMemory` where there is no memory to ask what may stand there.
+pub fn explain_fault<W: Write>(
+    alloc: Global,
+    path: &str,
+    text: &str,
+    fault: ScriptFault,
+    out: &mut W,
+) -> io::Result<()> {
+    match fault {
+        ScriptFault::Byte(at) => explain_byte(path, text, at, out),
+        ScriptFault::Number(at) => explain_token(alloc, path, text, at, out),
+        ScriptFault::Expected(at) => explain_token(alloc, path, text, at, out),
+        ScriptFault::Depth(at) => explain_name(
+            path,
+            text,
+            at,
+            " would stand more than 16 braces deep",
+            "put an inner block into a 'define' and 'apply' it",
+            out,
+        ),
+        ScriptFault::NameUsed(at) => explain_name(
+            path,
+            text,
+            at,
+            " is the name of a block that is defined before",
+            "give one of both another name",
+            out,
+        ),
+        ScriptFault::NameUnknown(at) => explain_name(
+            path,
+            text,
+            at,
+            " is not the name of a block that is defined before",
+            "'define' the block above the place where it is applied; a block does not apply itself",
+            out,
+        ),
+        ScriptFault::Limit(at) => explain_limit(path, text, at, out),
+        ScriptFault::Memory => Ok(()),
+    }
+}

@@ -1,0 +1,127 @@
+//! Commits and waits that are refused, explained.
+
+use crate::history::{Deed, committed_in};
+use plan_code::{Delay, Frames, Plan, Swap};
+use std::io::{self, Write};
+
+/// Writes when a pending swap comes.
+pub(crate) fn put_swap<W: Write>(pending: Swap, out: &mut W) -> io::Result<()> {
+    match pending {
+        Swap::Idle => write!(out, "no swap is pending"),
+        Swap::Within(low, high) => {
+            if low == high {
+                return write!(out, "a swap is pending that comes after {low} frames");
+            }
+            write!(
+                out,
+                "a swap is pending that comes after {low} to {high} frames"
+            )
+        }
+        Swap::Perhaps(high) => write!(
+            out,
+            "a swap may be pending, that comes after {high} frames at most"
+        ),
+    }
+}
+
+/// Explains an edit or a commit while a swap is pending, or may be.
+pub(crate) fn explain_pending<W: Write>(
+    pending: Swap,
+    deeds: &[Deed],
+    out: &mut W,
+) -> io::Result<()> {
+    put_swap(pending, out)?;
+    match committed_in(deeds) {
+        Some(line) => writeln!(out, ": the one of the commit in line {line}")?,
+        None => writeln!(out)?,
+    }
+    match pending {
+        Swap::Perhaps(_) => writeln!(
+            out,
+            "hint: 'settle' before it: it waits for the swap, if it has not come yet"
+        ),
+        Swap::Within(_, _) => writeln!(
+            out,
+            "hint: 'join' before it, which waits for the swap; until then the next configuration is announced and stays as it is"
+        ),
+        Swap::Idle => Ok(()),
+    }
+}
+
+/// Explains a commit whose delay is shorter than the notice.
+pub(crate) fn explain_notice<W: Write>(plan: &Plan, delay: Delay, out: &mut W) -> io::Result<()> {
+    let notice = plan.notice;
+    let delay = delay.get();
+    writeln!(
+        out,
+        "the swap would come after {delay} frames; the notice is {notice} frames"
+    )?;
+    writeln!(out, "hint: 'commit in {notice}' or more")
+}
+
+/// Explains a commit at a count on which no swap falls.
+pub(crate) fn explain_count<W: Write>(plan: &Plan, count: u16, out: &mut W) -> io::Result<()> {
+    let step = plan.mode.step();
+    let notice = plan.notice;
+    writeln!(
+        out,
+        "no swap falls on count {count}: in this mode swaps fall on the multiples of {step} from 0 to 4999"
+    )?;
+    let count = count % 5000;
+    let near = count.saturating_sub(count % step.max(1));
+    writeln!(
+        out,
+        "hint: 'commit at {near}', which leaves the whole notice of {notice} frames before it"
+    )
+}
+
+/// Explains a `join` where no swap is pending, or may be none.
+pub(crate) fn explain_join<W: Write>(pending: Swap, out: &mut W) -> io::Result<()> {
+    match pending {
+        Swap::Perhaps(_) => writeln!(
+            out,
+            "the swap may have come already, so that none is pending\nhint: 'settle' waits for it only where it is still to come"
+        ),
+        Swap::Idle | Swap::Within(_, _) => writeln!(
+            out,
+            "no swap is pending here, so that there is none to wait for\nhint: leave it out, or 'commit' before it"
+        ),
+    }
+}
+
+/// Explains a wait that may end before the swap or after it.
+pub(crate) fn explain_wait<W: Write>(
+    pending: Swap,
+    frames: Frames,
+    deeds: &[Deed],
+    out: &mut W,
+) -> io::Result<()> {
+    let frames = frames.get();
+    let Swap::Within(low, high) = pending else {
+        return writeln!(out);
+    };
+    write!(
+        out,
+        "after {frames} frames the swap has come or not, as the count allows: it comes after {low} to {high} frames"
+    )?;
+    match committed_in(deeds) {
+        Some(line) => writeln!(out, ", by the commit in line {line}")?,
+        None => writeln!(out)?,
+    }
+    let shorter = low.saturating_sub(1);
+    if shorter == 0 {
+        return writeln!(out, "hint: 'wait {high}' or more, or 'join'");
+    }
+    writeln!(
+        out,
+        "hint: 'wait {shorter}' or less, 'wait {high}' or more, or 'join'"
+    )
+}
+
+/// The line of text for a commit of what is the current configuration already.
+pub(crate) fn explain_no_change<W: Write>(out: &mut W) -> io::Result<()> {
+    writeln!(
+        out,
+        "nothing differs: the next configuration is the current one\nhint: leave the commit out, or edit before it"
+    )
+}

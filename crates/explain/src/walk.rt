@@ -1,0 +1,370 @@
+//! The way of a script up to the statement that is refused, gone with the transfer function of plans.
+
+use crate::history::Deed;
+use mux_config::{Config, Store};
+use plan_code::{Instr, Plan, Swap};
+use plan_flow::{Cause, Flow};
+use script_front::{Act, Statement};
+use std::alloc::{AllocError, Global};
+
+/// The most statements that are gone through: more than any code has instructions.
+const MOST: u32 = 100_000;
+
+/// How many statements stand inside one another at most: 16 braces deep in each of 64 blocks and behind `begin`, and each
+/// block is applied by a statement.
+const DEEPEST: u16 = 2000;
+
+/// Where a way ends before its script does.
+#[derive(Clone, Copy)]
+pub(crate) enum Stop {
+    /// A statement without a block is refused.
+    Act {
+        line: u16,
+        instr: Instr,
+        cause: Cause,
+    },
+    /// The body of a loop does not come back as it began.
+    Loop {
+        line: u16,
+    },
+    /// The ways through an `if` do not meet.
+    Ways {
+        line: u16,
+    },
+    /// A statement can't be reached, behind one in this other line.
+    Unreached {
+        line: u16,
+        after: u16,
+    },
+    /// There are too many statements.
+    Long,
+    /// There was no memory.
+    Memory,
+}
+
+impl From<AllocError> for Stop {
+    fn from(_error: AllocError) -> Self {
+        Stop::Memory
+    }
+}
+
+/// What is known on the way, and what was done.
+#[derive(Drop)]
+pub(crate) struct Walk {
+    /// What is known of the configurations and the swap.
+    pub(crate) flow: Flow<Config>,
+    /// What was carried out so far, in the order of the text.
+    pub(crate) deeds: Vec<Deed>,
+    /// What is known where branches and loops come back to.
+    saved: Vec<Flow<Config>>,
+    /// The other way, where two do not meet: the beginning of a loop, or the way past an `if` or through its first block.
+    pub(crate) other: Option<Flow<Config>>,
+    /// How many statements may still be gone through.
+    left: u32,
+}
+
+/// A copy of a configuration.
+pub(crate) fn copied(config: &Config) -> Config {
+    Config::from_config(config)
+}
+
+/// A copy of what is known.
+fn same_flow(flow: &Flow<Config>) -> Flow<Config> {
+    Flow {
+        current: copied(&flow.current),
+        next: copied(&flow.next),
+        pending: flow.pending,
+    }
+}
+
+/// The line of a statement's first token.
+fn line_of(statement: &Statement) -> u16 {
+    match statement {
+        Statement::Act { line, .. } => *line,
+        Statement::End { line } => *line,
+        Statement::If { line, .. } => *line,
+        Statement::IfElse { line, .. } => *line,
+        Statement::Repeat { line, .. } => *line,
+        Statement::Forever { line, .. } => *line,
+        Statement::Apply { line, .. } => *line,
+    }
+}
+
+/// The instruction of a statement without a block.
+pub(crate) fn instr_of(act: Act) -> Instr {
+    match act {
+        Act::Edit(edit) => Instr::Edit(edit),
+        Act::Wait(frames) => Instr::Wait(frames),
+        Act::WaitContact { contact, closed } => Instr::WaitContact { contact, closed },
+        Act::Until(time) => Instr::Until(time.frame()),
+        Act::CommitIn(delay) => Instr::CommitIn(delay),
+        Act::CommitAt(count) => Instr::CommitAt(count),
+        Act::Join => Instr::Join,
+        Act::Settle => Instr::Settle,
+    }
+}
+
+impl Walk {
+    /// The beginning of a way, at this opening.
+    pub(crate) fn new(alloc: Global, opening: &Config, deeds: Vec<Deed>) -> Walk {
+        Walk {
+            flow: Flow {
+                current: copied(opening),
+                next: copied(opening),
+                pending: Swap::Idle,
+            },
+            deeds,
+            saved: Vec::new(alloc),
+            other: None,
+            left: MOST,
+        }
+    }
+
+    /// One instruction; refused it leaves all as it was.
+    pub(crate) fn step(&mut self, plan: &Plan, line: u16, instr: &Instr) -> Result<(), Stop> {
+        if let Err(cause) = self.flow.apply(plan, *instr) {
+            return Err(Stop::Act {
+                line,
+                instr: *instr,
+                cause,
+            });
+        }
+        match self.deeds.push(Deed {
+            line,
+            instr: *instr,
+        }) {
+            Ok(()) => Ok(()),
+            Err(_full) => Err(Stop::Memory),
+        }
+    }
+
+    /// Keeps what is known here.
+    fn save(&mut self) -> Result<(), Stop> {
+        let kept = same_flow(&self.flow);
+        match self.saved.push(kept) {
+            Ok(()) => Ok(()),
+            Err(_full) => Err(Stop::Memory),
+        }
+    }
+
+    /// What was kept last, which is kept no more.
+    fn restore(&mut self) -> Result<Flow<Config>, Stop> {
+        match self.saved.pop() {
+            Some(flow) => Ok(flow),
+            None => Err(Stop::Long),
+        }
+    }
+
+    /// This way and another meet, where this one comes here at all.
+    fn join(&mut self, falls: bool, line: u16, other: Flow<Config>) -> Result<(), Stop> {
+        if !falls {
+            self.flow = other;
+            return Ok(());
+        }
+        if self.flow.meet(&other) {
+            return Ok(());
+        }
+        self.other = Some(other);
+        Err(Stop::Ways { line })
+    }
+
+    /// The end of a loop, whose beginning was kept.
+    fn go_round(&mut self, falls: bool, line: u16) -> Result<(), Stop> {
+        let entry = self.restore()?;
+        if !falls {
+            return Ok(());
+        }
+        if self.flow.fits(&entry.current, &entry.next, entry.pending) {
+            return Ok(());
+        }
+        self.other = Some(entry);
+        Err(Stop::Loop { line })
+    }
+
+    /// The statements behind `begin`, of which it answers whether what follows can be reached.
+    pub(crate) fn whole(
+        &mut self,
+        plan: &Plan,
+        blocks: &[Vec<Statement>],
+        statements: &[Statement],
+    ) -> Result<bool, Stop> {
+        self.block(plan, blocks, DEEPEST, statements)
+    }
+
+    /// The statements of a block, of which it answers whether what follows can be reached. They stand this deep at most.
+    #[cycle(walk)]
+    fn block(
+        &mut self,
+        plan: &Plan,
+        blocks: &[Vec<Statement>],
+        depth: u16,
+        statements: &[Statement],
+    ) -> Result<bool, Stop> {
+        let mut falls = true;
+        let mut after = 0u16;
+        for statement in statements {
+            let line = line_of(statement);
+            if !falls {
+                return Err(Stop::Unreached { line, after });
+            }
+            falls = match self.statement(plan, blocks, depth, statement) {
+                Ok(falls) => falls,
+                Err(stop) => return Err(stop),
+            };
+            after = line;
+        }
+        Ok(falls)
+    }
+
+    /// One statement, of which it answers whether what follows can be reached.
+    #[cycle(walk)]
+    fn statement(
+        &mut self,
+        plan: &Plan,
+        blocks: &[Vec<Statement>],
+        depth: u16,
+        statement: &Statement,
+    ) -> Result<bool, Stop> {
+        if depth == 0 {
+            return Err(Stop::Long);
+        }
+        if self.left == 0 {
+            return Err(Stop::Long);
+        }
+        self.left -= 1;
+        match statement {
+            Statement::Act { line, act } => match self.step(plan, *line, &instr_of(*act)) {
+                Ok(()) => Ok(true),
+                Err(stop) => Err(stop),
+            },
+            Statement::End { .. } => Ok(false),
+            Statement::If { line, first, .. } => self.when(plan, blocks, depth - 1, *line, first),
+            Statement::IfElse {
+                line,
+                first,
+                second,
+                ..
+            } => self.either(plan, blocks, depth - 1, *line, first, second),
+            Statement::Repeat { line, body, .. } => self.turns(
+                plan,
+                blocks,
+                depth - 1,
+                *line,
+                body,
+                true,
+            ),
+            Statement::Forever { line, body } => self.turns(
+                plan,
+                blocks,
+                depth - 1,
+                *line,
+                body,
+                false,
+            ),
+            Statement::Apply { block, .. } => {
+                let number = usize::from(block.get());
+                if number >= blocks.len() {
+                    return Ok(true);
+                }
+                self.block(plan, &blocks[..number], depth - 1, &blocks[number])
+            }
+        }
+    }
+
+    /// An `if` without `else`.
+    #[cycle(walk)]
+    fn when(
+        &mut self,
+        plan: &Plan,
+        blocks: &[Vec<Statement>],
+        depth: u16,
+        line: u16,
+        first: &[Statement],
+    ) -> Result<bool, Stop> {
+        if let Err(stop) = self.save() {
+            return Err(stop);
+        }
+        let falls = match self.block(plan, blocks, depth, first) {
+            Ok(falls) => falls,
+            Err(stop) => return Err(stop),
+        };
+        self.close_if(falls, line)
+    }
+
+    /// The end of an `if` without `else`: its block's way, if it falls out, and the one past it meet.
+    fn close_if(&mut self, falls: bool, line: u16) -> Result<bool, Stop> {
+        let entry = self.restore()?;
+        self.join(falls, line, entry)?;
+        Ok(true)
+    }
+
+    /// An `if` with `else`.
+    #[cycle(walk)]
+    fn either(
+        &mut self,
+        plan: &Plan,
+        blocks: &[Vec<Statement>],
+        depth: u16,
+        line: u16,
+        first: &[Statement],
+        second: &[Statement],
+    ) -> Result<bool, Stop> {
+        if let Err(stop) = self.save() {
+            return Err(stop);
+        }
+        let first_falls = match self.block(plan, blocks, depth, first) {
+            Ok(falls) => falls,
+            Err(stop) => return Err(stop),
+        };
+        if let Err(stop) = self.turn() {
+            return Err(stop);
+        }
+        let second_falls = match self.block(plan, blocks, depth, second) {
+            Ok(falls) => falls,
+            Err(stop) => return Err(stop),
+        };
+        self.close_else(first_falls, second_falls, line)
+    }
+
+    /// The end of a first branch: what is known there is kept, and the second begins with what was known before both.
+    fn turn(&mut self) -> Result<(), Stop> {
+        let entry = self.restore()?;
+        self.save()?;
+        self.flow = entry;
+        Ok(())
+    }
+
+    /// The end of a second branch, where it meets the first if that fell out.
+    fn close_else(&mut self, first: bool, second: bool, line: u16) -> Result<bool, Stop> {
+        let exit = self.restore()?;
+        if !first {
+            return Ok(second);
+        }
+        self.join(second, line, exit)?;
+        Ok(true)
+    }
+
+    /// A loop, behind which is gone on where it ends.
+    #[cycle(walk)]
+    fn turns(
+        &mut self,
+        plan: &Plan,
+        blocks: &[Vec<Statement>],
+        depth: u16,
+        line: u16,
+        body: &[Statement],
+        ends: bool,
+    ) -> Result<bool, Stop> {
+        if let Err(stop) = self.save() {
+            return Err(stop);
+        }
+        let falls = match self.block(plan, blocks, depth, body) {
+            Ok(falls) => falls,
+            Err(stop) => return Err(stop),
+        };
+        if let Err(stop) = self.go_round(falls, line) {
+            return Err(stop);
+        }
+        Ok(falls && ends)
+    }
+}

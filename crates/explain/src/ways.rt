@@ -1,0 +1,165 @@
+//! Ways that do not meet, explained: the first difference between them.
+
+use crate::difference::{first_difference, put_difference};
+use crate::swap::put_swap;
+use mux_config::Config;
+use plan_code::Swap;
+use plan_flow::Flow;
+use std::io::{self, Write};
+
+/// What is said behind what holds on each of two ways.
+#[derive(Clone, Copy)]
+struct Sides {
+    here: &'static str,
+    there: &'static str,
+}
+
+/// Whether no swap is pending.
+fn is_idle(pending: Swap) -> bool {
+    match pending {
+        Swap::Idle => true,
+        Swap::Within(_, _) => false,
+        Swap::Perhaps(_) => false,
+    }
+}
+
+/// Whether what is known of the swap does not fit what is declared, whatever the configurations are.
+fn has_other_swap(known: Swap, declared: Swap) -> bool {
+    match (known, declared) {
+        (Swap::Idle, Swap::Idle) => false,
+        (Swap::Idle, Swap::Within(_, _)) => true,
+        (Swap::Idle, Swap::Perhaps(_)) => false,
+        (Swap::Within(low, high), Swap::Within(least, most)) => low < least || most < high,
+        (Swap::Within(_, high), Swap::Perhaps(most)) => most < high,
+        (Swap::Within(_, _), Swap::Idle) => true,
+        (Swap::Perhaps(high), Swap::Perhaps(most)) => most < high,
+        (Swap::Perhaps(_), Swap::Idle) => true,
+        (Swap::Perhaps(_), Swap::Within(_, _)) => true,
+    }
+}
+
+/// Writes the first difference between two configurations, where there is one; whether there is.
+fn put_pair<W: Write>(
+    a: &Config,
+    b: &Config,
+    name: &str,
+    sides: Sides,
+    out: &mut W,
+) -> io::Result<bool> {
+    let Some(difference) = first_difference(a, b) else {
+        return Ok(false);
+    };
+    write!(out, "in {name} ")?;
+    put_difference(&difference, a, b, sides.here, sides.there, out)?;
+    out.write_all(b"\n")?;
+    Ok(true)
+}
+
+/// Writes the first difference between the current configurations of two ways, or else between the next ones. Where a
+/// swap is pending on one of them alone, what is current on the other has to be what will be current on that one.
+fn put_configs<W: Write>(
+    here: &Flow<Config>,
+    there: &Flow<Config>,
+    sides: Sides,
+    out: &mut W,
+) -> io::Result<bool> {
+    let current = if is_idle(there.pending) || !is_idle(here.pending) {
+        &there.current
+    } else {
+        &there.next
+    };
+    let known = if is_idle(here.pending) || !is_idle(there.pending) {
+        &here.current
+    } else {
+        &here.next
+    };
+    if put_pair(known, current, "the current configuration", sides, out)? {
+        return Ok(true);
+    }
+    put_pair(
+        &here.next,
+        &there.next,
+        "the next configuration",
+        sides,
+        out,
+    )
+}
+
+/// Writes what two ways say of the swap.
+fn put_swaps<W: Write>(here: Swap, there: Swap, sides: Sides, out: &mut W) -> io::Result<()> {
+    put_swap(here, out)?;
+    out.write_all(sides.here.as_bytes())?;
+    out.write_all(b"; ")?;
+    put_swap(there, out)?;
+    out.write_all(sides.there.as_bytes())?;
+    out.write_all(b"\n")
+}
+
+/// Explains a loop whose body does not come back as it began, behind the place: what is known at its end, and what was
+/// known at its beginning.
+pub(crate) fn explain_loop<W: Write>(
+    end: &Flow<Config>,
+    beginning: &Flow<Config>,
+    out: &mut W,
+) -> io::Result<()> {
+    let sides = Sides {
+        here: " at its end",
+        there: " at its beginning",
+    };
+    out.write_all(b"the loop does not come back as it began: ")?;
+    if has_other_swap(end.pending, beginning.pending) {
+        put_swaps(end.pending, beginning.pending, sides, out)?;
+        return writeln!(
+            out,
+            "hint: 'join' at the end of the loop, or 'settle' where the swap may have come"
+        );
+    }
+    if !put_configs(end, beginning, sides, out)? {
+        writeln!(out)?;
+    }
+    writeln!(
+        out,
+        "hint: undo in the loop what it did, then 'commit' and 'join'; or do it before the loop"
+    )
+}
+
+/// Explains ways that do not meet behind an `if`, behind the place: what is known on the later one in the text, and on
+/// the other.
+pub(crate) fn explain_ways<W: Write>(
+    here: &Flow<Config>,
+    there: &Flow<Config>,
+    out: &mut W,
+) -> io::Result<()> {
+    let sides = Sides {
+        here: " on one way",
+        there: " on the other",
+    };
+    out.write_all(b"the two ways through the 'if' differ: ")?;
+    if !put_configs(here, there, sides, out)? {
+        writeln!(out)?;
+    }
+    writeln!(
+        out,
+        "hint: leave both branches with the same configurations, 'commit' and 'join' included"
+    )
+}
+
+/// Explains what is known where the machine comes to a label that declares something else, behind the place.
+pub(crate) fn explain_label<W: Write>(
+    known: &Flow<Config>,
+    declared: &Flow<Config>,
+    out: &mut W,
+) -> io::Result<()> {
+    let sides = Sides {
+        here: " as it is known",
+        there: " as the label declares",
+    };
+    out.write_all(b"what is known does not fit the label: ")?;
+    if has_other_swap(known.pending, declared.pending) {
+        return put_swaps(known.pending, declared.pending, sides, out);
+    }
+    if !put_configs(known, declared, sides, out)? {
+        writeln!(out)?;
+    }
+    Ok(())
+}
