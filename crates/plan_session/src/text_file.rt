@@ -19,8 +19,8 @@ const PIECE: usize = 65_536;
 ///
 /// # Errors
 ///
-/// `NotUtf8` where the text is not UTF-8, which is found at the character that is none; `Failed` where the reader fails;
-/// `Memory` where there is no memory for what is kept.
+/// `NotUtf8` where the text is not UTF-8, once four bytes came from where no character begins, or all that there are;
+/// `Failed` where the reader fails before that; `Memory` where there is no memory for what is kept.
 pub fn read_text<R: Read + Drop>(alloc: Global, source: R) -> Result<String, TextFault>
     ensures text { IfOk result (λ kept. IfSome (R.remaining source) (λ whole. IsUtf8 whole)) }
     ensures kept { IfOk result (λ kept. IfSome (R.remaining source)
