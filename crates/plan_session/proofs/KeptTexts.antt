@@ -251,6 +251,7 @@ same_cut whole kept (inr h) = h.of_kept ∙ sym h.of_whole
 pub answer_alike : KeptTextsAnswerAlike
 answer_alike whole kept h = record {
   cut = same_cut whole kept h;
+  faults = λ e. (λ told fault is. told fault (same_cut whole kept h ∙ is), λ told fault is. told fault (sym (same_cut whole kept h) ∙ is));
   steps = same_items _ _ whole kept h;
   commands = same_items _ _ whole kept h;
 }

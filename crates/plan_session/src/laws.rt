@@ -15,9 +15,9 @@ pub fn one_list_of_commands()
     ensures { HoldsOneListOfCommands }
 {}
 
-/// The law of texts that are not kept whole: what is kept of a text by [`read_text`](crate::read_text) is cut into the same
-/// tokens as the whole, or refused with the same fault at the same place, and holds the same steps and commands. The
-/// function does nothing; its contract is the law.
+/// The law of texts that are not kept whole: what [`read_text`](crate::read_text) keeps of a text has the same tokens as
+/// the whole, or the same first fault at the same place, and holds the same steps and commands. The function does nothing;
+/// its contract is the law.
 pub fn kept_texts()
     ensures { KeptTextsAnswerAlike }
 {}
