@@ -3,10 +3,10 @@ use Rattle.std.proofs.Common.{◌≡◌, ℕ, ◌+◌, ◌<◌, ◌≤◌, ◌==
 use Rattle.std.specs.Prelude.{IsUtf8}
 use Rattle.std.proofs.lemmas.Bool.{cases_lt, and_parts, eqb-true, eqb-false}
 use Rattle.std.proofs.lemmas.List.{take-append-le, take_all, append-nil}
-use Rattle.std.proofs.lemmas.Str.{IsUtf8-append, IsUtf8-drop, IsUtf8-encode, IsUtf8-nil, IsCharBoundary-from_take, encode_ascii, length-encode, len_utf8_bounds}
+use Rattle.std.proofs.lemmas.Str.{IsUtf8-append, IsUtf8-drop, IsUtf8-encode, IsUtf8-from_ascii, IsUtf8-nil, IsCharBoundary-from_take, encode_ascii, length-encode, len_utf8_bounds}
 use Rattle.std.proofs.Math.Seq.{take-append_seam, drop-append_seam}
 use Rattle.std.specs.Char.{encode_utf8, len_utf8}
-use Rattle.std.specs.Str.{encode_utf8_all, all_scalars}
+use Rattle.std.specs.Str.{encode_utf8_all, all_scalars, IsAscii}
 use lib.Utf8.{scalar, low_scalar}
 use Rattle.plan_session.specs.Gathered.{HaveNoCharacter, AreCharacters}
 
@@ -70,6 +70,18 @@ one_byte seen begun b h none small = record {
       let whole : seen ≡ h.done = h.whole ∙ ap (λ (l : List ℕ). h.done ++ l) none ∙ append-nil h.done in
       ap (λ (l : List ℕ). l ++ b ∷ []) whole ∙ sym (append-nil (h.done ++ b ∷ [])) ∙ ap (λ (l : List ℕ). (h.done ++ b ∷ []) ++ l) (sym none);
   text = IsUtf8-append h.done (b ∷ []) h.text (subst IsUtf8 (encode_ascii b small) (IsUtf8-encode b (low_scalar b (omega (arith, small)))));
+  none = h.none;
+  few = h.few;
+}
+
+-- characters of one byte
+pub ascii_bytes : (seen begun bytes : List ℕ) → AreCharacters seen begun → begun ≡ [] → IsAscii bytes → AreCharacters (seen ++ bytes) begun
+ascii_bytes seen begun bytes h none small = record {
+  done = h.done ++ bytes;
+  whole =
+      let whole : seen ≡ h.done = h.whole ∙ ap (λ (l : List ℕ). h.done ++ l) none ∙ append-nil h.done in
+      ap (λ (l : List ℕ). l ++ bytes) whole ∙ sym (append-nil (h.done ++ bytes)) ∙ ap (λ (l : List ℕ). (h.done ++ bytes) ++ l) (sym none);
+  text = IsUtf8-append h.done bytes h.text (IsUtf8-from_ascii bytes small);
   none = h.none;
   few = h.few;
 }

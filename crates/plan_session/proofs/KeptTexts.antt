@@ -211,6 +211,13 @@ stands_so seen kept after Refused b w h added same text = stands_on seen kept af
 stands_so seen kept after Behind b w h added same text =
     subst (λ (l : List ℕ). Stands (seen ++ b ∷ []) l (standing_after Behind (kind_of b) w)) (sym (same refl)) (stands_behind seen kept Behind b w h refl)
 
+-- bytes that are not kept
+pub stays_behind : (seen kept more : List ℕ) (s : Standing) → Stands seen kept s → s ≡ Behind → Stands (seen ++ more) kept s
+stays_behind seen kept more Outside h is = absurd cc
+stays_behind seen kept more InComment h is = absurd cc
+stays_behind seen kept more Refused h is = absurd cc
+stays_behind seen kept more Behind h is = (h.0, h.1, (h.2.0 ++ more, ap (λ (l : List ℕ). l ++ more) h.2.1 ∙ append_assoc kept h.2.0 more))
+
 -- ---- at the end
 
 pub kept_is_text : (seen kept : List ℕ) (s : Standing) → Stands seen kept s → IsUtf8 seen → IsUtf8 kept

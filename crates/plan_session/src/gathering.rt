@@ -1,6 +1,6 @@
 //! The bytes of a text as they come: those are kept on which the text's answer depends.
 
-ghost use Rattle.std.specs.Prelude.{◌≡◌, ◌≢◌, ℕ, List, [], ◌∷◌, ◌++◌, OnOk, IfOk, IfErr, IsUtf8, string_bytes};
+ghost use Rattle.std.specs.Prelude.{◌≡◌, ◌≢◌, ℕ, List, [], ◌∷◌, ◌++◌, true, OnOk, IfOk, IfErr, IsUtf8, string_bytes};
 ghost use Rattle.script_tokens.specs.Bytes.{kind_of};
 ghost use Rattle.plan_session.specs.declared.gathering.Standing.TheVariants.{Behind};
 ghost use Rattle.plan_session.specs.declared.text_fault.TextFault.TheVariants.{NotUtf8};
@@ -69,10 +69,26 @@ impl Gathering {
         ensures not_utf8 { IfErr result (λ e. e ≡ NotUtf8 → (seen rest : List ℕ)
             → IsGathered seen self.old → IsUtf8 (seen ++ (bytes.now ++ rest)) → ⊥) }
     {
+        if self.is_past() {
+            if bytes.is_ascii() {
+                return Ok(());
+            }
+        }
         for byte in bytes {
             self.take(*byte)?;
         }
         Ok(())
+    }
+
+    /// Whether nothing that follows is kept, and a character begins next.
+    fn is_past(&self) -> bool
+        ensures behind { result ≡ true → self.now.standing ≡ Behind }
+        ensures between { result ≡ true → self.now.begun.items ≡ [] }
+    {
+        match self.standing {
+            Standing::Behind => self.begun.is_empty(),
+            Standing::Outside | Standing::InComment | Standing::Refused => false,
+        }
     }
 
     /// What is kept, once all bytes came; `NotUtf8` where they end within a character.

@@ -3,6 +3,10 @@ use Rattle.std.specs.Prelude.{IsUtf8}
 use Rattle.std.proofs.lemmas.List.{take_all}
 use Rattle.std.proofs.lemmas.Result.{err_from_is_err_and}
 use Rattle.plan_session.specs.Gathered.{IsGathered}
+use Rattle.std.specs.Str.{IsAscii}
+use Rattle.plan_session.specs.declared.gathering.Gathering.{Gathering}
+use Rattle.plan_session.proofs.CharacterSteps.{ascii_bytes}
+use Rattle.plan_session.proofs.KeptTexts.{stays_behind}
 use Rattle.plan_session.proofs.Readings.{one_more, from_here}
 use Rattle.plan_session.proofs.gathering.Gathering.take_all.Goals as goal
 
@@ -28,3 +32,13 @@ returns-clause-gathered c = λ seen h.
     let bytes : List ℕ = c.args.bytes.now in
     let past : length bytes ≤ i = omega (arith, c.loop-byte-test.false) in
     subst (λ (l : List ℕ). IsGathered (seen ++ l) c.loop-byte.self) (take_all i bytes past) (c.loop-byte.invariant seen h)
+
+pub returns-then-is_ascii-clause-gathered : goal.returns-then-is_ascii-clause-gathered
+returns-then-is_ascii-clause-gathered c = λ seen h.
+    let g : Gathering = c.args.self.now in
+    let bytes : List ℕ = c.args.bytes.now in
+    let small : IsAscii bytes = c.if-is_ascii.ensures.cases in
+    record {
+      characters = ascii_bytes seen g.begun.items bytes h.characters (c.is_past.ensures.between c.if-is_past.true) small;
+      stands = stays_behind seen g.kept.items bytes g.standing h.stands (c.is_past.ensures.behind c.if-is_past.true);
+    }
