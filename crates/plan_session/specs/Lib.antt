@@ -1,7 +1,9 @@
 pub mod Buffering
 pub mod Commands
 pub mod Events
+pub mod Gathered
 pub mod Items
+pub mod Kept
 pub mod Parts
 pub mod Playback
 pub mod Words

@@ -3,6 +3,7 @@
 ghost use Rattle.std.specs.Prelude.{◌≡◌};
 ghost use Rattle.script_tokens.specs.declared.fault.ScriptFault.TheVariants.{Memory as NoMemory};
 ghost use Rattle.plan_session.specs.declared.event_fault.EventFault.TheVariants.{Memory};
+ghost use Rattle.plan_session.specs.Kept.{told};
 
 use script_words::{Position, ScriptFault};
 use std::alloc::AllocError;
@@ -41,6 +42,7 @@ impl From<AllocError> for EventFault {
 /// of the faults of cutting only `Byte` and `Memory` come.
 pub(crate) fn fault_of(fault: ScriptFault) -> EventFault
     ensures memory { fault ≡ NoMemory → result ≡ Memory }
+    ensures told { result ≡ told fault }
 {
     match fault {
         ScriptFault::Memory => EventFault::Memory,

@@ -5,6 +5,7 @@ ghost use Rattle.std.specs.Fmt.{decimal};
 ghost use Rattle.std.specs.List.{AllByRecursion};
 ghost use Rattle.plan_session.specs.declared.event_fault.EventFault.TheVariants.{Memory};
 ghost use Rattle.plan_session.specs.Items.{words_of_text, contact_word, HoldsItems};
+ghost use Rattle.plan_session.specs.Kept.{TellsFirstFault};
 ghost use Rattle.plan_session.specs.Words.{AreSpans};
 
 use crate::event_fault::{EventFault, fault_of};
@@ -163,6 +164,7 @@ pub(crate) fn read_items<T: Item>(alloc: Global, text: &str) -> Result<Vec<T>, E
     ensures found { IfOk result (λ v. HoldsItems T.spelled T.is_item text.now v.items) }
     ensures only { IfErr result (λ e. e ≢ Memory → (all : List T)
         → HoldsItems T.spelled T.is_item text.now all → ⊥) }
+    ensures first { IfErr result (λ e. e ≢ Memory → TellsFirstFault text.now e) }
 {
     match cut(alloc, text, NO_LIMITS) {
         Ok(tokens) => items_of(alloc, text.as_bytes(), tokens.as_slice()),

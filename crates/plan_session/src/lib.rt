@@ -1,26 +1,31 @@
 //! Sessions: what a plan is played with, read from files, and the plan played.
 //!
-//! [`typed_code`] makes the code in a file one that can be played; [`read_events`] reads the text of an event file into
-//! its list of [`Step`]s, [`read_commands`] that of a command file into its list of [`Command`]s. [`play`] plays such a code
-//! over the text of an event file into a sink, [`run`] a code's file, and [`run_into`] too, by few large pieces. What a
-//! text holds is defined in `specs/Events.antt` and `specs/Commands.antt`; what a playback is asked for, what it delivers and its
-//! faults in `specs/Playback.antt`.
+//! [`typed_code`] makes the code in a file one that can be played; [`read_text`] reads the text of an event file or of a
+//! command file, and keeps no more of it than its answer depends on; [`read_events`] reads the one into its list of
+//! [`Step`]s, [`read_commands`] the other into its list of [`Command`]s. [`play`] plays such a code over the text of an
+//! event file into a sink, [`run`] a code's file, and [`run_into`] too, by few large pieces. What a text holds is defined
+//! in `specs/Events.antt` and `specs/Commands.antt`, what is kept of one in `specs/Kept.antt`; what a playback is asked
+//! for, what it delivers and its faults in `specs/Playback.antt`.
 #![tactic(auto)]
 
 mod block;
 mod buffer;
 pub mod buffered;
+mod characters;
 pub mod code_file;
 pub mod command;
 pub mod commands;
 pub mod event_fault;
 pub mod events;
+mod gathering;
 mod items;
 pub mod laws;
 pub mod playback;
 mod playing;
 pub mod run_fault;
 pub mod step;
+pub mod text_fault;
+pub mod text_file;
 mod words;
 
 pub use buffered::run_into;
@@ -32,3 +37,5 @@ pub use events::read_events;
 pub use playback::{play, run};
 pub use run_fault::RunFault;
 pub use step::Step;
+pub use text_fault::TextFault;
+pub use text_file::read_text;

@@ -7,3 +7,4 @@ mod faults;
 mod frames;
 mod into_sink;
 mod sinks;
+mod texts;

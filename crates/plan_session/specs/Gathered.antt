@@ -1,0 +1,88 @@
+-- What is known of a text of which some bytes came. No public contract needs this to be believed.
+use Rattle.std.specs.Prelude.{◌≡◌, ℕ, ◌<◌, ◌≤◌, Bool, true, false, List, ◌++◌, length, take, if◌then◌else◌, Err, IsUtf8}
+use Rattle.script_tokens.specs.declared.token.Token.{Token}
+use Rattle.script_tokens.specs.declared.token.Kind.{Kind}
+use Rattle.script_tokens.specs.declared.token.Kind.TheVariants.{Blank, LineEnd, Hash, Brace, Letter, Bad}
+use Rattle.script_tokens.specs.declared.token.Inside.{Inside}
+use Rattle.script_tokens.specs.declared.token.Inside.TheVariants.{Nothing, Comment, Atom}
+use Rattle.script_tokens.specs.declared.token.Place.{Place}
+use Rattle.script_tokens.specs.declared.token.TheConstants.{NO_LIMITS}
+use Rattle.script_tokens.specs.declared.fault.ScriptFault.{ScriptFault}
+use Rattle.script_tokens.specs.Lexing.{lexed, tokens_before}
+use Rattle.plan_session.specs.declared.gathering.Gathering.{Gathering}
+use Rattle.plan_session.specs.declared.gathering.Standing.{Standing}
+use Rattle.plan_session.specs.declared.gathering.Standing.TheVariants.{Outside, InComment, Refused, Behind}
+use Rattle.plan_session.specs.Kept.{cut_of}
+
+-- ---- characters
+
+-- no front of these bytes is UTF-8
+abbrev pub HaveNoCharacter : List ℕ → Type 0
+HaveNoCharacter begun = (n : ℕ) → 0 < n → n ≤ length begun → IsUtf8 (take n begun) → ⊥
+
+-- the bytes that came are whole characters, and then those of one that is not whole
+pub record AreCharacters (seen begun : List ℕ) : Type 0 where
+  pub done : List ℕ
+  pub whole : seen ≡ done ++ begun
+  pub text : IsUtf8 done
+  pub none : HaveNoCharacter begun
+  pub few : length begun < 4
+
+-- ---- tokens
+
+abbrev pub is_comment : Inside → Bool
+is_comment Nothing = false
+is_comment Comment = true
+is_comment (Atom place) = false
+
+-- behind these bytes the lexer stands in a comment, or outside
+pub record Reaches (seen : List ℕ) (in_comment : Bool) : Type 0 where
+  pub tokens : List Token
+  pub inside : Inside
+  pub place : Place
+  pub on : (more : List ℕ) → cut_of (seen ++ more) ≡ tokens_before NO_LIMITS tokens (lexed NO_LIMITS inside place more)
+  pub is : is_comment inside ≡ in_comment
+
+-- a text that begins with these bytes is refused, whatever follows
+pub record AreRefused (front : List ℕ) : Type 0 where
+  pub fault : ScriptFault
+  pub always : (more : List ℕ) → cut_of (front ++ more) ≡ Err fault
+
+-- ---- both
+
+abbrev pub behind_character : Bool → Standing
+behind_character is_whole = if is_whole then Behind else Refused
+
+abbrev pub standing_outside : Kind → Bool → Standing
+standing_outside Blank is_whole = Outside
+standing_outside LineEnd is_whole = Outside
+standing_outside Hash is_whole = InComment
+standing_outside Brace is_whole = Outside
+standing_outside Letter is_whole = Outside
+standing_outside Bad is_whole = behind_character is_whole
+
+abbrev pub standing_in_comment : Kind → Standing
+standing_in_comment LineEnd = Outside
+standing_in_comment Blank = InComment
+standing_in_comment Hash = InComment
+standing_in_comment Brace = InComment
+standing_in_comment Letter = InComment
+standing_in_comment Bad = InComment
+
+-- where a byte of this kind leads, behind which a character ends or does not
+abbrev pub standing_after : Standing → Kind → Bool → Standing
+standing_after Outside kind is_whole = standing_outside kind is_whole
+standing_after InComment kind is_whole = standing_in_comment kind
+standing_after Refused kind is_whole = behind_character is_whole
+standing_after Behind kind is_whole = Behind
+
+abbrev pub Stands : (seen kept : List ℕ) → Standing → Type 0
+Stands seen kept Outside = (kept ≡ seen) × Reaches seen false
+Stands seen kept InComment = (kept ≡ seen) × Reaches seen true
+Stands seen kept Refused = (kept ≡ seen) × AreRefused seen
+Stands seen kept Behind = IsUtf8 kept × AreRefused kept × ((rest : List ℕ) × (seen ≡ kept ++ rest))
+
+-- these bytes came
+pub record IsGathered (seen : List ℕ) (g : Gathering) : Type 0 where
+  pub characters : AreCharacters seen g.begun.items
+  pub stands : Stands seen g.kept.items g.standing

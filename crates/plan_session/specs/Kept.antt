@@ -1,0 +1,53 @@
+-- What is kept of the text of an event file or of a command file: all of it, or so much that it is refused as the whole is.
+use Rattle.std.specs.Prelude.{◌≡◌, ◌⊎◌, ◌↔◌, ℕ, List, Result, Err}
+use Rattle.script_tokens.specs.declared.token.Token.{Token}
+use Rattle.script_tokens.specs.declared.token.Inside.TheVariants.{Nothing}
+use Rattle.script_tokens.specs.declared.token.TheConstants.{NO_LIMITS}
+use Rattle.script_tokens.specs.declared.fault.ScriptFault.{ScriptFault}
+use Rattle.script_tokens.specs.declared.fault.ScriptFault.TheVariants.{Byte as ByteOfText, Number, Expected as ExpectedInText, Depth, NameUsed, NameUnknown, Limit, Memory as NoMemory}
+use Rattle.script_tokens.specs.Bytes.{first_place}
+use Rattle.script_tokens.specs.Lexing.{lexed}
+use Rattle.plan_session.specs.declared.command.Command.{Command}
+use Rattle.plan_session.specs.declared.event_fault.EventFault.{EventFault}
+use Rattle.plan_session.specs.declared.event_fault.EventFault.TheVariants.{Byte, Expected, Memory}
+use Rattle.plan_session.specs.declared.step.Step.{Step}
+use Rattle.plan_session.specs.Commands.{HoldsCommands}
+use Rattle.plan_session.specs.Events.{Holds}
+
+-- the tokens of a text without the limits of scripts, or its first fault and the place of that
+abbrev pub cut_of : List ℕ → Result (List Token) ScriptFault
+cut_of text = lexed NO_LIMITS Nothing first_place text
+
+-- how it is told that a text has no tokens: without limits there is only `Byte`, and want of memory
+abbrev pub told : ScriptFault → EventFault
+told (ByteOfText place) = Byte place
+told (Number place) = Expected place
+told (ExpectedInText place) = Expected place
+told (Depth place) = Expected place
+told (NameUsed place) = Expected place
+told (NameUnknown place) = Expected place
+told (Limit place) = Expected place
+told NoMemory = Memory
+
+-- where the text has no tokens, this is why
+abbrev pub TellsFirstFault : List ℕ → EventFault → Type 0
+TellsFirstFault text e = (fault : ScriptFault) → cut_of text ≡ Err fault → e ≡ told fault
+
+-- both texts are refused before their words are read, at the same place and for the same reason
+pub record HaveOneFault (whole kept : List ℕ) : Type 0 where
+  pub fault : ScriptFault
+  pub of_whole : cut_of whole ≡ Err fault
+  pub of_kept : cut_of kept ≡ Err fault
+
+abbrev pub IsKeptOf : (whole kept : List ℕ) → Type 0
+IsKeptOf whole kept = (kept ≡ whole) ⊎ HaveOneFault whole kept
+
+-- what is kept has the tokens of the whole, or its first fault, and holds the same steps and the same commands
+pub record AnswersAlike (whole kept : List ℕ) : Type 0 where
+  pub cut : cut_of kept ≡ cut_of whole
+  pub faults : (e : EventFault) → TellsFirstFault kept e ↔ TellsFirstFault whole e
+  pub steps : (steps : List Step) → Holds kept steps ↔ Holds whole steps
+  pub commands : (commands : List Command) → HoldsCommands kept commands ↔ HoldsCommands whole commands
+
+abbrev pub KeptTextsAnswerAlike : Type 0
+KeptTextsAnswerAlike = (whole kept : List ℕ) → IsKeptOf whole kept → AnswersAlike whole kept

@@ -1,0 +1,175 @@
+//! The bytes of a text as they come: those are kept on which the text's answer depends.
+
+ghost use Rattle.std.specs.Prelude.{◌≡◌, ◌≢◌, ℕ, List, [], ◌∷◌, ◌++◌, true, OnOk, IfOk, IfErr, IsUtf8, string_bytes};
+ghost use Rattle.script_tokens.specs.Bytes.{kind_of};
+ghost use Rattle.plan_session.specs.declared.gathering.Standing.TheVariants.{Behind};
+ghost use Rattle.plan_session.specs.declared.text_fault.TextFault.TheVariants.{NotUtf8};
+ghost use Rattle.plan_session.specs.Gathered.{IsGathered, behind_character, standing_outside, standing_after};
+ghost use Rattle.plan_session.specs.Kept.{IsKeptOf};
+
+use crate::characters::take_byte;
+use crate::text_fault::TextFault;
+use arrayvec::ArrayVec;
+use script_words::token::Kind;
+use std::alloc::Global;
+
+/// Where the bytes that came lead.
+#[derive(Clone, Copy, Debug, PartialEq, Eq)]
+pub(crate) enum Standing {
+    /// Outside comments.
+    Outside,
+    /// Into a comment.
+    InComment,
+    /// Into the character of a byte that has no place in a text.
+    Refused,
+    /// Behind such a character. What follows is not kept.
+    Behind,
+}
+
+/// What is kept of a text: its bytes up to the end of the first character outside comments that has no place in it.
+#[derive(Drop)]
+pub(crate) struct Gathering {
+    kept: Vec<u8>,
+    /// The bytes of the last character, where it isn't whole.
+    begun: ArrayVec<u8, 4>,
+    standing: Standing,
+}
+
+impl Gathering {
+    /// No byte came.
+    pub(crate) fn new(alloc: Global) -> Self
+        ensures { IsGathered [] result }
+    {
+        Gathering {
+            kept: Vec::new(alloc),
+            begun: ArrayVec::new(),
+            standing: Standing::Outside,
+        }
+    }
+
+    /// Takes the next byte: `NotUtf8` where no text goes on with it, `Memory` where it can't be kept.
+    fn take(&mut self, byte: u8) -> Result<(), TextFault>
+        ensures gathered { OnOk result ((seen : List ℕ) → IsGathered seen self.old
+            → IsGathered (seen ++ byte ∷ []) self.new) }
+        ensures not_utf8 { IfErr result (λ e. e ≡ NotUtf8 → (seen rest : List ℕ)
+            → IsGathered seen self.old → IsUtf8 (seen ++ byte ∷ rest) → ⊥) }
+    {
+        keep(&mut self.kept, self.standing, byte)?;
+        if !take_byte(&mut self.begun, byte) {
+            return Err(TextFault::NotUtf8);
+        }
+        self.standing = standing_after(self.standing, kind_of(byte), self.begun.is_empty());
+        Ok(())
+    }
+
+    /// Takes the next bytes, in the same way.
+    pub(crate) fn take_all(&mut self, bytes: &[u8]) -> Result<(), TextFault>
+        ensures gathered { OnOk result ((seen : List ℕ) → IsGathered seen self.old
+            → IsGathered (seen ++ bytes.now) self.new) }
+        ensures not_utf8 { IfErr result (λ e. e ≡ NotUtf8 → (seen rest : List ℕ)
+            → IsGathered seen self.old → IsUtf8 (seen ++ (bytes.now ++ rest)) → ⊥) }
+    {
+        if self.is_past() {
+            if bytes.is_ascii() {
+                return Ok(());
+            }
+        }
+        for byte in bytes {
+            self.take(*byte)?;
+        }
+        Ok(())
+    }
+
+    /// Whether nothing that follows is kept, and a character begins next.
+    fn is_past(&self) -> bool
+        ensures behind { result ≡ true → self.now.standing ≡ Behind }
+        ensures between { result ≡ true → self.now.begun.items ≡ [] }
+    {
+        match self.standing {
+            Standing::Behind => self.begun.is_empty(),
+            Standing::Outside | Standing::InComment | Standing::Refused => false,
+        }
+    }
+
+    /// What is kept, once all bytes came; `NotUtf8` where they end within a character.
+    pub(crate) fn finish(self) -> Result<String, TextFault>
+        ensures kept { IfOk result (λ text. (seen : List ℕ) → IsGathered seen self
+            → IsUtf8 seen × IsKeptOf seen (string_bytes text)) }
+        ensures not_utf8 { IfErr result (λ e. e ≡ NotUtf8 → (seen : List ℕ) → IsGathered seen self
+            → IsUtf8 seen → ⊥) }
+    {
+        if !self.begun.is_empty() {
+            return Err(TextFault::NotUtf8);
+        }
+        match String::from_utf8(self.kept) {
+            Ok(text) => Ok(text),
+            Err(_) => Err(TextFault::NotUtf8),
+        }
+    }
+}
+
+/// Keeps a byte, unless what came is refused.
+fn keep(kept: &mut Vec<u8>, standing: Standing, byte: u8) -> Result<(), TextFault>
+    ensures added { OnOk result (standing ≢ Behind → kept.new.items ≡ kept.old.items ++ byte ∷ []) }
+    ensures same { OnOk result (standing ≡ Behind → kept.new.items ≡ kept.old.items) }
+    ensures named { IfErr result (λ e. e ≢ NotUtf8) }
+{
+    if standing == Standing::Behind {
+        return Ok(());
+    }
+    match kept.push(byte) {
+        Ok(()) => Ok(()),
+        Err(_) => Err(TextFault::Memory),
+    }
+}
+
+/// Where a byte of this kind leads, behind which the text's characters are whole or not.
+fn standing_after(standing: Standing, kind: Kind, is_whole: bool) -> Standing
+    ensures { result ≡ standing_after standing kind is_whole }
+{
+    match standing {
+        Standing::Outside => standing_outside(kind, is_whole),
+        Standing::InComment => match kind {
+            Kind::LineEnd => Standing::Outside,
+            Kind::Blank | Kind::Hash | Kind::Brace | Kind::Letter | Kind::Bad => {
+                Standing::InComment
+            }
+        },
+        Standing::Refused => behind_character(is_whole),
+        Standing::Behind => Standing::Behind,
+    }
+}
+
+fn standing_outside(kind: Kind, is_whole: bool) -> Standing
+    ensures { result ≡ standing_outside kind is_whole }
+{
+    match kind {
+        Kind::Blank | Kind::LineEnd | Kind::Brace | Kind::Letter => Standing::Outside,
+        Kind::Hash => Standing::InComment,
+        Kind::Bad => behind_character(is_whole),
+    }
+}
+
+fn behind_character(is_whole: bool) -> Standing
+    ensures { result ≡ behind_character is_whole }
+{
+    if is_whole {
+        Standing::Behind
+    } else {
+        Standing::Refused
+    }
+}
+
+/// What a byte is to the lexer.
+fn kind_of(byte: u8) -> Kind
+    ensures { result ≡ kind_of byte }
+{
+    match byte {
+        b'\n' => Kind::LineEnd,
+        b' ' | b'\t' | b'\r' | b';' => Kind::Blank,
+        b'#' => Kind::Hash,
+        b'{' | b'}' => Kind::Brace,
+        b'0'..=b':' | b'A'..=b'Z' | b'a'..=b'z' | b'_' | b'-' => Kind::Letter,
+        _ => Kind::Bad,
+    }
+}
