@@ -6,7 +6,10 @@ import re
 import rows
 from rows import ONE_PROGRAMME, hexadecimal
 
+COMMANDS = ("frame", "listen", "check", "diff", "compile", "verify", "play", "debug", "live", "map")
 FOUR_DIGITS = "four digits 0-9 A-F are wanted"
+NO_TEXT = b"error: a word of the command line is not UTF-8\n"
+TIME = "00:00:00 to 23:59:59 is wanted"
 
 
 def required(name):
@@ -19,10 +22,15 @@ def twice(name):
     return f"the argument '{name}' cannot be used multiple times"
 
 
+def together(first, second):
+    """The message of a command line that has two options of which one alone may be given."""
+    return f"the argument '{first}' cannot be used with '{second}'"
+
+
 def wrong_command_lines(rows):
     """Command lines that are wrong, each with its line; no file is read, or there would be another line."""
     for line, wanted in (
-        ("", "a command is wanted: frame, listen, check, diff, compile, verify, play, debug, map or help"),
+        ("", "a command is wanted: frame, listen, check, diff, compile, verify, play, debug, live, map or help"),
         ("fram", "unrecognized subcommand 'fram'; tip: a similar subcommand exists: 'frame'"),
         ("frame - --ensemble E1C5", required("--count <N>")),
         ("frame - --ensemble E1C --count 0", f"invalid value 'E1C' for '--ensemble <HHHH>': {FOUR_DIGITS}"),
@@ -49,6 +57,9 @@ def wrong_command_lines(rows):
         ("check x.fib --period 60001", "invalid value '60001' for '--period <N>': 60001 is not in 1..=60000"),
         ("verify", required("<CODE>")),
         ("verify a b", "unexpected argument 'b' found"),
+        ("verify a --explain --explain", twice("--explain")),
+        ("compile a b --explain=yes", "unexpected value 'yes' for '--explain' found; no more were expected"),
+        ("compile a --explain", required("<OUT>")),
     ):
         rows.answers(line, 2, f"error: {wanted}\n")
     rows.answers(["\udcff"], 2, "error: a word of the command line is not UTF-8\n")
@@ -60,8 +71,37 @@ def wrong_options(rows):
         for options in ("--contacts 008", "--contacts 000g", "--count 65536", "--day 4294967296", "--count x"):
             ended = rows.run(f"{command} {options}")
             rows.tally.same(f"{command} {options}", (2, b"error: invalid value"), (ended.status, ended.printed[:20]))
+        for value in ("24:00:00", "23:60:00", "23:59:60", "6:00:00", "06:00", "06:00:00.0", "+6:00:00", "06-00-00", "noon"):
+            rows.answers(f"{command} --time {value}", 2, f"error: invalid value '{value}' for '--time <HH:MM:SS>': {TIME}\n")
+        rows.answers(f"{command} --day 0 --time 06:00:00", 2, f"error: {together('--day <N>', '--time <HH:MM:SS>')}\n")
+        rows.answers(f"{command} --time 06:00:00 --day 900000", 2, f"error: {together('--time <HH:MM:SS>', '--day <N>')}\n")
+        rows.answers(f"{command} --time 06:00:00 --time 06:00:00", 2, f"error: {twice('--time <HH:MM:SS>')}\n")
     ended = rows.run("debug x.code x.commands x")
     rows.tally.same("a third file", (2, b"error: unexpected argument 'x' found\n"), ended.lines())
+
+
+def wrong_live_lines(rows):
+    """Those of `live` are told on standard error, and nothing goes to standard output."""
+    for options, wanted in (
+        ("", required("<CODE>")),
+        ("x.code y", "unexpected argument 'y' found"),
+        ("x.code --contacts 00g0", f"invalid value '00g0' for '--contacts <HHHH>': {FOUR_DIGITS}"),
+        ("x.code --count 65536", "invalid value '65536' for '--count <N>': 65536 is not in 0..=65535"),
+        ("x.code --day -1", "invalid value '-1' for '--day <N>': -1 is not in 0..=4294967295"),
+        ("x.code --time 24:00:00", f"invalid value '24:00:00' for '--time <HH:MM:SS>': {TIME}"),
+        ("x.code --day 0 --time 00:00:00", together("--day <N>", "--time <HH:MM:SS>")),
+        ("x.code --skip -1", "invalid value '-1' for '--skip <N>': -1 is not in 0..=4294967295"),
+        ("x.code --skip 4294967296", "invalid value '4294967296' for '--skip <N>': 4294967296 is not in 0..=4294967295"),
+        ("x.code --skip 0 --skip 0", twice("--skip <N>")),
+        ("x.code --status --status", twice("--status")),
+        ("x.code --explain", "unexpected argument '--explain' found; tip: to pass '--explain' as a value, use '-- --explain'"),
+    ):
+        ended = rows.run(f"live {options}", stdin=b"frames 1\n")
+        rows.tally.same(f"live {options}", (2, b"", f"error: {wanted}\n".encode()), (*ended.lines(), ended.messages))
+    for words, wanted in ((["live", "\udcff"], (2, b"", NO_TEXT)), (["live", "x.code", "--skip", "\udcff"], (2, b"", NO_TEXT)),
+                          (["\udcff", "live"], (2, NO_TEXT, b"")), (["lively", "\udcff"], (2, NO_TEXT, b""))):
+        ended = rows.run(words, stdin=b"frames 1\n")
+        rows.tally.same(f"{words}", wanted, (*ended.lines(), ended.messages))
 
 
 def help_is_no_fault(rows):
@@ -70,8 +110,12 @@ def help_is_no_fault(rows):
         ("--help", "Usage: dabplan <COMMAND>"),
         ("--version", "dabplan 0.1.0\n"),
         ("-V", "dabplan 0.1.0\n"),
-        ("compile --help", "Usage: dabplan compile <SCRIPT> <OUT>"),
-        ("debug --help", "Usage: dabplan debug <CODE> <COMMANDS>"),
+        ("compile --help", "Usage: dabplan compile <SCRIPT> <OUT> [--explain]"),
+        ("play --help", "Usage: dabplan play <CODE> <EVENTS> <OUT> [--count <N>] [--day <N> | --time <HH:MM:SS>]"),
+        ("debug --help", "Usage: dabplan debug <CODE> <COMMANDS> [--count <N>] [--day <N> | --time <HH:MM:SS>]"),
+        ("live --help", "Usage: dabplan live <CODE> [--count <N>] [--day <N> | --time <HH:MM:SS>]"),
+        ("live -h", "Usage: dabplan live <CODE>"),
+        ("help live", "cat today.log - | dabplan live day.code --skip 1800000"),
         ("-h", "Usage: dabplan <COMMAND>"),
         ("help", "Usage: dabplan <COMMAND>"),
         ("frame --help", "Usage: dabplan frame <CONFIG> --ensemble <HHHH> --count <N> [--page <K>] [--mode <M>]"),
@@ -79,18 +123,26 @@ def help_is_no_fault(rows):
         ("help listen", "dabplan listen <FILE> --script [--mode <M>] [--period <P>] [--notice <W>] [--budget <B>]"),
         ("diff --help", "Usage: dabplan diff <FROM> <TO>"),
         ("help check", "Usage: dabplan check <FILE> [--mode <M>] [--period <N>]"),
-        ("verify --help", "Usage: dabplan verify <CODE>"),
+        ("verify --help", "Usage: dabplan verify <CODE> [--explain]"),
+        ("help map", "Usage: dabplan map <SCRIPT> [--svg <OUT>]"),
     ):
         ended = rows.run(line)
-        rows.tally.same(line, (0, True), (ended.status, usage in ended.printed.decode()))
+        rows.tally.same(line, (0, True, b""), (ended.status, usage in ended.printed.decode(), ended.messages))
 
 
 def the_names_in_the_help(rows):
     """Each name of a fault that a help page has stands in the document of the commands too."""
     document = (pathlib.Path(__file__).resolve().parents[2] / "docs/guide/COMMANDS.md").read_text(encoding="utf-8")
-    for line in ("help", *(f"help {command}" for command in ("frame", "listen", "check", "diff", "compile", "verify", "play", "debug", "map"))):
+    for line in ("help", *(f"help {command}" for command in COMMANDS)):
         names = set(re.findall(r"\b[A-Za-z]*[a-z][A-Z][A-Za-z]*\b", rows.run(line).printed.decode()))
         rows.tally.same(f"names in {line}", [], sorted(name for name in names if name not in document))
+
+
+def the_width_of_the_help(rows):
+    """No line of a help page is wider than 106 columns."""
+    for line in ("help", *(f"help {command}" for command in COMMANDS)):
+        wide = [text for text in rows.run(line).printed.decode().splitlines() if len(text) > 106]
+        rows.tally.same(f"wide lines in {line}", [], wide)
 
 
 def the_example_of_the_help(rows):
@@ -106,4 +158,5 @@ def the_example_of_the_help(rows):
 
 
 if __name__ == "__main__":
-    rows.main([wrong_command_lines, wrong_options, help_is_no_fault, the_names_in_the_help, the_example_of_the_help])
+    rows.main([wrong_command_lines, wrong_options, wrong_live_lines, help_is_no_fault, the_names_in_the_help,
+               the_width_of_the_help, the_example_of_the_help])

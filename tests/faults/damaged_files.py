@@ -6,7 +6,9 @@ judges, and what is accepted is played for 100 frames, each of whose FIBs has a 
 of a contact in version 1, and one of version 2 with a label at which a swap is perhaps pending.
 
 And files of each kind with random changes, from a seed that is printed: each command ends with 0 or 1, and prints one
-of the lines of docs/guide/COMMANDS.md and no other. The last line is 'N passed, M failed'.
+of the lines of docs/guide/COMMANDS.md and no other; where it can explain a refusal, the line and the status are the same with
+the explanation. Lines that `live` is given: what it does not tell as bad is what `play` makes frames of. The last line is
+'N passed, M failed'.
 """
 import random
 import re
@@ -29,6 +31,8 @@ LISTED = (r"fibs \d+ damaged \d+\ncurrent\n(ENTRY\n)*next\n(ENTRY\n)*(swap at lo
     "ENTRY", r"(sub \d+ at \d+ (size \d+ (eep [1-4]-[AB]|option \d level [1-4])|switch [01] table \d+)"
              r"|service ([0-9A-F]{4}){1,2}|  (audio|data) \d+ sub \d+ (primary|secondary)"
              r"|  packet \d+ (primary|secondary)|  other [0-9A-F]{4}|packet \d+ (groups|raw) type \d+ sub \d+ address \d+)")
+EXPLAINED = re.compile(r"a\.file:\d+(:\d+)?: .+|hint: .+|    .*")
+BAD_LINE = re.compile(r"line (\d+): (\d+: (Byte|Number|Expected)|Limit|Byte)")
 REPORTED = (r"(frames \d+ steps \d+ pc \d+ line \d+ count \d+ remaining (\d+|none)\n(break\n)?"
             r"(announced \d+ swap \d+ change [123]\n)*)*")
 
@@ -151,7 +155,33 @@ def try_random(tally, program, folder, seed, times):
             done += ended.status == 0
             tally.hold(holds and ended.status in (0, 1) and not ended.messages,
                        f"{name}, seed {seed}: {content.hex()}: {ended.lines()} {ended.messages}")
+            if words[0] in ("compile", "verify"):
+                explained = common.run([program, *words, "--explain"], folder)
+                first, *rest = explained.printed.decode(errors="replace").removesuffix("\n").split("\n")
+                tally.same(f"{name}, seed {seed}: {content.hex()}, explained", (*ended.lines(), b""),
+                           (explained.status, f"{first}\n".encode(), explained.messages))
+                tally.hold(all(map(EXPLAINED.fullmatch, rest)), f"{name}, seed {seed}: {content.hex()}: {rest}")
         print(f"{name}: {times} files with random changes, {done} of them done, the others refused", flush=True)
+
+
+def try_lines(tally, program, folder, seed, times):
+    """Lines with random changes are played without those that are told as bad, as `play` plays the others."""
+    lines = b"frames 1\ncontact 3 closed # a comment\nframes 30\n\ncontact 3 open; frames 9\nframes 7 contact 4 open\n"
+    chance = random.Random(seed)
+    told = 0
+    for _ in range(times):
+        content = mutated(chance, lines)
+        ended = common.run([program, "live", "small.code"], folder, stdin=content)
+        bad = [BAD_LINE.fullmatch(line) for line in ended.messages.decode().splitlines()]
+        tally.hold(all(bad) and ended.status == 0, f"lines, seed {seed}: {content.hex()}: {ended.lines()} {ended.messages}")
+        numbers = {int(found[1]) for found in bad if found}
+        told += len(numbers)
+        good = [line for number, line in enumerate(content.split(b"\n"), 1) if number not in numbers]
+        common.write(folder, "a.events", b"\n".join(good))
+        played = common.run([program, "play", "small.code", "a.events", "b.fib"], folder)
+        tally.hold(played.status == 0, f"lines, seed {seed}: {content.hex()}: {played.lines()}")
+        tally.same(f"lines, seed {seed}: {content.hex()}", open(f"{folder}/b.fib", "rb").read(), ended.printed)
+    print(f"lines: {times} texts with random changes, {told} lines told as bad", flush=True)
 
 
 def main():
@@ -165,6 +195,7 @@ def main():
         if len(words) == len(sys.argv) - 1:
             try_codes(tally, program, common.trials(), folder)
         try_random(tally, program, folder, seed, times)
+        try_lines(tally, program, folder, seed, times)
     print(f"seed {seed}")
     tally.end()
 

@@ -4,9 +4,10 @@ to standard output.
 
 Where a call for a file fails, the command prints the line of that file alone, or `no memory` where the system says so,
 ends with 1, makes no other such call, and leaves no file; `check`, which prints as it reads, may have printed a
-beginning of its lines before. A call that is interrupted is made again. Where a write fails, takes nothing or is
-interrupted, what was printed before is all that is printed, nothing is written after it, and the status is 1. The last
-line is 'N passed, M failed'.
+beginning of its lines before. `live` tells that line on standard error, `cannot read -` for its lines, and may have written
+frames before. A call that is interrupted is made again. Where a write fails, takes nothing or is
+interrupted, what was printed before is all that is printed, nothing is written after it, and the status is 1; `live` tells
+how much that was. The last line is 'N passed, M failed'.
 """
 import os
 import pathlib
@@ -24,10 +25,17 @@ ROWS = [
     ("listen x.fib", ["cannot read x.fib\n"]),
     ("check x.fib", ["cannot read x.fib\n"]),
     ("compile x.script x.out", ["cannot read x.script\n", "cannot write x.out\n"]),
+    ("compile x.script x.out --explain", ["cannot read x.script\n", "cannot write x.out\n"]),
     ("verify x.code", ["cannot read x.code\n"]),
+    ("verify x.code --explain", ["cannot read x.code\n"]),
     ("play x.code x.events x.out", ["cannot read x.code\n", "cannot read x.events\n", "cannot write x.out\n"]),
     ("debug x.code x.commands", ["cannot read x.code\n", "cannot read x.commands\n"]),
 ]
+
+# A plan led for 30 frames of 96 bytes, with a notice and a swap.
+LIVE = "live x.code --status"
+LINES = b"frames 1\ncontact 3 closed\nframes 29\n"
+FRAME = 96
 
 
 class Failing:
@@ -39,20 +47,23 @@ class Failing:
         self.library = common.preloaded(folder, "fail")
         self.record = (common.EXAMPLES / "one_programme.rec").read_bytes()
         common.write(folder, "x.record", self.record)
+        common.write(folder, "x.wrong", (common.SAMPLES / "contact_rate.plan").read_bytes().replace(b"join", b"joi"))
         common.write(folder, "x.script", (common.SAMPLES / "contact_rate.plan").read_bytes())
         common.write(folder, "x.code", (common.SAMPLES / "contact_lowers_a_rate.code").read_bytes())
         common.write(folder, "x.events", "contact 3 closed frames 30")
         common.write(folder, "x.commands", "contact 3 closed run 30 show")
         common.run([self.program, "play", "x.code", "x.events", "x.fib"], folder)
 
-    def run(self, line, **settings):
-        """How a command ends, and the calls that it made, a letter each. A setting is the end of the name of a variable."""
+    def run(self, line, stdin=None, **settings):
+        """How a command ends, and the calls that it made, a letter each. A setting is the end of the name of a variable.
+        Standard input is a record where it is not given."""
         pathlib.Path(self.folder, "x.out").unlink(missing_ok=True)
         environment = dict(os.environ, LD_PRELOAD=str(self.library))
         environment.update({f"FAIL_{name.upper()}": str(value) for name, value in settings.items()})
         with tempfile.TemporaryFile() as told:
             environment["FAIL_TELLS"] = str(told.fileno())
-            ended = common.run([self.program, *line.split()], self.folder, self.record, environment=environment,
+            given = self.record if stdin is None else stdin
+            ended = common.run([self.program, *line.split()], self.folder, given, environment=environment,
                                pass_fds=(told.fileno(),))
             told.seek(0)
             return ended, told.read().decode()
@@ -100,14 +111,53 @@ def try_writes(tally, failing, line, takes):
             tally.same(f"{what}: writes", number + 1, calls.count("w"))
 
 
+def try_live_reads(tally, failing):
+    """Each call of `live` that opens or reads fails, or is interrupted."""
+    whole, calls = failing.run(LIVE, LINES)
+    calls = calls.replace("w", "")
+    tally.same(LIVE, (0, 30 * FRAME, 2), (whole.status, len(whole.printed), whole.messages.count(b"\n")))
+    # without lines the last call reads standard input
+    of_code = len(failing.run(LIVE, b"")[1]) - 1
+    for number in range(1, len(calls) + 1):
+        before = (whole.printed, whole.messages) if number > of_code + 1 else (b"", b"")
+        for error in (EIO, ENOMEM):
+            ended, _ = failing.run(LIVE, LINES, at=number, **{"as": error})
+            wanted = b"cannot read -\n"
+            if number <= of_code:
+                wanted = b"no memory\n" if error == ENOMEM else b"cannot read x.code\n"
+            tally.same(f"{LIVE}: call {number} fails as {error}", (1, before[0], before[1] + wanted),
+                       (*ended.lines(), ended.messages))
+        ended, _ = failing.run(LIVE, LINES, at=number, **{"as": EINTR})
+        tally.same(f"{LIVE}: call {number} is interrupted", (0, whole.printed, whole.messages), (*ended.lines(), ended.messages))
+
+
+def try_live_writes(tally, failing):
+    """Each write of frames fails, where one takes 40 bytes at most, so that a frame takes three."""
+    whole, _ = failing.run(LIVE, LINES)
+    notes = [(int(note.split()[1]), note) for note in whole.messages.splitlines(keepends=True)]
+    for number in range(90):
+        frames, part = number // 3, number % 3 * 40
+        told = b"".join(note for frame, note in notes if frame < frames)
+        told += f"write failed after {frames} frames and {part} bytes\n".encode()
+        for error in (EIO, EINTR, 0):
+            ended, calls = failing.run(LIVE, LINES, takes=40, after=number, **{"as": error})
+            what = f"{LIVE}: write {number + 1} fails as {error}"
+            tally.same(what, (1, whole.printed[:FRAME * frames + part], told), (*ended.lines(), ended.messages))
+            tally.same(f"{what}: writes", number + 1, calls.count("w"))
+
+
 def main():
     """Runs all of it."""
     tally = common.Tally()
     with tempfile.TemporaryDirectory() as folder:
         failing = Failing(folder)
         try_files(tally, failing)
-        for line in [line for line, _ in ROWS] + ["help", "--version"]:
+        try_live_reads(tally, failing)
+        try_live_writes(tally, failing)
+        for line in [line for line, _ in ROWS] + ["help", "--version", "help live", "live --help"]:
             try_writes(tally, failing, line, 16)
+        # a refusal that is explained: its status is 1 anyway
+        try_writes(tally, failing, "compile x.wrong x.out --explain", 16)
         # an answer, a fault of the input and one of the command line, a byte at a time
         for options in ("--count 1", "--count 1 --page 1", "--count 5000"):
             try_writes(tally, failing, f"frame - --ensemble E1C5 {options}", 1)

@@ -2,9 +2,10 @@
 """Every command at the limits of its input, within a stack of 1 MB.
 
 Scripts, codes, configurations and nesting at their limits and one past them; texts of 1,048,576 bytes of each kind of
-token, in scripts, events and commands. The lines that are wanted are those of docs/guide/COMMANDS.md, reasoned out beside
+token, in scripts, events and commands; and events and commands of half a gigabyte in little memory. The lines that are wanted are those of docs/guide/COMMANDS.md, reasoned out beside
 each text. At the end it says on how small a stack each command still ends. The last line is 'N passed, M failed'.
 """
+import os
 import tempfile
 
 import common
@@ -156,18 +157,24 @@ def try_scripts(tally, program, folder):
             mark, fault = ("define", "Limit") if name == "65 blocks" else ("{", "Depth")
             wanted = f"1:{text.rindex(mark) + 1}: {fault}\n".encode()
         tally.same(f"compile, {name}", (0 if wanted.startswith(b"instr") else 1, wanted), ended.lines())
+        explained = common.run([program, "compile", "a.plan", "b.code", "--explain"], folder, stack=STACK)
+        tally.same(f"compile --explain, {name}", ended.lines(), (explained.status, explained.printed[:len(wanted)]))
+        tally.hold(ended.status == 0 or explained.printed.count(b"\n") > 1, f"compile --explain, {name}: nothing more is said")
         if ended.status == 0:
             try_code(tally, program, folder, name)
 
 
 def try_code(tally, program, folder, name):
     """Verifies a.code, plays it and debugs it."""
-    common.write(folder, "a.events", "contact 0 closed frames 5000 contact 0 open frames 5000 ")
+    events = "contact 0 closed frames 5000\ncontact 0 open frames 5000\n"
+    common.write(folder, "a.events", events)
     common.write(folder, "a.commands", "contact 0 closed next next break 1 run 10000 show")
     verified = common.run([program, "verify", "a.code"], folder, stack=STACK)
     tally.same(f"verify, {name}", (0, b"accepted\n"), verified.lines())
     played = common.run([program, "play", "a.code", "a.events", "a.fib"], folder, stack=STACK)
     tally.same(f"play, {name}", (0, b"played 10000 frames\n"), played.lines())
+    live = common.run([program, "live", "a.code"], folder, events.encode(), stack=STACK)
+    tally.hold(live.lines() == (0, open(f"{folder}/a.fib", "rb").read()) and not live.messages, f"live, {name}: {live.messages}")
     heard = common.run([program, "listen", "a.fib"], folder, stack=STACK)
     tally.hold(heard.status == 0 and heard.printed.startswith(b"fibs 30000 damaged 0\n"), f"listen, {name}: {heard.printed[:99]}")
     led = common.run([program, "debug", "a.code", "a.commands"], folder, stack=STACK)
@@ -191,6 +198,8 @@ def try_codes(tally, program, folder):
         common.write(folder, "a.code", file)
         ended = common.run([program, "verify", "a.code"], folder, stack=STACK)
         tally.same(f"verify, {name}, {len(file)} bytes", (0 if wanted == b"accepted\n" else 1, wanted), ended.lines())
+        explained = common.run([program, "verify", "a.code", "--explain"], folder, stack=STACK)
+        tally.same(f"verify --explain, {name}", ended.lines(), (explained.status, explained.printed[:len(wanted)]))
         if wanted == b"accepted\n":
             try_code(tally, program, folder, name)
 
@@ -236,6 +245,17 @@ def try_texts(tally, program, folder):
         tally.hold(wanted is None or ended.printed == wanted, f"commands, {name}: {ended.printed[:99]}")
 
 
+def try_zeros(tally, program, folder):
+    """Half a gigabyte of zeros, and of a comment that a zero follows, as events and as commands, in 64 MB of memory."""
+    common.write(folder, "small.code", (common.SAMPLES / "contact_lowers_a_rate.code").read_bytes())
+    for start, wanted in ((b"", "1:1"), (b"frames 1 # zeros\n", "2:1")):
+        common.write(folder, "zeros", start)
+        os.truncate(f"{folder}/zeros", 500_000_000)
+        for words, name in ((["play", "small.code", "zeros", "/dev/null"], "events"), (["debug", "small.code", "zeros"], "commands")):
+            ended = common.run([program, *words], folder, memory=65_536)
+            tally.same(f"{name}, zeros behind {start}", (1, f"{name} {wanted}: Byte\n".encode()), ended.lines())
+
+
 def try_stacks(tally, program, folder):
     """How small a stack each command ends on, in steps of 16 KB, over the files that the other parts left."""
     common.write(folder, "a.plan", PLAN + "wait 1 " * 4095)
@@ -244,7 +264,7 @@ def try_stacks(tally, program, folder):
     common.write(folder, "a.commands", "run 1000 show")
     for words in (["frame", "full.rec", "--ensemble", "E1C5", "--count", "0"], ["listen", "full.fib"],
                   ["compile", "a.plan", "b.code"], ["verify", "a.code"], ["play", "a.code", "a.events", "b.fib"],
-                  ["debug", "a.code", "a.commands"], ["--help"]):
+                  ["debug", "a.code", "a.commands"], ["live", "a.code"], ["--help"]):
         least = STACK
         while common.run([program, *words], folder, stack=least - 16).status == 0:
             least -= 16
@@ -257,7 +277,7 @@ def main():
     tally = common.Tally()
     program = common.dabplan()
     with tempfile.TemporaryDirectory() as folder:
-        for part in (try_scripts, try_codes, try_frames, try_texts, try_stacks):
+        for part in (try_scripts, try_codes, try_frames, try_texts, try_zeros, try_stacks):
             part(tally, program, folder)
     tally.end()
 

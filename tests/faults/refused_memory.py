@@ -5,7 +5,9 @@ A run refuses the request of one number, from 1 on, until a run makes so few tha
 once with that request alone refused, and once with it and all later ones. A call has to answer want of memory by its
 own name, with nothing lost, and the same call with memory then gives its answer; `run` has written nothing, and
 `Debugger::new` hands the player back. A command prints `no memory` alone, ends with 1 and leaves nothing in the file
-that it makes; or it does without what was refused, where that is one request alone, and ends as it does with memory.
+that it makes; or it does without what was refused, where that is one request alone, and ends as it does with memory. Where
+it was asked to explain a refusal, the line of the refusal may stand before `no memory`. `live` says `no memory` on standard
+error, and has written whole frames of lines before.
 The last line is 'N passed, M failed', where each refused run is one, and each whole run one more.
 """
 import os
@@ -113,6 +115,10 @@ def commands():
         (["compile", "wrong.plan", "made.code"], ["made.code"]),
         (["verify", CODE], []),
         (["verify", "wrong.code"], []),
+        (["compile", "wrong.plan", "made.code", "--explain"], ["made.code"]),
+        (["compile", "typo.plan", "made.code", "--explain"], ["made.code"]),
+        (["compile", "costly.plan", "made.code", "--explain"], ["made.code"]),
+        (["verify", "early.code", "--explain"], []),
         (["play", CODE, "a.events", "made.fib"], ["made.fib"]),
         (["play", CODE, "wrong.events", "made.fib"], ["made.fib"]),
         (["debug", CODE, "a.commands"], []),
@@ -136,6 +142,9 @@ def try_commands(tally, library, program, folder):
     record = (common.EXAMPLES / "one_programme.rec").read_bytes()
     common.write(folder, "a.commands", COMMANDS)
     common.write(folder, "wrong.plan", SCRIPT.read_text().replace("wait contact 3 open", "join"))
+    common.write(folder, "typo.plan", SCRIPT.read_text().replace("commit", "comit"))
+    common.write(folder, "costly.plan", SCRIPT.read_text().replace("budget 20", "budget 1"))
+    common.write(folder, "early.code", CODE.read_bytes().replace(b"\x04\x00\x18", b"\x04\x00\x17"))
     common.write(folder, "wrong.code", CODE.read_bytes()[:-1])
     common.write(folder, "wrong.events", EVENTS + " frames 0")
     for words, made in commands():
@@ -151,10 +160,37 @@ def try_commands(tally, library, program, folder):
                 is_whole = found == (*whole, files)
                 without += is_refused and is_whole
                 if is_refused and not (is_whole and not goes_on):
-                    is_silent = found[:2] == (1, b"no memory\n") and not any(found[2].values())
+                    first = whole[1].partition(b"\n")[0] + b"\n" if "--explain" in words else b""
+                    is_silent = found[0] == 1 and found[1] in (b"no memory\n", first + b"no memory\n")
+                    is_silent = is_silent and not any(found[2].values())
                     tally.hold(is_silent, f"{shown}, request {number} refused: {found}")
                 else:
                     tally.hold(is_whole, f"{shown}, request {number}: {found}")
+            print(f"{shown}: {refused} requests refused, {'each with all later ones' if goes_on else 'each alone'}, "
+                  f"{without} of them done without", flush=True)
+            tally.hold(refused > 0, f"{shown} makes a request")
+
+
+def try_live(tally, library, program, folder):
+    """Refuses each request of `live`, over lines and of a wrong command line: `no memory` on standard error, status 1, and
+    the frames of the lines before; or it does without what was refused."""
+    lines = b"frames 1\ncontact 3 closed frames 30\nframe\nframes 9\n"
+    for words in (["live", CODE, "--status"], ["live", "wrong.code"], ["live", CODE, "--time", "24:00:00"]):
+        shown = "dabplan " + " ".join(str(word).rsplit("/", 1)[-1] for word in words)
+        whole = common.run([program, *words], folder, lines)
+        for goes_on in (False, True):
+            refused = without = 0
+            for number, ended, is_refused in requests(library, [program, *words], folder, goes_on, False, lines):
+                refused += is_refused
+                is_whole = (*ended.lines(), ended.messages) == (*whole.lines(), whole.messages)
+                without += is_refused and is_whole
+                if is_refused and not (is_whole and not goes_on):
+                    told = ended.messages.removesuffix(b"no memory\n")
+                    holds = (ended.status == 1 and ended.messages.endswith(b"no memory\n") and whole.messages.startswith(told)
+                             and whole.printed.startswith(ended.printed) and len(ended.printed) % 96 == 0)
+                    tally.hold(holds, f"{shown}, request {number} refused: {ended.lines()} {ended.messages}")
+                else:
+                    tally.hold(is_whole, f"{shown}, request {number}: {ended.lines()} {ended.messages}")
             print(f"{shown}: {refused} requests refused, {'each with all later ones' if goes_on else 'each alone'}, "
                   f"{without} of them done without", flush=True)
             tally.hold(refused > 0, f"{shown} makes a request")
@@ -168,6 +204,7 @@ def main():
         library = common.preloaded(folder, "refuse")
         try_calls(tally, library, program, trials, folder)
         try_commands(tally, library, program, folder)
+        try_live(tally, library, program, folder)
     tally.end()
 
 

@@ -2,6 +2,7 @@
 
 ghost use Rattle.std.specs.Prelude.{◌≡◌, ◌≤◌, IsErr};
 
+use crate::live::{answer_live, is_live, tell_mistake};
 use crate::{compile, debug, diff, frame_script, map, play, verify};
 use command_line::{Request, UsageError, request_of};
 use console::exit::{Failure, Status};
@@ -12,7 +13,8 @@ use std::alloc::{AllocError, Global};
 use std::convert::AsStr;
 use std::io::{self, ErrorKind, Write};
 
-/// The program: does what the words after its name ask for, prints to `out`, and answers its exit status.
+/// The program: does what the words after its name ask for, prints to `out`, and answers its exit status. What `live`
+/// writes goes to `out` as it comes, and its messages to standard error.
 ///
 /// 0: done, or help was asked for. 1: refused, a file could not be read, there was no memory, or `out`
 /// failed, after which nothing more is printed. 2: the words are wrong, which is found before a file is
@@ -25,21 +27,33 @@ pub fn answer<S: AsStr, F: Files, W: Write>(
 ) -> u8
     ensures { result ≤ 2 }
 {
+    if is_live(words) {
+        return answer_live(alloc, words, files, out) as u8;
+    }
     let mut output = Output::new(out);
     let ended = dispatch(alloc, words, files, &mut output);
     status_of(ended, &mut output)
 }
 
 /// The answer where the words themselves can't be had: prints why, and answers the exit status, 1 where there
-/// was no memory for them or `out` failed, and else 2.
-pub fn answer_without_words<W: Write>(alloc: Global, error: &io::Error, out: &mut W) -> u8
+/// was no memory for them or `out` failed, and else 2. Where the first of them is `live` it goes to standard error.
+pub fn answer_without_words<F: Files, W: Write>(
+    alloc: Global,
+    error: &io::Error,
+    is_live: bool,
+    files: &mut F,
+    out: &mut W,
+) -> u8
     ensures { result ≤ 2 }
 {
-    let mut output = Output::new(out);
     let unasked = match error.kind() {
         ErrorKind::OutOfMemory => UsageError::Memory,
         _ => UsageError::NoText,
     };
+    if is_live {
+        return tell_mistake(alloc, unasked, files) as u8;
+    }
+    let mut output = Output::new(out);
     let ended = explain(alloc, unasked, &mut output);
     status_of(ended, &mut output)
 }
@@ -58,6 +72,7 @@ fn status_of<W: Write>(ended: io::Result<Status>, out: &mut W) -> u8
     }
 }
 
+#[inline(never)]
 fn dispatch<S: AsStr, F: Files, W: Write>(
     alloc: Global,
     words: &[S],
@@ -81,7 +96,10 @@ fn dispatch<S: AsStr, F: Files, W: Write>(
             compile::show_compile(alloc, &request, files, out),
             out,
         ),
-        Ok(Request::Verify(path)) => report(verify::show_verdict(alloc, path, files, out), out),
+        Ok(Request::Verify(request)) => report(
+            verify::show_verdict(alloc, &request, files, out),
+            out,
+        ),
         Ok(Request::Play(request)) => report(play::show_play(alloc, &request, files, out), out),
         Ok(Request::Debug(request)) => report(debug::show_debug(alloc, &request, files, out), out),
         Ok(Request::Map(request)) => report(map::show_map(alloc, &request, files, out), out),
@@ -101,7 +119,11 @@ fn report<W: Write>(ended: Result<Status, Failure<'_>>, out: &mut W) -> io::Resu
 }
 
 /// Prints the help that was asked for, or the one line of a mistake on the command line.
-fn explain<W: Write>(alloc: Global, unasked: UsageError<'_>, out: &mut W) -> io::Result<Status> {
+pub(crate) fn explain<W: Write>(
+    alloc: Global,
+    unasked: UsageError<'_>,
+    out: &mut W,
+) -> io::Result<Status> {
     let text = match unasked {
         UsageError::Help(help) => {
             write!(out, "{help}")?;
@@ -111,8 +133,11 @@ fn explain<W: Write>(alloc: Global, unasked: UsageError<'_>, out: &mut W) -> io:
         UsageError::Digits { option, value } => format!(in alloc;
             "error: invalid value '{value}' for '{option}': four digits 0-9 A-F are wanted"
         ),
+        UsageError::Time(value) => format!(in alloc;
+            "error: invalid value '{value}' for '--time <HH:MM:SS>': 00:00:00 to 23:59:59 is wanted"
+        ),
         UsageError::Nothing =>
-            "error: a command is wanted: frame, listen, check, diff, compile, verify, play, debug, map or help".to_string(
+            "error: a command is wanted: frame, listen, check, diff, compile, verify, play, debug, live, map or help".to_string(
                 alloc,
             ),
         UsageError::NoText => "error: a word of the command line is not UTF-8".to_string(alloc),

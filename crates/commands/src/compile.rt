@@ -4,6 +4,7 @@ ghost use Rattle.std.specs.Prelude.{IfOk, OnOk};
 ghost use Rattle.std.specs.Io.KnownBytes.{Appends};
 ghost use Rattle.commands.specs.Compiled.{IsCompiled, counts_line};
 
+use crate::explained::show_script_refusal;
 use crate::play::text_of;
 use crate::script_input::{read_script, whole_characters};
 use command_line::CompileRequest;
@@ -69,8 +70,8 @@ impl From<AllocError> for ScriptRefusal {
 }
 
 /// Does what `compile` is asked for: writes the code file of the script, and prints how many instructions, labels and
-/// configurations it has; or why the script is refused. The file is made last, so that it stays as it was where anything
-/// before it fails.
+/// configurations it has; or why the script is refused, with what explains it where that is asked for. The file is made last,
+/// so that it stays as it was where anything before it fails.
 pub fn show_compile<'a, F: Files, W: Write>(
     alloc: Global,
     request: &CompileRequest<'a>,
@@ -83,7 +84,7 @@ pub fn show_compile<'a, F: Files, W: Write>(
         Ok(compiled) => compiled,
         Err(ScriptRefusal::Memory) => return Err(Failure::Memory),
         Err(refusal) => {
-            writeln!(out, "{refusal}")?;
+            show_script_refusal(alloc, request.script, text, refusal, request.explain, out)?;
             return Ok(Status::Refused);
         }
     };

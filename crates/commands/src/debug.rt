@@ -9,9 +9,9 @@ ghost use Rattle.plan_session.specs.Playback.{asked};
 ghost use Rattle.commands.specs.Transcript.{place_text, swap_text, break_line, report_lines, announcement_line, shown_lines, Transcript, IsSession, Prints, IsDebugFault, IsUnprinted};
 
 use crate::code_input::read_code;
-use crate::play::text_of;
+use crate::event_input::read_event_text;
 use command_line::{DebugRequest, StartOptions};
-use console::exit::{Failure, Status, read_file};
+use console::exit::{Failure, Status};
 use console::files::Files;
 use mux_tables::Tables;
 use plan_code::CodeFault;
@@ -48,9 +48,14 @@ pub fn show_debug<'a, F: Files, W: Write>(
     out: &mut W,
 ) -> Result<Status, Failure<'a>> {
     let code = read_code(alloc, files, request.code)?;
-    let text = read_file(alloc, files, request.commands, usize::MAX)?;
-    let commands = text_of(text.as_slice(), request.commands)?;
-    match debug(alloc, code.as_slice(), commands, request.start, out) {
+    let commands = read_event_text(alloc, files, request.commands)?;
+    match debug(
+        alloc,
+        code.as_slice(),
+        commands.as_str(),
+        request.start,
+        out,
+    ) {
         Ok(()) => Ok(Status::Done),
         Err(DebugFault::Output) => Err(Failure::Output),
         Err(DebugFault::Memory) => Err(Failure::Memory),

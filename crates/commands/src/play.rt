@@ -1,8 +1,9 @@
 //! `dabplan play`: a plan code played over events, its frames written to a file.
 
 use crate::code_input::read_code;
+use crate::event_input::read_event_text;
 use command_line::PlayRequest;
-use console::exit::{Failure, Status, create_file, read_file};
+use console::exit::{Failure, Status, create_file};
 use console::files::Files;
 use plan_code::CodeFault;
 use plan_player::Writer;
@@ -23,13 +24,12 @@ pub fn show_play<'a, F: Files, W: Write>(
     out: &mut W,
 ) -> Result<Status, Failure<'a>> {
     let code = read_code(alloc, files, request.code)?;
-    let text = read_file(alloc, files, request.events, usize::MAX)?;
-    let events = text_of(text.as_slice(), request.events)?;
+    let events = read_event_text(alloc, files, request.events)?;
     let file = create_file(files, request.out)?;
     let (ended, _file) = run_into(
         alloc,
         code.as_slice(),
-        events,
+        events.as_str(),
         request.start.count,
         request.start.day,
         request.start.contacts,

@@ -7,6 +7,7 @@
 
 use commands::answer::{answer, answer_without_words};
 use console::files::System;
+use std::env::Env;
 use std::process::ExitCode;
 use std::{env, io};
 
@@ -15,7 +16,9 @@ fn main(rt: HostRuntime) -> io::Result<ExitCode> {
     let mut out = io::writer(&rt);
     let status = match words(&rt) {
         Ok(words) => answer(rt.alloc(), words.as_slice(), &mut files, &mut out),
-        Err(error) => answer_without_words(rt.alloc(), &error, &mut out),
+        Err(error) => {
+            answer_without_words(rt.alloc(), &error, is_live(&rt), &mut files, &mut out)
+        }
     };
     Ok(ExitCode::from(status))
 }
@@ -27,4 +30,13 @@ fn words(rt: &HostRuntime) -> io::Result<Vec<String>> {
         words.remove(0);
     }
     Ok(words)
+}
+
+/// Whether the word after the program's name is `live`. That takes no memory, and the words behind it need not be text.
+fn is_live(rt: &HostRuntime) -> bool {
+    let mut word = [0u8; 4];
+    match rt.arg(1, &mut word) {
+        Ok(length) => length == word.len() && word == *b"live",
+        Err(_) => false,
+    }
 }

@@ -1,0 +1,279 @@
+#!/usr/bin/env python3
+"""'--explain' of 'compile' and 'verify': each fault and each cause once. The last line is 'N passed, M failed'."""
+import pathlib
+
+import rows
+from rows import NOTHING_FILE, RATES_FILE, REFUSED_FILE, hexadecimal
+
+EXAMPLES = pathlib.Path(__file__).resolve().parents[2] / "examples"
+
+HEAD = """\
+ensemble E1C5
+period 4 notice 240 budget 20
+sub 1 at 0 eep 3-A 128
+service C221
+audio 63 sub 1 in C221
+"""
+
+# A line of the text, and the caret under a column of it.
+EID = "an EId: four digits 0-9 A-F, in capitals and without 0x"
+SID = "an SId: four or eight digits 0-9 A-F, in capitals and without 0x"
+
+
+def explained(rows, script, first, *rest):
+    """Counts that a script is refused with this line, and explained with these; and that the first line alone is what
+    comes without `--explain`."""
+    text = "".join(f"{line}\n" for line in rest)
+    rows.answers("compile x.plan x.code --explain", 1, f"{first}\n{text}", {"x.plan": script})
+    rows.answers("compile x.plan x.code", 1, f"{first}\n", {"x.plan": script})
+
+
+def after(statements, head=HEAD):
+    """A script with these statements behind `begin`, which stands in line 6."""
+    return f"{head}begin\n{statements}\n"
+
+
+def faults(rows):
+    """Texts that are no scripts: where, what may stand there, and what may have been meant."""
+    for script, first, *rest in (
+        ("ensemble 0xE1C5\n", "1:10: Number", f"x.plan:1:10: expected {EID}; found '0xE1C5'",
+         "    ensemble 0xE1C5", "             ^", "hint: write 'E1C5'"),
+        (f"{HEAD}service c222\n", "6:9: Number", f"x.plan:6:9: expected {SID}; found 'c222'",
+         "    service c222", "            ^", "hint: write 'C222'"),
+        (HEAD.replace("3-A", "3-a"), "3:16: Number",
+         "x.plan:3:16: expected a protection profile, 1-A to 4-A or 1-B to 4-B; found '3-a'",
+         "    sub 1 at 0 eep 3-a 128", "                   ^", "hint: write '3-A'"),
+        (after("until 06:00"), "7:7: Number",
+         "x.plan:7:7: expected a time HH:MM:SS, 00:00:00 to 23:59:59; found '06:00'",
+         "    until 06:00", "          ^", "hint: write '06:00:00'"),
+        (after("rate sub 01 96"), "7:10: Number", "x.plan:7:10: expected a SubChId, 0 to 63; found '01'",
+         "    rate sub 01 96", "             ^", "hint: write '1'"),
+        (after("wait 70000"), "7:6: Number", "x.plan:7:6: expected a number of frames, 1 to 65535 or 'contact'; found '70000'",
+         "    wait 70000", "         ^"),
+        ("ensemble E1C5\nnotice 240 period 4 budget 20\nbegin\n", "2:1: Expected",
+         "x.plan:2:1: expected 'mode' or 'period'; found 'notice'", "    notice 240 period 4 budget 20", "    ^"),
+        (after("comit in 250"), "7:1: Expected", "x.plan:7:1: expected a statement or the end of the script; found 'comit'",
+         "    comit in 250", "    ^", "hint: write 'commit'"),
+        (after("forever {\n  wait 5"), "9:1: Expected",
+         "x.plan:9:1: expected a statement or '}'; the script ends here", "    ", "    ^"),
+        (after("wait 5, 6"), "7:7: Byte", "x.plan:7:7: the byte 2C has no place in a script outside comments",
+         "    wait 5, 6", "          ^",
+         "hint: letters, digits, '_', ':', '-', '{', '}', blanks and ';' may stand there; '#' begins a comment"),
+        (after("apply night"), "7:7: NameUnknown", "x.plan:7:7: 'night' is not the name of a block that is defined before",
+         "    apply night", "          ^",
+         "hint: 'define' the block above the place where it is applied; a block does not apply itself"),
+        (f"{HEAD}define a {{ wait 1 }}\ndefine a {{ wait 2 }}\nbegin\n", "7:8: NameUsed",
+         "x.plan:7:8: 'a' is the name of a block that is defined before", "    define a { wait 2 }", "           ^",
+         "hint: give one of both another name"),
+        (after("if contact 1 " + "{ repeat 2 " * 16 + "{ }"), "7:190: Depth",
+         "x.plan:7:190: '{' would stand more than 16 braces deep",
+         "    " + ("if contact 1 " + "{ repeat 2 " * 16 + "{ }")[:160],
+         "hint: put an inner block into a 'define' and 'apply' it"),
+        (after("apply " + "a" * 33), "7:7: Limit", "x.plan:7:7: a word of 33 bytes; the longest has 32",
+         "    apply " + "a" * 33, "          ^"),
+    ):
+        explained(rows, script, first, *rest)
+
+
+def edits(rows):
+    """Edits that are refused."""
+    components = "".join(f"sub {i} at {90 + 6 * i} eep 3-A 8\n" for i in range(2, 14))
+    components += "".join(f"data 5 sub {i} in C221\n" for i in range(2, 14))
+    services = "".join(f"service D{i:03X}\n" for i in range(64))
+    for script, first, *rest in (
+        (after("sub 1 at 200 eep 3-A 64"), "refused line 7: Edit IdUsed",
+         "x.plan:7: sub 1 at 0 eep 3-A 128 is there already; line 3 added it",
+         "hint: 'drop' it first, or take another number"),
+        (after("drop component sub 1 in C221\ndrop sub 1\nrate sub 1 96"), "refused line 9: Edit IdAbsent",
+         "x.plan:9: sub 1 is not there; line 8 dropped it", "hint: the sub-channels there are none"),
+        (after("move sub 1 at 800"), "refused line 7: Edit PastEnd",
+         "x.plan:7: sub 1 at 800 eep 3-A 128 has 96 CU, so CU 800 to 895; the last one is 863",
+         "hint: it can begin at 768 at most; where its start and its rate change, 'move' before a rate that grows"),
+        (after("rate sub 1 100"), "refused line 7: Edit BadRate",
+         "x.plan:7: a rate of 100 kbit/s is no multiple of 8, as those of the profile are", "hint: 96 and 104 are"),
+        (after("rate sub 1 0"), "refused line 7: Edit BadRate",
+         "x.plan:7: a rate of 0 kbit/s has no size", "hint: 'drop sub' takes a sub-channel away"),
+        (after("rate sub 1 2000"), "refused line 7: Edit BadRate",
+         "x.plan:7: 2000 kbit/s at 3-A would take 1500 CU; a multiplex has 864",
+         "hint: 1152 kbit/s is the most at this profile"),
+        (after("packet 7 groups type 60 sub 1 address 0"), "refused line 7: Edit BadAddress",
+         "x.plan:7: 0 is no packet address", "hint: packet addresses are 1 to 1023"),
+        (f"{HEAD}{components}begin\n", "refused line 29: Edit TooManyComponents",
+         "x.plan:29: service C221 has 12 components; one with such an SId has 12 at most",
+         "hint: put some of them into another service"),
+        (f"{HEAD}{services}begin\n", "refused line 69: Edit TableFull",
+         "x.plan:69: there are 64 services, the most of a configuration", "hint: 'drop' one first"),
+    ):
+        explained(rows, script, first, *rest)
+
+
+def configurations(rows):
+    """Configurations that are not sound."""
+    packets = "packet 7 groups type 60 sub 1 address 9\npacket 8 raw type 60 sub 1 address 9\n"
+    for script, first, *rest in (
+        (after("sub 2 at 90 eep 3-A 64\nservice C222\naudio 63 sub 2 in C222\ncommit in 250"),
+         "refused line 10: Config Overlap 1 2",
+         "x.plan:10: sub 1 at 0 eep 3-A 128 has CU 0 to 95, sub 2 at 90 eep 3-A 64 has CU 90 to 137: they share CU 90 to 95",
+         "hint: sub 2 has room at 96"),
+        (after("drop sub 1\ncommit in 250"), "refused line 8: Config Orphan",
+         "x.plan:8: service C221 has a component on sub 1, which is not there; line 7 dropped it",
+         "hint: 'drop component sub 1 in C221' as well, or add what it names"),
+        (after(f"{packets}commit in 250"), "refused line 9: Config AddressUsed",
+         "x.plan:9: packet 7 groups type 60 sub 1 address 9 and packet 8 raw type 60 sub 1 address 9 have one address on one"
+         " sub-channel",
+         "hint: give one of them another address, 1 to 1023"),
+        (after("service C222\ncommit in 250"), "refused line 8: Config EmptyService",
+         "x.plan:8: service C222 has no component", "hint: 'drop service C222', or add a component"),
+        (f"{HEAD}service C222\nbegin\n", "refused line 7: Config EmptyService",
+         "x.plan:7: service C222 has no component", "hint: 'drop service C222', or add a component"),
+    ):
+        explained(rows, script, first, *rest)
+
+
+def swaps(rows):
+    """Commits and waits that are refused."""
+    for script, first, *rest in (
+        (after("rate sub 1 96\ncommit in 250\nrate sub 1 128"), "refused line 9: Pending",
+         "x.plan:9: a swap is pending that comes after 250 to 253 frames: the one of the commit in line 8",
+         "hint: 'join' before it, which waits for the swap; until then the next configuration is announced and stays as it is"),
+        (after("rate sub 1 96\ncommit in 250\nwait contact 3 closed\nrate sub 1 128"), "refused line 10: Pending",
+         "x.plan:10: a swap may be pending, that comes after 252 frames at most: the one of the commit in line 8",
+         "hint: 'settle' before it: it waits for the swap, if it has not come yet"),
+        (after("commit in 250"), "refused line 7: NoChange",
+         "x.plan:7: nothing differs: the next configuration is the current one",
+         "hint: leave the commit out, or edit before it"),
+        (after("rate sub 1 96\ncommit in 100"), "refused line 8: Notice",
+         "x.plan:8: the swap would come after 100 frames; the notice is 240 frames", "hint: 'commit in 240' or more"),
+        (after("rate sub 1 96\ncommit at 4001"), "refused line 8: Count",
+         "x.plan:8: no swap falls on count 4001: in this mode swaps fall on the multiples of 4 from 0 to 4999",
+         "hint: 'commit at 4000', which leaves the whole notice of 240 frames before it"),
+        (after("join"), "refused line 7: JoinIdle",
+         "x.plan:7: no swap is pending here, so that there is none to wait for",
+         "hint: leave it out, or 'commit' before it"),
+        (after("rate sub 1 96\ncommit in 250\nwait 251"), "refused line 9: SwapUncertain",
+         "x.plan:9: after 251 frames the swap has come or not, as the count allows: it comes after 250 to 253 frames, by the"
+         " commit in line 8",
+         "hint: 'wait 249' or less, 'wait 253' or more, or 'join'"),
+    ):
+        explained(rows, script, first, *rest)
+
+
+def ways(rows):
+    """Ways that do not meet, and statements that no way comes to."""
+    for script, first, *rest in (
+        (after("forever {\n  wait 100\n  rate sub 1 96\n  commit in 250\n  join\n}"), "refused line 7: Mismatch",
+         "x.plan:7: the loop does not come back as it began: in the current configuration sub 1 at 0 eep 3-A 96 at its end,"
+         " sub 1 at 0 eep 3-A 128 at its beginning",
+         "hint: undo in the loop what it did, then 'commit' and 'join'; or do it before the loop"),
+        (after("forever {\n  wait 100\n  rate sub 1 96\n  commit in 250\n}"), "refused line 7: Mismatch",
+         "x.plan:7: the loop does not come back as it began: a swap is pending that comes after 250 to 253 frames at its end;"
+         " no swap is pending at its beginning",
+         "hint: 'join' at the end of the loop, or 'settle' where the swap may have come"),
+        (after("if contact 3 {\n  rate sub 1 96\n}\nwait 5"), "refused line 7: Mismatch",
+         "x.plan:7: the two ways through the 'if' differ: in the next configuration sub 1 at 0 eep 3-A 96 on one way, sub 1 at"
+         " 0 eep 3-A 128 on the other",
+         "hint: leave both branches with the same configurations, 'commit' and 'join' included"),
+        (after("end\nwait 5"), "refused line 8: Table",
+         "x.plan:8: it can't be reached: nothing goes on behind the statement in line 7", "hint: leave it out"),
+    ):
+        explained(rows, script, first, *rest)
+
+
+def costs(rows):
+    """Budgets and periods that are too small."""
+    moves = "".join(f"move sub 1 at {n}\n" for n in (10, 20, 30, 40, 50))
+    many = "".join(f"sub {i} at {90 + 6 * i} eep 3-A 8\nservice C3{i:02X}\naudio 63 sub {i} in C3{i:02X}\n" for i in range(2, 30))
+    long = after(f"wait 100\nrate sub 1 96\n{moves}commit in 250\njoin", HEAD.replace("budget 20", "budget 6"))
+    for script, first, *rest in (
+        (long, "refused line 8: Cost", "x.plan:8: the longest path runs 8 instructions in one frame; the budget is 6",
+         "hint: a budget of 8, or a 'wait 1' between the instructions that follow this line"),
+        (after("forever {\n  if contact 3 { wait 1 }\n}"), "refused line 7: Cost",
+         "x.plan:7: the loop of lines 7 to 8 can go round without a wait, so that its instructions in one frame have no bound",
+         "hint: a 'wait 1' in the loop, on each way through it"),
+        (HEAD.replace("period 4", "period 1") + f"{many}begin\n", "refused line 90: Round",
+         "x.plan:90: the configuration takes 4 pages, a frame each; the period is 1 frames",
+         "hint: a period of 4, or fewer entries"),
+        (HEAD.replace("notice 240", "notice 12") + f"{many}begin\nrate sub 1 96\ncommit in 250", "refused line 92: Round",
+         "x.plan:92: the current configuration takes 4 pages, a frame each, the next 4, and both together, in the notice, 8;"
+         " the period is 4 frames and the notice 12",
+         "hint: a period of 8 or more, and a notice of 24 or more, which is three times both; or fewer entries"),
+        (after("repeat 2 { wait 1 " * 9 + "} " * 9), "refused: Limit",
+         "x.plan: the code would have more than 4096 instructions, 1024 labels or 256 configurations, or repeats would stand"
+         " nine deep",
+         "hint: 'repeat' in place of copies"),
+    ):
+        explained(rows, script, first, *rest)
+
+
+def without(name, line, count=1):
+    """An example without its comments and without these lines, from one that begins so on."""
+    lines = [text for text in (EXAMPLES / name).read_text(encoding="utf-8").splitlines() if not text.startswith("#")]
+    at = next(number for number, text in enumerate(lines) if text.strip().startswith(line))
+    return "\n".join(lines[:at] + lines[at + count:]) + "\n"
+
+
+def first_mistakes(rows):
+    """Plans of the examples with the mistakes that are made first."""
+    night = without("night_rate.plan", "begin", 0)
+    busy = without("regional_opt_out.plan", "begin", 0).replace("budget 20", "budget 6")
+    busy = busy.replace("  audio 63 sub 2 in C222\n",
+                        "  audio 63 sub 2 in C222\n  sub 3 at 192 eep 3-A 32\n  data 5 sub 3 in C222\n  rate sub 1 96\n")
+    busy = busy.replace("  drop sub 2\n", "  drop sub 2\n  drop sub 3\n  rate sub 1 128\n")
+    for script, first, *rest in (
+        (without("night_rate.plan", "join"), "refused line 12: Pending",
+         "x.plan:12: a swap may be pending, that comes after 252 frames at most: the one of the commit in line 10",
+         "hint: 'settle' before it: it waits for the swap, if it has not come yet"),
+        (without("part_time_service.plan", "drop service"), "refused line 15: Config Orphan",
+         "x.plan:15: service C223 has a component on sub 2, which is not there; line 14 dropped it",
+         "hint: 'drop component sub 2 in C223' as well, or add what it names"),
+        (night.replace("period 4 notice 240", "notice 240 period 4"), "2:1: Expected",
+         "x.plan:2:1: expected 'mode' or 'period'; found 'notice'", "    notice 240 period 4 budget 20", "    ^"),
+        (night.replace("05:59:54", "06:00"), "12:9: Number",
+         "x.plan:12:9: expected a time HH:MM:SS, 00:00:00 to 23:59:59; found '06:00'",
+         "      until 06:00", "            ^", "hint: write '06:00:00'"),
+        (without("regional_opt_out.plan", "wait contact 3 open", 5), "refused line 7: Mismatch",
+         "x.plan:7: the loop does not come back as it began: in the current configuration sub 2 at 96 eep 3-A 128 at its end,"
+         " no sub 2 at its beginning",
+         "hint: undo in the loop what it did, then 'commit' and 'join'; or do it before the loop"),
+        (busy, "refused line 9: Cost", "x.plan:9: the longest path runs 8 instructions in one frame; the budget is 6",
+         "hint: a budget of 8, or a 'wait 1' between the instructions that follow this line"),
+    ):
+        explained(rows, script, first, *rest)
+
+
+def codes(rows):
+    """Codes that are refused: the line is the script's."""
+    late = hexadecimal(RATES_FILE.replace("04 00 18  00 0B 06", "04 00 17  00 0B 06"))
+    for code, first, *rest in (
+        (hexadecimal(REFUSED_FILE), "refused at 0 line 1: JoinIdle",
+         "x.code:1: no swap is pending here, so that there is none to wait for",
+         "hint: leave it out, or 'commit' before it"),
+        (late, "refused at 2 line 10: Notice", "x.code:10: the swap would come after 23 frames; the notice is 24 frames",
+         "hint: 'commit in 24' or more"),
+        (hexadecimal(RATES_FILE.replace("04 18 14", "04 18 02")), "refused at 3 line 11: Cost",
+         "x.code:11: no more instructions may run in this frame before instruction 3, as the label before declares; the budget"
+         " is 2"),
+        (hexadecimal(RATES_FILE.replace("00 0D 13 01 00 80", "00 0D 13 01 00 90")), "refused at 8 line 7: Mismatch",
+         "x.code:7: at the label of instruction 0: what is known does not fit the label: in the current configuration sub 1 at 0"
+         " eep 3-A 144 as it is known, sub 1 at 0 eep 3-A 128 as the label declares"),
+        (hexadecimal(RATES_FILE.replace("21 00 00", "21 00 01")), "refused at 8 line 7: Target",
+         "x.code:7: instruction 8 jumps to 1, where no label stands"),
+        (hexadecimal(RATES_FILE.replace("00 07 21 00 00", "00 07 01 00 01")), "refused at 8 line 7: FallsOff",
+         "x.code:7: the last instruction, 8, continues to one that is not there"),
+        (hexadecimal(RATES_FILE.replace("\n00 00 00 00 00", "\n00 01 00 00 00")), "refused at 0 line 8: Table",
+         "x.code:8: no label stands at instruction 0, where a code begins"),
+        (b"DABP", "code: Truncated"),
+    ):
+        text = "".join(f"{line}\n" for line in rest)
+        rows.answers("verify x.code --explain", 1, f"{first}\n{text}", {"x.code": code})
+        rows.answers("verify x.code", 1, f"{first}\n", {"x.code": code})
+
+
+def accepted(rows):
+    """What is accepted is printed as ever."""
+    rows.answers("compile x.plan x.code --explain", 0, "instructions 1 labels 1 configurations 1\n", {"x.plan": after("end")})
+    rows.answers("verify x.code --explain", 0, "accepted\n", {"x.code": hexadecimal(NOTHING_FILE)})
+
+
+if __name__ == "__main__":
+    rows.main([faults, edits, configurations, swaps, ways, costs, first_mistakes, codes, accepted])
