@@ -110,10 +110,10 @@ none_heard plan s (Some k) left n m e g is =
     let none : plan.notice - k ≡ 0 = omega (arith, same) in
     ap (heard_left plan s) e ∙ ap (λ (n : ℕ). notice_frames plan n (notice_begin plan k s)) none
 
-abbrev more_heard : Bool → Bool → List (List ℕ) → List ℕ → List (List ℕ)
+abbrev pub more_heard : Bool → Bool → List (List ℕ) → List ℕ → List (List ℕ)
 more_heard on due heard frame = cond on (cond due [] heard ++ frame ∷ []) (cond due [] heard)
 
-heard_then : (p : Program) (ts : List Known) → IsCode p ts → (s : State) → Holds p ts s → heard_of p.plan (after_frame p s) ≡ more_heard (on_air p.plan (shown p s)) (is_due s.left) (heard_of p.plan s) (frame_bytes p s)
+pub heard_then : (p : Program) (ts : List Known) → IsCode p ts → (s : State) → Holds p ts s → heard_of p.plan (after_frame p s) ≡ more_heard (on_air p.plan (shown p s)) (is_due s.left) (heard_of p.plan s) (frame_bytes p s)
 heard_then p ts c s holds = sym (heard_frame p ts c s holds)
 
 -- where a swap was due, only the frame
@@ -135,7 +135,7 @@ goes_on p ts c s holds due flag x h true e =
     absurd (none_said flag x (subst (λ (xs : List (List ℕ)). SomeSaid xs flag x) none h))
 
 -- nothing was heard of a notice outside of one
-quiet_heard : (plan : Plan) (u : State) (left : Option ℕ) → u.left ≡ left → IsAhead left → is_noticed plan.notice left ≡ false → heard_of plan (with_next_counts plan u) ≡ []
+pub quiet_heard : (plan : Plan) (u : State) (left : Option ℕ) → u.left ≡ left → IsAhead left → is_noticed plan.notice left ≡ false → heard_of plan (with_next_counts plan u) ≡ []
 quiet_heard plan u None is ahead off = ap (λ o. heard_left plan (with_next_counts plan u) (left_after_frame o)) is
 quiet_heard plan u (Some k) is ahead off = elim (split_le k plan.notice) [
   | inl within ↦ absurd (false≢true (sym off ∙ noticed plan.notice k ahead within))

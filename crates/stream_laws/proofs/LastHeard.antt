@@ -100,7 +100,7 @@ stays_by true t next raw l m is e = sym (ap (λ (x : Listening). x.tuned) (some_
 stays_by false true next raw l m is e = into_tuned next l (pictured raw (picture_of next l)) m is e
 stays_by false false next raw l m is e = sym (ap (λ (x : Listening). x.tuned) (some_same l m e)) ∙ is
 
-stays_tuned : (next : Bool) (raw : Raw) (l m : Listening) → l.tuned ≡ true → hear_entry next raw l ≡ Some m → m.tuned ≡ true
+pub stays_tuned : (next : Bool) (raw : Raw) (l m : Listening) → l.tuned ≡ true → hear_entry next raw l ≡ Some m → m.tuned ≡ true
 stays_tuned next raw l m is e = stays_by (raw.ext == 0) l.tuned next raw l m is e
 
 -- an entry of the current configuration that is among these is heard

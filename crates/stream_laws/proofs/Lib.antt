@@ -34,6 +34,12 @@ pub mod Ages
 pub mod Silence
 pub mod Settling
 pub mod Appearing
-pub mod NoOther
+pub mod NextHeard
+pub mod NoticeRows
+pub mod NextParts
+pub mod NextFrames
+pub mod NextRows
+pub mod Repeating
+pub mod NoFault
 mod Vectors
 mod VectorsOfLaws

@@ -59,6 +59,13 @@ short_frame h = h.plain.1.0
 silent_change : IsFaultless 3 1 250 (first ∷ frame_of (header 1 ∷ Open 1 (after ∷ []) ∷ []) ∷ []) → ⊥
 silent_change h = h.plain.1.0
 
+-- a notice of three frames, one of which has not the entry of the next configuration
+abbrev announced : ℕ → List Fib
+announced count = frame_of (flagged count ∷ Open 1 (before ∷ []) ∷ [])
+
+heard_twice : IsFaultless 3 1 250 (first ∷ noticed 1 ∷ announced 2 ∷ noticed 3 ∷ swapped ∷ []) → ⊥
+heard_twice h = h.plain.1.1.1.0
+
 -- ---- the swap of this stream
 
 abbrev swap_header : Item

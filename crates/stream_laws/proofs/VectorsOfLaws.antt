@@ -28,9 +28,9 @@ use Rattle.stream_laws.specs.Framing.{frames_of}
 use Rattle.stream_laws.specs.InPlace.{is_of_frame, IsInPlace}
 use Rattle.stream_laws.specs.Agreeing.{is_of_word, KeepsWord}
 use Rattle.stream_laws.specs.Times.{is_of_times, IsTimely}
-use Rattle.stream_laws.specs.Faults.{IsReadTooSeldom, IsEventOrSeldom}
-use Rattle.stream_laws.specs.Sorts.{IsFreeOf, is_of_flags, is_of_silence, is_of_appearance}
+use Rattle.stream_laws.specs.Sorts.{IsFreeOf, is_of_flags, is_of_silence, is_of_appearance, is_of_repetition}
 use Rattle.stream_laws.specs.Naming.{swap_frames, due_frames, due_after_first}
+use Rattle.stream_laws.proofs.NoticeRows.{AreRows}
 
 -- ---- entries, FIBs and frames
 
@@ -99,6 +99,13 @@ not_announced a = none a.headers.first a.headers.in_first.1
     none : (place : ℕ) {frame : List ℕ} → slice_get [] place ≡ Some frame → ⊥
     none zero e = absurd cc
     none (suc n) e = absurd cc
+
+-- rows of no frames are none
+rows_of_none : AreRows [] []
+rows_of_none = tt
+
+row_of_none : AreRows [] ((7 ∷ []) ∷ []) → ⊥
+row_of_none h = h
 
 -- ---- faults and names
 
@@ -171,17 +178,17 @@ not_appeared = refl
 not_free_of_appearances : IsFreeOf is_of_appearance (whats.Fault (faults.Appeared (names.Sub 3))) → ⊥
 not_free_of_appearances h = absurd cc
 
-read_too_seldom : IsReadTooSeldom (faults.NextHeard 2)
-read_too_seldom = tt
+too_seldom : is_of_repetition (faults.NextHeard 2) ≡ true
+too_seldom = refl
 
-not_too_seldom : IsReadTooSeldom (faults.AnnouncedTimes 2) → ⊥
-not_too_seldom h = h
+not_too_seldom : is_of_repetition (faults.AnnouncedTimes 2) ≡ false
+not_too_seldom = refl
 
-an_event : IsEventOrSeldom (whats.Event named_events.Swap)
-an_event = tt
+free_of_repetition : IsFreeOf is_of_repetition (whats.Fault (faults.NextChanged (names.Sub 3)))
+free_of_repetition = refl
 
-no_event : IsEventOrSeldom (whats.Fault (faults.Flags 1 2)) → ⊥
-no_event h = h
+not_free_of_repetition : IsFreeOf is_of_repetition (whats.Fault (faults.NextHeard 2)) → ⊥
+not_free_of_repetition h = absurd cc
 
 abbrev swap_in : ℕ → Finding
 swap_in frame = record { frame = frame; count = 0; what = whats.Event named_events.Swap }

@@ -113,3 +113,32 @@ abbrev pub RunsAreKnown : Type 0
 RunsAreKnown =
     (r : Reading) (p : Program) (s : State) (period : ℕ) (waiting events : List Event) → IsPlayed p s
     → (run p s waiting).count % count_step p.plan.mode ≡ 0 → 2 * p.plan.period ≤ period + 1 → RunIsFreeOf is_of_appearance r p (run p s waiting) period events
+
+-- a swap before which the next configuration could be read fewer than three times
+abbrev pub is_of_repetition : Fault → Bool
+is_of_repetition (faults.ShortFrame fibs) = false
+is_of_repetition (faults.Damaged fibs) = false
+is_of_repetition faults.NoEnsemble = false
+is_of_repetition (faults.OtherEnsemble eid) = false
+is_of_repetition (faults.Count due) = false
+is_of_repetition faults.OutOfPlace = false
+is_of_repetition (faults.AnnouncedAgain flags low) = false
+is_of_repetition (faults.NoSwapAt low) = false
+is_of_repetition faults.NextUnannounced = false
+is_of_repetition (faults.Changed name) = false
+is_of_repetition (faults.NextChanged name) = false
+is_of_repetition (faults.Appeared name) = false
+is_of_repetition (faults.AnnouncedFor low) = false
+is_of_repetition (faults.AnnouncedTimes times) = false
+is_of_repetition (faults.NextHeard times) = true
+is_of_repetition (faults.Flags flags changes) = false
+is_of_repetition (faults.Overlap a b) = false
+is_of_repetition (faults.PastEnd a) = false
+is_of_repetition (faults.Silent name) = false
+
+-- the law of repetition: in the frames of a run, from one with a FIG 0/0 on, the next configuration can be read three
+-- times before each swap, unless the first of these frames is one of its notice
+abbrev pub RunsRepeatTheNext : Type 0
+RunsRepeatTheNext =
+    (r : Reading) (p : Program) (s : State) (period : ℕ) (waiting events : List Event) → IsPlayed p s
+    → (run p s waiting).count % count_step p.plan.mode ≡ 0 → RunIsFreeOf is_of_repetition r p (run p s waiting) period events

@@ -4,13 +4,14 @@
 ghost use Rattle.stream_laws.specs.Agreeing.{RunsAgree};
 ghost use Rattle.stream_laws.specs.Announcing.{SwapsAreAnnounced};
 ghost use Rattle.stream_laws.specs.Entries.{ChangesAreAnnounced};
-ghost use Rattle.stream_laws.specs.Faults.{RunsHaveNoOtherFault};
+ghost use Rattle.stream_laws.specs.Faults.{RunsAreFaultless};
 ghost use Rattle.stream_laws.specs.Framing.{RunsAreFramed};
 ghost use Rattle.stream_laws.specs.InPlace.{RunsAreInPlace};
 ghost use Rattle.stream_laws.specs.Keeping.{CurrentIsKept};
 ghost use Rattle.stream_laws.specs.Naming.{SwapsAreNamed};
 ghost use Rattle.stream_laws.specs.Notices.{FramesAreOfBytes};
 ghost use Rattle.stream_laws.specs.Sorts.{RunsAreKnown, RunsAreNeverSilent, RunsFlagTheChange};
+ghost use Rattle.stream_laws.specs.Sorts.{RunsRepeatTheNext};
 ghost use Rattle.stream_laws.specs.Times.{RunsAreTimely};
 
 /// The law of the current configuration: in a stream without a fault each entry with C/N 0 agrees
@@ -155,11 +156,25 @@ pub fn appearances()
     fib_carousel::laws::carried();
 }
 
-/// The law of faults: in the frames of a run of a typed code, from one with a FIG 0/0 on, where N
-/// is at least twice the period of the plan less one, the check of a stream finds no fault, unless
-/// it be that the next configuration could be read fewer than three times before a swap.
-pub fn faults()
-    ensures { RunsHaveNoOtherFault }
+/// The law of repetition: in the frames of a run of a typed code, from one with a FIG 0/0 on, the
+/// check of a stream finds no swap before which the next configuration could be read fewer than
+/// three times in the frames of the notice.
+pub fn repetition()
+    ensures { RunsRepeatTheNext }
+{
+    fib_codec::laws::one_list();
+    fib_codec::laws::fib_length();
+    fib_reader::laws::ensemble();
+    fib_carousel::laws::pages();
+    fib_carousel::laws::carried();
+    stream_check::laws::parts();
+}
+
+/// The law of faults, no false alarm: the frames of a run of a typed code, from one with a FIG 0/0
+/// on, are a stream without a fault, where N is at least twice the period of the plan less one.
+/// That is so from every state that a typed code comes to.
+pub fn no_false_alarm()
+    ensures { RunsAreFaultless }
 {
     fib_codec::laws::one_list();
     fib_codec::laws::fib_length();
@@ -169,4 +184,5 @@ pub fn faults()
     fib_carousel::laws::carried();
     mux_config::laws::changes();
     plan_runs::laws::headline();
+    stream_check::laws::parts();
 }

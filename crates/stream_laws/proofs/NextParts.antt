@@ -1,0 +1,212 @@
+-- Frames of a notice, and rows of the identifiers that were heard in them with C/N 1, cut into three parts.
+use Rattle.std.proofs.Common.{◌≡◌, ℕ, zero, suc, ◌<◌, ◌≤◌, true, List, [], ◌∷◌, ◌++◌, length, Contains, Some, refl, sym, ap, ◌∙◌, subst, arith, inl, inr, ◌⊎◌}
+use Rattle.std.specs.Prelude.{slice_get}
+use Rattle.std.specs.List.{AllByRecursion, concat}
+use Rattle.std.proofs.lemmas.List.{append_assoc, length-append}
+use Rattle.std.proofs.lemmas.List.Elements.{Contains-append_left, Contains-append_right, Contains-append_cases}
+use Rattle.mux_types.proofs.Elements.{contains_cases, contains_none, each_contains}
+use Rattle.mux_config.specs.Configuration.{Configuration}
+use Rattle.mux_entries.specs.Facts.{Marked, facts_of}
+use Rattle.fib_codec.specs.Heard.{IsHeardInRow}
+use Rattle.fib_reader.specs.Raw.{raw_entry}
+use Rattle.stream_check.specs.Pictures.{key_of}
+use Rattle.stream_check.specs.Cutting.{HasAll, IsPart, IsCutInThree}
+use Rattle.plan_runs.specs.Announced.{IsHeardInSome, IsHeardWhole, HasHeader, HasThreeHeaders, IsAnnounced}
+use Rattle.stream_laws.proofs.NoticeRows.{SaysNothing, HasNext, AreRows, IsRowed}
+
+-- ---- frames and rows
+
+pub none_rowed : IsRowed [] []
+none_rowed = record { missing = []; later = []; whole = refl; silent = tt; are = tt }
+
+rows_more : (fs rs : List (List ℕ)) (f r : List ℕ) → AreRows fs rs → HasNext f r → AreRows (fs ++ f ∷ []) (rs ++ r ∷ [])
+rows_more [] [] f r all one = (one, tt)
+rows_more [] (r1 ∷ rs) f r all one = absurd all
+rows_more (f1 ∷ fs) [] f r all one = absurd all
+rows_more (f1 ∷ fs) (r1 ∷ rs) f r all one = (all.0, rows_more fs rs f r all.1 one)
+
+-- a frame more, and its row
+pub rowed_more : (heard rows : List (List ℕ)) (frame row : List ℕ) → IsRowed heard rows → HasNext frame row → IsRowed (heard ++ frame ∷ []) (rows ++ row ∷ [])
+rowed_more heard rows frame row h one = record {
+  missing = h.missing;
+  later = h.later ++ frame ∷ [];
+  whole = ap (λ fs. fs ++ frame ∷ []) h.whole ∙ append_assoc h.missing h.later (frame ∷ []);
+  silent = h.silent;
+  are = rows_more h.later rows frame row h.are one;
+}
+
+none_later : (fs : List (List ℕ)) → AreRows fs [] → fs ≡ []
+none_later [] all = refl
+none_later (f ∷ fs) all = absurd all
+
+silent_more : (fs : List (List ℕ)) (f : List ℕ) → AllByRecursion SaysNothing fs → SaysNothing f → AllByRecursion SaysNothing (fs ++ f ∷ [])
+silent_more [] f all one = (one, tt)
+silent_more (x ∷ xs) f all one = (all.0, silent_more xs f all.1 one)
+
+-- a frame more that says nothing, where there are no rows yet
+pub rowed_silent : (heard rows : List (List ℕ)) (frame : List ℕ) → IsRowed heard rows → rows ≡ [] → SaysNothing frame → IsRowed (heard ++ frame ∷ []) []
+rowed_silent heard rows frame h none one =
+    let last : h.later ≡ [] = none_later h.later (subst (AreRows h.later) none h.are) in
+    record {
+      missing = h.missing ++ frame ∷ [];
+      later = [];
+      whole = ap (λ fs. fs ++ frame ∷ []) (h.whole ∙ ap (λ fs. h.missing ++ fs) last) ∙ bare h.missing;
+      silent = silent_more h.missing frame h.silent one;
+      are = tt;
+    }
+  where
+    bare : (xs : List (List ℕ)) → (xs ++ []) ++ frame ∷ [] ≡ (xs ++ frame ∷ []) ++ []
+    bare [] = refl
+    bare (x ∷ xs) = ap (λ ys. x ∷ ys) (bare xs)
+
+-- ---- parts
+
+head_is : {X : Type 0} (x y : X) (xs ys : List X) → x ∷ xs ≡ y ∷ ys → x ≡ y
+head_is x y xs ys e = cc e
+
+tail_is : {X : Type 0} (x y : X) (xs ys : List X) → x ∷ xs ≡ y ∷ ys → xs ≡ ys
+tail_is x y xs ys e = cc e
+
+-- of two cuts of a list one comes first
+cut_first : {X : Type 0} (missing later first rest : List X) → missing ++ later ≡ first ++ rest
+    → ((extra : List X) × (missing ≡ first ++ extra)) ⊎ ((more : List X) × (first ≡ missing ++ more) × (later ≡ more ++ rest))
+cut_first [] later first rest e = inr (first, refl, e)
+cut_first (x ∷ xs) later [] rest e = inl (x ∷ xs, refl)
+cut_first (x ∷ xs) later (y ∷ ys) rest e =
+    let same : x ≡ y = head_is x y (xs ++ later) (ys ++ rest) e in
+    elim (cut_first xs later ys rest (tail_is x y (xs ++ later) (ys ++ rest) e)) [
+      | inl (extra, is) ↦ inl (extra, ap (λ z. z ∷ xs) same ∙ ap (λ zs. y ∷ zs) is)
+      | inr (more, is, last) ↦ inr (more, ap (λ z. z ∷ ys) (sym same) ∙ ap (λ zs. x ∷ zs) is, last)
+    ]
+
+record AreCut (fs gs rs : List (List ℕ)) : Type 0 where
+  left : List (List ℕ)
+  right : List (List ℕ)
+  whole : rs ≡ left ++ right
+  first : AreRows fs left
+  second : AreRows gs right
+
+rows_cut : (fs gs rs : List (List ℕ)) → AreRows (fs ++ gs) rs → AreCut fs gs rs
+rows_cut [] gs rs all = record { left = []; right = rs; whole = refl; first = tt; second = all }
+rows_cut (f ∷ fs) gs [] all = absurd all
+rows_cut (f ∷ fs) gs (r ∷ rs) all =
+    let rest = rows_cut fs gs rs all.1 in
+    record { left = r ∷ rest.left; right = rest.right; whole = ap (λ xs. r ∷ xs) rest.whole; first = (all.0, rest.first); second = rest.second }
+
+-- these are identifiers of entries of the configuration
+abbrev pub AreKeysOf : Configuration → List ℕ → Type 0
+AreKeysOf n wanted = (x : ℕ) → Contains wanted x → (m : Marked) × Contains (facts_of n true) m × (m.next ≡ true) × (key_of (raw_entry m.entry) ≡ x)
+
+row_has : (fs rs : List (List ℕ)) (m : Marked) → AreRows fs rs → m.next ≡ true → IsHeardInSome fs m → Contains (concat rs) (key_of (raw_entry m.entry))
+row_has [] rs m all next (f, inside, heard) = absurd (contains_none f inside)
+row_has (f ∷ fs) [] m all next h = absurd all
+row_has (f ∷ fs) (r ∷ rs) m all next (g, inside, heard) = elim (contains_cases f fs g inside) [
+  | inl same ↦ Contains-append_left r (concat rs) (key_of (raw_entry m.entry)) (all.0 m next (subst (λ (b : List ℕ). IsHeardInRow b m) (sym same) heard))
+  | inr later ↦ Contains-append_right r (concat rs) (key_of (raw_entry m.entry)) (row_has fs rs m all.1 next (g, later, heard))
+]
+
+part_is : (n : Configuration) (wanted : List ℕ) (x : ℕ) → Contains wanted x → AreKeysOf n wanted → (fs rs : List (List ℕ)) → AreRows fs rs → IsHeardWhole n true fs → IsPart wanted rs
+part_is n wanted x some keys fs rs all whole = (
+  λ empty. contains_none x (subst (λ (xs : List (List ℕ)). Contains (concat xs) x) empty (has x some)),
+  has,
+)
+  where
+    has : HasAll wanted rs
+    has y inside =
+        let it = keys y inside in
+        subst (λ (k : ℕ). Contains (concat rs) k) it.3 (row_has fs rs it.0 all it.2 (whole it.0 it.1))
+
+-- what is heard in frames, the first of which say nothing, is heard in the others
+heard_later : (missing more : List (List ℕ)) (m : Marked) → AllByRecursion SaysNothing missing → m.next ≡ true → IsHeardInSome (missing ++ more) m → IsHeardInSome more m
+heard_later missing more m silent next (f, inside, heard) = elim (Contains-append_cases missing more f inside) [
+  | inl early ↦ absurd ((each_contains SaysNothing missing f silent early).none m next heard)
+  | inr late ↦ (f, late, heard)
+]
+
+-- a configuration with entries
+three_parts : (n : Configuration) (wanted : List ℕ) (x : ℕ) → Contains wanted x → AreKeysOf n wanted → (next_marked : (m : Marked) → Contains (facts_of n true) m → m.next ≡ true)
+    → (missing first second third rows : List (List ℕ)) (later : List (List ℕ)) → missing ++ later ≡ (first ++ second) ++ third → AllByRecursion SaysNothing missing → AreRows later rows
+    → IsHeardWhole n true first → IsHeardWhole n true second → IsHeardWhole n true third → IsCutInThree wanted rows
+three_parts n wanted x some keys marks missing first second third rows later cut silent are one two three =
+    elim (cut_first missing later first (second ++ third) (cut ∙ append_assoc first second third)) [
+      | inl (extra, is) ↦ (
+          let it = keys x some in
+          let heard = one it.0 it.1 in
+          let early : Contains missing heard.0 = subst (λ (fs : List (List ℕ)). Contains fs heard.0) (sym is) (Contains-append_left first extra heard.0 heard.1) in
+          absurd ((each_contains SaysNothing missing heard.0 silent early).none it.0 it.2 heard.2)
+          )
+      | inr (more, is, last) ↦ (
+          let front = rows_cut more (second ++ third) rows (subst (λ (fs : List (List ℕ)). AreRows fs rows) last are) in
+          let back = rows_cut second third front.right front.second in
+          let whole : IsHeardWhole n true more = λ m inside. heard_later missing more m silent (marks m inside) (subst (λ (fs : List (List ℕ)). IsHeardInSome fs m) is (one m inside)) in
+          record {
+            first = front.left;
+            second = back.left;
+            third = back.right;
+            cut = front.whole ∙ ap (λ xs. front.left ++ xs) back.whole ∙ sym (append_assoc front.left back.left back.right);
+            whole_in_first = part_is n wanted x some keys more front.left front.first whole;
+            whole_in_second = part_is n wanted x some keys second back.left back.first two;
+            whole_in_third = part_is n wanted x some keys third back.right back.second three;
+          }
+          )
+    ]
+
+-- ---- a configuration without entries: three rows do
+
+below_length : {X : Type 0} (xs : List X) (place : ℕ) (x : X) → slice_get xs place ≡ Some x → place < length xs
+below_length [] place x e = absurd cc
+below_length (y ∷ ys) zero x e = omega arith
+below_length (y ∷ ys) (suc place) x e = let later = below_length ys place x e in omega (arith, later)
+
+-- FIG 0/0 is in none of the first frames
+header_late : (missing later : List (List ℕ)) (place : ℕ) (frame : List ℕ) → AllByRecursion SaysNothing missing → slice_get (missing ++ later) place ≡ Some frame → HasHeader frame → length missing ≤ place
+header_late [] later place frame silent got header = omega arith
+header_late (f ∷ fs) later zero frame silent got header =
+    let same : f ≡ frame = cc got in
+    absurd (silent.0.bare (subst HasHeader (sym same) header))
+header_late (f ∷ fs) later (suc place) frame silent got header = let rest = header_late fs later place frame silent.1 got header in omega (arith, rest)
+
+as_many : (fs rs : List (List ℕ)) → AreRows fs rs → length fs ≡ length rs
+as_many [] [] all = refl
+as_many [] (r ∷ rs) all = absurd all
+as_many (f ∷ fs) [] all = absurd all
+as_many (f ∷ fs) (r ∷ rs) all = let rest = as_many fs rs all.1 in omega (arith, rest)
+
+three_rows : (missing later rows : List (List ℕ)) → AllByRecursion SaysNothing missing → AreRows later rows → HasThreeHeaders (missing ++ later) → 3 ≤ length rows
+three_rows missing later rows silent are h =
+    let late = header_late missing later h.first h.in_first.0 silent h.in_first.1 h.in_first.2 in
+    let below = below_length (missing ++ later) h.third h.in_third.0 h.in_third.1 in
+    let both = length-append missing later in
+    let many = as_many later rows are in
+    let second = h.before_second in
+    let third = h.before_third in
+    omega (arith, late, below, both, many, second, third)
+
+none_wanted : (row : List ℕ) (rows : List (List ℕ)) → IsPart [] (row ∷ rows)
+none_wanted row rows = ((λ e. absurd cc), λ x inside. absurd (contains_none x inside))
+
+cut_rows : (rows : List (List ℕ)) → 3 ≤ length rows → IsCutInThree [] rows
+cut_rows [] long = absurd (omega (arith, long))
+cut_rows (a ∷ []) long = absurd (omega (arith, long))
+cut_rows (a ∷ b ∷ []) long = absurd (omega (arith, long))
+cut_rows (a ∷ b ∷ c ∷ rows) long = record {
+  first = a ∷ [];
+  second = b ∷ [];
+  third = c ∷ rows;
+  cut = refl;
+  whole_in_first = none_wanted a [];
+  whole_in_second = none_wanted b [];
+  whole_in_third = none_wanted c rows;
+}
+
+-- ---- the rows of frames that announce a swap are three parts, each of which has the next configuration
+
+pub announced_thrice : (now next : Configuration) (count : ℕ) (heard rows : List (List ℕ)) (wanted : List ℕ) → IsAnnounced now next count heard → IsRowed heard rows → AreKeysOf next wanted
+    → ((m : Marked) → Contains (facts_of next true) m → m.next ≡ true) → IsCutInThree wanted rows
+announced_thrice now next count heard rows [] a h keys marks =
+    cut_rows rows (three_rows h.missing h.later rows h.silent h.are (subst HasThreeHeaders h.whole a.headers))
+announced_thrice now next count heard rows (w ∷ ws) a h keys marks =
+    three_parts next (w ∷ ws) w (contains_front w ws) keys marks h.missing a.first a.second a.third rows h.later (sym h.whole ∙ a.cut) h.silent h.are a.whole_in_first a.whole_in_second a.whole_in_third
+  where
+    contains_front : (x : ℕ) (xs : List ℕ) → Contains (x ∷ xs) x
+    contains_front x xs = (0, omega arith, refl)
