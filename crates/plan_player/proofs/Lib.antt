@@ -15,3 +15,4 @@ pub mod QuietFacts
 mod CountedOn
 mod Together
 mod Stretches
+mod VectorsOfStretches
