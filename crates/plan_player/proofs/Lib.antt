@@ -12,3 +12,7 @@ pub mod Joining
 pub mod OneFrame
 pub mod Quiet
 pub mod QuietFacts
+mod CountedOn
+mod Together
+mod Stretches
+mod VectorsOfStretches

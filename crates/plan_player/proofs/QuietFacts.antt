@@ -1,37 +1,31 @@
 -- What the player's calls need of a quiet frame.
-use Rattle.std.proofs.Common.{◌≡◌, ℕ, ◌≤◌, false, [], ◌∷◌, refl, sym, ap, subst, ◌∙◌}
+use Rattle.std.proofs.Common.{◌≡◌, ℕ, false, [], ◌∷◌, refl, sym, ap, subst, ◌∙◌}
 use Rattle.fib_carousel.specs.Pages.{page_after}
 use Rattle.plan_code.specs.declared.plan.Plan.{Plan}
 use Rattle.plan_code.specs.Program.{Program}
 use Rattle.plan_code.specs.Machine.{State}
 use Rattle.plan_runs.specs.declared.event.Event.TheVariants.{Frame}
 use Rattle.plan_runs.specs.Frames.{is_first_noticed, shown, shown_bytes, sent_entries, sent_rounds, with_next_counts, frame_bytes, after_frame}
-use Rattle.plan_runs.specs.TypedRuns.{CanBeSent}
 use Rattle.plan_player.specs.declared.phase_pages.PhasePages.{PhasePages}
 use Rattle.plan_player.specs.Phase.{Keeps, HasChange, IsGoing}
 use Rattle.plan_player.specs.Playing.{Playing, played}
 use Rattle.plan_player.specs.Quiet.{IsQuiet}
+use Rattle.plan_player.specs.Stretch.{IsPageReady}
 use Rattle.plan_player.proofs.FrameFacts.{frame_ready, lent_goes}
 use Rattle.plan_player.proofs.Quiet.{stays}
 
 -- its page can be sent as the state has it
-pub record IsQuietReady (plan : Plan) (s : State) (pages : PhasePages) : Type 0 where
-  pub sent : CanBeSent plan s
-  pub few : sent_rounds plan s ≤ 60
-  pub keeps : Keeps plan.mode (sent_entries plan s) s.turn pages
-  pub change : HasChange plan.notice s.left s.current s.next pages.change
-
 pub quiet_ready : (p : Program) (plan : Plan) (s : State) (steps : ℕ) (pages : PhasePages) → plan ≡ p.plan → IsGoing p s steps pages → IsQuiet p s
-    → IsQuietReady plan s pages
+    → IsPageReady plan s pages
 quiet_ready p plan s steps pages e h quiet =
     let ready = frame_ready p s steps pages h in
     let now = stays p s quiet in
     let off : is_first_noticed p.plan.notice (shown p s).left ≡ false =
     subst (λ (t : State). is_first_noticed p.plan.notice t.left ≡ false) (sym now.shows) now.no_notice in
-    let there : IsQuietReady p.plan (shown p s) pages =
+    let there : IsPageReady p.plan (shown p s) pages =
     record { sent = ready.sent; few = ready.few; keeps = ready.kept quiet.no_phase; change = ready.change off } in
-    let here : IsQuietReady p.plan s pages = subst (λ (t : State). IsQuietReady p.plan t pages) now.shows there in
-    subst (λ (q : Plan). IsQuietReady q s pages) (sym e) here
+    let here : IsPageReady p.plan s pages = subst (λ (t : State). IsPageReady p.plan t pages) now.shows there in
+    subst (λ (q : Plan). IsPageReady q s pages) (sym e) here
 
 -- the state after it
 quiet_after : (p : Program) (plan : Plan) (s t : State) → plan ≡ p.plan → IsQuiet p s → t ≡ with_next_counts plan s → t ≡ after_frame p s

@@ -38,7 +38,7 @@ use Rattle.plan_player.proofs.FrameFacts.{frame_ready}
 
 -- ---- values shared by these vectors: one sub-channel, at 128 kbit/s and at 96, and a code over it
 
-abbrev plan : Plan
+abbrev pub plan : Plan
 plan = record { eid = 0xe1c5; mode = I; period = 4; notice = 24; budget = 20 }
 
 abbrev with_sub : ℕ → Configuration
@@ -60,7 +60,7 @@ label = record { pc = 0; cur = 0; next = 0; pending = Idle; counters = no_counte
 abbrev line : Instr → Line
 line i = record { number = 1; instr = i }
 
-abbrev waits : Program
+abbrev pub waits : Program
 waits = record {
   plan = plan;
   configurations = with_sub 128 ∷ [];
@@ -87,7 +87,7 @@ first =
       turn = 0;
     }
 
-abbrev second : State
+abbrev pub second : State
 second = after_frame waits first
 
 -- a swap that is due in 23 frames, of which the notice has begun
@@ -123,7 +123,7 @@ abbrev at_page : ℕ → Cursor
 at_page k = record { page = k; position = record { index = 0; state = before_all } }
 
 -- no page was made yet
-abbrev fresh : PhasePages
+abbrev pub fresh : PhasePages
 fresh = record {
   pages = replicate 60 None;
   made = 0;
@@ -135,7 +135,7 @@ fresh = record {
 }
 
 -- the one page was made, and was the last frame
-abbrev kept : PhasePages
+abbrev pub kept : PhasePages
 kept = record {
   pages = Some (page_of 128) ∷ replicate 59 None;
   made = 1;
@@ -361,7 +361,7 @@ not_past_its_pages h = not_at_page_two (record { entries = h.phase.entries; sent
 
 -- ---- before a frame
 
-ready_for_the_second : IsFrameReady waits second kept
+pub ready_for_the_second : IsFrameReady waits second kept
 ready_for_the_second = frame_ready waits second 1 kept going
 
 -- there is no page 1

@@ -25,3 +25,10 @@ pub enum PlayFault {
         bytes: usize,
     },
 }
+
+/// How far playing came where the sink failed: this many frames went out whole, and this many bytes of the one after them.
+#[derive(Clone, Copy, Debug, PartialEq, Eq)]
+pub(crate) struct Cut {
+    pub(crate) frames: u32,
+    pub(crate) bytes: usize,
+}

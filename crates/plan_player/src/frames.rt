@@ -9,18 +9,11 @@ ghost use Rattle.plan_player.specs.Playing.{played};
 ghost use Rattle.plan_player.specs.Delivery.{frames_of, played_bytes, Delivered, Stopped, StoppedBy};
 ghost use Rattle.plan_player.specs.Quiet.{AreQuiet};
 
-use crate::fault::PlayFault;
+use crate::fault::{Cut, PlayFault};
 use crate::player::Player;
 use crate::sink::Sink;
 use mux_config::Store;
 use plan_runs::laws;
-
-/// How far playing came where the sink failed: this many frames went out whole, and this many bytes of the one after them.
-#[derive(Clone, Copy, Debug, PartialEq, Eq)]
-struct Cut {
-    frames: u32,
-    bytes: usize,
-}
 
 /// The headline, of any events.
 fn promise<'a, S: Store>(player: &Player<'a, S>)
@@ -49,12 +42,12 @@ fn play_quiet<'a, S: Store, K: Sink>(
     let plan = player.plan();
     let mut done = 0u32;
     while done < count {
-        match player.put_quiet_frame(&plan, sink) {
-            Ok(()) => done += 1,
-            Err(bytes) => {
+        match player.put_quiet(&plan, count - done, sink) {
+            Ok(made) => done += made,
+            Err(cut) => {
                 return Err(Cut {
-                    frames: done,
-                    bytes,
+                    frames: done + cut.frames,
+                    bytes: cut.bytes,
                 });
             }
         }

@@ -7,6 +7,7 @@
 //! `specs/Quiet.antt` which frames need nothing but their page and their counts.
 #![tactic(auto)]
 
+mod batch;
 pub mod delivery;
 pub mod fault;
 mod frame_step;
@@ -16,6 +17,7 @@ mod machine;
 mod phase_pages;
 pub mod player;
 pub mod sink;
+mod stretch;
 
 pub use delivery::play;
 pub use fault::{PlayFault, StartFault};

@@ -15,20 +15,23 @@ ghost use Rattle.plan_runs.specs.declared.event.Event.TheVariants.{Contact};
 ghost use Rattle.plan_player.specs.Positions.{state_of};
 
 pub(crate) use burst::run;
-pub(crate) use counts::{page_after, pass};
+pub(crate) use counts::{count_after, page_after, pass, pass_many};
 use mux_config::Store;
 pub(crate) use opening::begin;
 use plan_code::{ContactId, Contacts, Hold};
 use plan_runs::Start;
 use plan_verifier::Verified;
 pub(crate) use quiet::quiet_frames;
-pub(crate) use sending::{begin_notice, ensemble, is_first_noticed, next_sent};
+pub(crate) use sending::{
+    Header, begin_notice, ensemble, is_first_noticed, is_on_step, make_header, next_sent,
+};
 
 /// A machine between two steps of a frame: its current and its next configuration in two stores, what it waits for,
 /// and its counts. Contracts see it as a `State`. The steps of a frame are functions of their own: `begin` makes a
 /// swap that is due and ends a hold, `run` carries out the frame's instructions without a test of any trap,
 /// `begin_notice` and `ensemble` give what is sent, and `pass` takes the counts forward. `quiet_frames` says in how
-/// many frames from now on the first three have nothing to do.
+/// many frames from now on the first three have nothing to do; of these `make_header` gives what is sent, and `pass_many`
+/// takes the counts forward.
 #[derive(Drop)]
 pub(crate) struct Machine<S: Store> {
     /// The current configuration.

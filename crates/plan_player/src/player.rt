@@ -1,6 +1,6 @@
 //! The player.
 
-ghost use Rattle.std.specs.Prelude.{◌≡◌, ◌<◌, ◌≤◌, List, [], ◌∷◌, length, take, true, false, Some, None, IfOk, IfErr, OnOk, OnErr};
+ghost use Rattle.std.specs.Prelude.{◌≡◌, ◌<◌, ◌≤◌, List, [], ◌∷◌, length, take, replicate, true, false, Some, None, IfOk, IfErr, OnOk, OnErr};
 ghost use Rattle.std.specs.Result.{result_err};
 ghost use Rattle.std.specs.Io.KnownBytes.{Appends};
 ghost use Rattle.mux_config.specs.Sound.{IsSound};
@@ -15,14 +15,16 @@ ghost use Rattle.plan_runs.specs.RightBytes.{FrameIsRight, IsHeardEachPeriod};
 ghost use Rattle.plan_runs.specs.Headline.{KeepsCount};
 ghost use Rattle.plan_player.specs.Positions.{state_of};
 ghost use Rattle.plan_player.specs.Playing.{start_fault, IsAtStart, played};
-ghost use Rattle.plan_player.specs.Delivery.{next_frame};
+ghost use Rattle.plan_player.specs.Delivery.{next_frame, Delivered, Stopped};
 ghost use Rattle.plan_player.specs.Quiet.{IsQuiet, AreQuiet};
 
-use crate::fault::StartFault;
+use crate::batch::{Batch, MOST_FRAMES};
+use crate::fault::{Cut, StartFault};
 use crate::frame_step::{make_frame, send};
 use crate::machine::{Machine, quiet_frames};
 use crate::phase_pages::PhasePages;
 use crate::sink::{Sink, put_all};
+use crate::stretch::put_stretch;
 use fib_codec::FibFrame;
 use mux_config::Store;
 use plan_code::limits::{COUNTS, FRAMES_A_DAY};
@@ -31,6 +33,9 @@ use plan_runs::{Start, laws};
 use plan_verifier::Verified;
 use std::marker::Model;
 
+/// How many instructions a quiet frame carries out.
+const QUIET_STEPS: u8 = 0;
+
 /// Plays a typed code, frame by frame, with the current and the next configuration in two stores of this type. It
 /// takes no memory, and tests for no trap: a typed code meets none.
 #[derive(Drop)]
@@ -38,6 +43,7 @@ pub struct Player<'a, S: Store> {
     code: &'a Verified,
     machine: Machine<S>,
     pages: PhasePages,
+    batch: Batch,
     steps: u8,
 }
 
@@ -103,6 +109,7 @@ impl<'a, S: Store> Player<'a, S> {
             code,
             machine: Machine::start(code, start),
             pages: PhasePages::new(),
+            batch: Batch::new(),
             steps: 0,
         })
     }
@@ -192,6 +199,45 @@ impl<'a, S: Store> Player<'a, S> {
         send(plan, &mut self.machine, &mut self.pages);
         self.steps = 0;
         put_all(sink, self.pages.frame().bytes())
+    }
+
+    /// Makes the next frames, of which this many at least are quiet, and puts them into the sink: some of these, at least
+    /// one. How many is the result. Where all pages of the phase were made, they go there together.
+    pub(crate) fn put_quiet<K: Sink>(
+        &mut self,
+        plan: &Plan,
+        most: u32,
+        sink: &mut K,
+    ) -> Result<u32, Cut>
+        requires working { K.has_failed sink.old ≡ false }
+        requires plan { plan.now ≡ self.old.code.plan }
+        requires one { 1 ≤ most }
+        requires quiet { AreQuiet self.old.code most self.old.state }
+        ensures done { IfOk result (λ n. Delivered self.old self.new (replicate n Frame)
+            (K.taken sink.old) (K.taken sink.new) n) }
+        ensures some { IfOk result (λ n. (1 ≤ n) × (n ≤ most)) }
+        ensures code { self.new.code ≡ self.old.code }
+        ensures works { OnOk result (K.has_failed sink.new ≡ false) }
+        ensures stopped { IfErr result (λ cut. Stopped self.old self.new (replicate most Frame)
+            (K.taken sink.old) (K.taken sink.new) cut.frames cut.bytes) }
+        ensures fails { OnErr result (K.has_failed sink.new ≡ true) }
+    {
+        if !self.pages.is_whole {
+            return match self.put_quiet_frame(plan, sink) {
+                Ok(()) => Ok(1),
+                Err(bytes) => Err(Cut { frames: 0, bytes }),
+            };
+        }
+        let count = most.min(u32::from(MOST_FRAMES)) as u16;
+        self.steps = QUIET_STEPS;
+        put_stretch(
+            plan,
+            &mut self.machine,
+            &self.pages,
+            &mut self.batch,
+            count,
+            sink,
+        )
     }
 
     /// The current configuration, in every state a sound one.

@@ -1,10 +1,12 @@
 //! What comes last in a frame: the counts are taken forward.
 
-ghost use Rattle.std.specs.Prelude.{◌≡◌, ◌≤◌, ◌+◌, ◌%◌};
+ghost use Rattle.std.specs.Prelude.{◌≡◌, ◌≤◌, ◌<◌, ◌+◌, ◌%◌};
 ghost use Rattle.fib_carousel.specs.Pages.{page_after};
 ghost use Rattle.plan_code.specs.declared.plan.Plan.{Plan};
 ghost use Rattle.plan_runs.specs.Frames.{left_after_frame, hold_after_frame, with_next_counts};
 ghost use Rattle.plan_player.specs.Positions.{state_of};
+ghost use Rattle.plan_player.specs.Quiet.{counted_on};
+ghost use Rattle.plan_player.specs.Stretch.{left_later, hold_later, HasRounds};
 
 use super::Machine;
 use mux_config::Store;
@@ -35,7 +37,7 @@ fn hold_after_frame(hold: Hold) -> Hold
 }
 
 /// The CIF count after this one: 0 again after 4999 (EN 300 401 clause 5.1).
-fn count_after(count: u16) -> u16
+pub(crate) fn count_after(count: u16) -> u16
     ensures { result ≡ (count + 1) % COUNTS }
 {
     if count < COUNTS - 1 {
@@ -77,4 +79,52 @@ pub(crate) fn pass<S: Store>(turn: u8, machine: &mut Machine<S>)
     machine.count = count_after(machine.count);
     machine.day = day_after(machine.day);
     machine.turn = turn;
+}
+
+/// The frames until the swap, this many frames later.
+fn left_later(left: Option<u16>, frames: u16) -> Option<u16>
+    ensures { result ≡ left_later frames left }
+{
+    match left {
+        None => None,
+        Some(left) => Some(left.saturating_sub(frames)),
+    }
+}
+
+/// What is waited for, this many frames later.
+fn hold_later(hold: Hold, frames: u16) -> Hold
+    ensures { result ≡ hold_later frames hold }
+{
+    match hold {
+        Hold::Waits(left) => Hold::Waits(left.saturating_sub(frames)),
+        Hold::WaitsDay(frame) => Hold::WaitsDay(frame),
+        Hold::WaitsContact { contact, closed } => Hold::WaitsContact { contact, closed },
+        Hold::WaitsSwap => Hold::WaitsSwap,
+        Hold::Ended => Hold::Ended,
+    }
+}
+
+/// The page in turn this many frames after page k, where there are this many pages.
+fn page_later(pages: u8, page: u8, frames: u16) -> u8
+    requires { page < pages }
+    ensures { result ≡ (page + frames) % pages }
+{
+    ((u32::from(page) + u32::from(frames)) % u32::from(pages)) as u8
+}
+
+/// Ends this many frames at once, at least one, where what is sent takes this many pages in each of them.
+pub(crate) fn pass_many<S: Store>(pages: u8, frames: u16, machine: &mut Machine<S>)
+    requires some { 1 ≤ frames }
+    requires within { machine.old.turn < pages }
+    ensures { (plan : Plan) → HasRounds plan frames (state_of S.content machine.old) pages
+        → state_of S.content machine.new ≡
+        counted_on plan frames (state_of S.content machine.old) }
+{
+    let count = u32::from(machine.count) + u32::from(frames);
+    let day = u64::from(machine.day) + u64::from(frames);
+    machine.left = left_later(machine.left, frames);
+    machine.hold = hold_later(machine.hold, frames);
+    machine.count = (count % u32::from(COUNTS)) as u16;
+    machine.day = (day % u64::from(FRAMES_A_DAY)) as u32;
+    machine.turn = page_later(pages, machine.turn, frames);
 }

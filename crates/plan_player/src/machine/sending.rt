@@ -7,6 +7,7 @@ ghost use Rattle.fib_codec.specs.Modes.{count_step};
 ghost use Rattle.fib_codec.specs.Ranges.{IsEnsembleInformation};
 ghost use Rattle.plan_runs.specs.Frames.{is_noticed, is_first_noticed, low_of_swap, announced_next, ensemble_sent};
 ghost use Rattle.plan_player.specs.Positions.{state_of, with_notice_begun};
+ghost use Rattle.plan_player.specs.Stretch.{header_of, ensemble_at};
 
 use super::Machine;
 use mux_config::{Ensemble, Store};
@@ -70,7 +71,7 @@ fn low_of_swap(count: u16, left: Option<u16>) -> u8
 }
 
 /// Whether FIG 0/0 is sent in a frame of this CIF count: the mode's step divides it.
-fn is_on_step(mode: Mode, count: u16) -> bool
+pub(crate) fn is_on_step(mode: Mode, count: u16) -> bool
     ensures { result ≡ (count % count_step mode == 0) }
 {
     match mode {
@@ -78,6 +79,47 @@ fn is_on_step(mode: Mode, count: u16) -> bool
         Mode::II => true,
         Mode::III => true,
         Mode::IV => count % 2 == 0,
+    }
+}
+
+/// What FIG 0/0 says in a frame of a notice and in the frames after it up to the swap, or in frames outside a notice: all
+/// but the CIF count (EN 300 401 clause 6.4).
+#[derive(Clone, Copy, Debug, PartialEq, Eq)]
+pub(crate) struct Header {
+    eid: u16,
+    change: u8,
+    swap: Option<u8>,
+}
+
+impl Header {
+    /// The FIG 0/0 of a frame of this CIF count. Its fields must be within their bits.
+    pub(crate) fn at(self, count: u16) -> Ensemble
+        requires { IsEnsembleInformation (ensemble_at self count) }
+        ensures { result ≡ ensemble_at self count }
+    {
+        Ensemble::new(self.eid, self.change, false, count, self.swap).unwrap()
+    }
+}
+
+/// What FIG 0/0 says but for the count: the change flags and the low part of the count of the swap in a notice, neither
+/// elsewhere. In a notice `change` has to be the flags of what the swap changes.
+pub(crate) fn make_header<S: Store>(plan: &Plan, machine: &Machine<S>, change: u8) -> Header
+    requires { is_noticed plan.now.notice machine.now.left ≡ true →
+        change ≡ bits_of (change_of (S.content machine.now.current)
+        (S.content machine.now.next)) }
+    ensures { result ≡ header_of plan.now (state_of S.content machine.now) }
+{
+    if is_noticed(plan.notice, machine.left) {
+        return Header {
+            eid: machine.eid,
+            change,
+            swap: Some(low_of_swap(machine.count, machine.left)),
+        };
+    }
+    Header {
+        eid: machine.eid,
+        change: 0,
+        swap: None,
     }
 }
 

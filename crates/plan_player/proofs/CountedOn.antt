@@ -1,0 +1,127 @@
+-- The counts taken forward by frames, one after another or many at once.
+use Rattle.std.proofs.Common.{◌≡◌, ℕ, zero, suc, ◌+◌, ◌-◌, ◌%◌, ◌<◌, ◌≤◌, Bool, true, false, cond, ltb, List, [], ◌∷◌, ◌++◌, Option, Some, None, refl, sym, ap, subst, ◌∙◌, arith}
+use Rattle.std.proofs.lemmas.Bool.{ltb-true, ltb-false}
+use Rattle.std.proofs.Math.Nat.{mod-eq_of_lt, mod-add-mod, mod_self, mod-lt}
+use Rattle.mux_entries.specs.declared.limits.TheConstants.{COUNTS}
+use Rattle.fib_carousel.specs.Pages.{page_after}
+use Rattle.plan_code.specs.declared.hold.Hold.{Hold}
+use Rattle.plan_code.specs.declared.hold.Hold.TheVariants.{Waits, WaitsDay, WaitsContact, WaitsSwap, Ended}
+use Rattle.plan_code.specs.declared.limits.TheConstants.{FRAMES_A_DAY}
+use Rattle.plan_code.specs.declared.plan.Plan.{Plan}
+use Rattle.plan_code.specs.Machine.{State}
+use Rattle.plan_runs.specs.Frames.{shown_bytes, sent_rounds, left_after_frame, hold_after_frame, with_next_counts}
+use Rattle.plan_runs.specs.Announced.{notice_frames}
+use Rattle.plan_player.specs.Quiet.{counted_on}
+use Rattle.plan_player.specs.Stretch.{left_later, hold_later, HasRounds}
+
+-- ---- one frame more
+
+pub on_more : (plan : Plan) (k : ℕ) (s : State) → counted_on plan (suc k) s ≡ with_next_counts plan (counted_on plan k s)
+on_more plan zero s = refl
+on_more plan (suc k) s = on_more plan k (with_next_counts plan s)
+
+pub frames_more : (plan : Plan) (k : ℕ) (s : State) → notice_frames plan (suc k) s ≡ notice_frames plan k s ++ shown_bytes plan (counted_on plan k s) ∷ []
+frames_more plan zero s = refl
+frames_more plan (suc k) s = ap (λ (fs : List (List ℕ)). shown_bytes plan s ∷ fs) (frames_more plan k (with_next_counts plan s))
+
+-- ---- each part of the state after k frames
+
+-- all but the counts stays
+pub apart : (plan : Plan) (k : ℕ) (s : State) → counted_on plan k s
+    ≡ (let t : State = counted_on plan k s in
+    let r : State = record s { left = t.left; hold = t.hold; count = t.count; day = t.day; turn = t.turn } in
+    r)
+apart plan zero s = refl
+apart plan (suc k) s = apart plan k (with_next_counts plan s)
+
+left_none : (left : Option ℕ) → left ≡ left_later 0 left
+left_none None = refl
+left_none (Some l) =
+    let same : l ≡ l - 0 = omega arith in
+    ap (λ (k : ℕ). Some k) same
+
+left_step : (n : ℕ) (left : Option ℕ) → left_later n (left_after_frame left) ≡ left_later (suc n) left
+left_step n None = refl
+left_step n (Some l) =
+    let same : l - 1 - n ≡ l - suc n = omega arith in
+    ap (λ (k : ℕ). Some k) same
+
+pub left_on : (plan : Plan) (k : ℕ) (s : State) → (counted_on plan k s).left ≡ left_later k s.left
+left_on plan zero s = left_none s.left
+left_on plan (suc k) s = left_on plan k (with_next_counts plan s) ∙ left_step k s.left
+
+hold_none : (hold : Hold) → hold ≡ hold_later 0 hold
+hold_none (Waits n) =
+    let same : n ≡ n - 0 = omega arith in
+    ap (λ (k : ℕ). Waits k) same
+hold_none (WaitsDay t) = refl
+hold_none (WaitsContact c closed) = refl
+hold_none WaitsSwap = refl
+hold_none Ended = refl
+
+hold_step : (n : ℕ) (hold : Hold) → hold_later n (hold_after_frame hold) ≡ hold_later (suc n) hold
+hold_step n (Waits m) =
+    let same : m - 1 - n ≡ m - suc n = omega arith in
+    ap (λ (k : ℕ). Waits k) same
+hold_step n (WaitsDay t) = refl
+hold_step n (WaitsContact c closed) = refl
+hold_step n WaitsSwap = refl
+hold_step n Ended = refl
+
+hold_on : (plan : Plan) (k : ℕ) (s : State) → (counted_on plan k s).hold ≡ hold_later k s.hold
+hold_on plan zero s = hold_none s.hold
+hold_on plan (suc k) s = hold_on plan k (with_next_counts plan s) ∙ hold_step k s.hold
+
+wraps_later : (c k m : ℕ) → ((c + 1) % m + suc k) % m ≡ (c + suc (suc k)) % m
+wraps_later c k m =
+    let same : c + 1 + suc k ≡ c + suc (suc k) = omega arith in
+    mod-add-mod (c + 1) m (suc k) ∙ ap (λ (x : ℕ). x % m) same
+
+pub count_on : (plan : Plan) (k : ℕ) (s : State) → (counted_on plan (suc k) s).count ≡ (s.count + suc k) % COUNTS
+count_on plan zero s = refl
+count_on plan (suc k) s = count_on plan k (with_next_counts plan s) ∙ wraps_later s.count k COUNTS
+
+day_on : (plan : Plan) (k : ℕ) (s : State) → (counted_on plan (suc k) s).day ≡ (s.day + suc k) % FRAMES_A_DAY
+day_on plan zero s = refl
+day_on plan (suc k) s = day_on plan k (with_next_counts plan s) ∙ wraps_later s.day k FRAMES_A_DAY
+
+turns_by : (pages turn : ℕ) → turn < pages → (b : Bool) → ltb (turn + 1) pages ≡ b → cond b (turn + 1) 0 ≡ (turn + 1) % pages
+turns_by pages turn lt true e = sym (mod-eq_of_lt (ltb-true (turn + 1) pages e))
+turns_by pages turn lt false e =
+    let past = ltb-false (turn + 1) pages e in
+    let last : turn + 1 ≡ pages = omega (arith, lt, past) in
+    sym (ap (λ (x : ℕ). x % pages) last ∙ mod_self pages)
+
+turns : (pages turn : ℕ) → turn < pages → page_after pages turn ≡ (turn + 1) % pages
+turns pages turn lt = turns_by pages turn lt (ltb (turn + 1) pages) refl
+
+pub turn_on : (plan : Plan) (k pages : ℕ) (s : State) → s.turn < pages → HasRounds plan k s pages → (counted_on plan k s).turn ≡ (s.turn + k) % pages
+turn_on plan zero pages s lt rounds =
+    let same : s.turn + 0 ≡ s.turn = omega arith in
+    sym (ap (λ (x : ℕ). x % pages) same ∙ mod-eq_of_lt lt)
+turn_on plan (suc k) pages s lt rounds =
+    let first : sent_rounds plan s ≡ pages = rounds 0 (omega arith) in
+    let next : (with_next_counts plan s).turn ≡ (s.turn + 1) % pages = ap (λ (r : ℕ). page_after r s.turn) first ∙ turns pages s.turn lt in
+    let some : 0 < pages = omega (arith, lt) in
+    let within : (with_next_counts plan s).turn < pages = subst (λ (x : ℕ). x < pages) (sym next) (mod-lt (s.turn + 1) some) in
+    let later : HasRounds plan k (with_next_counts plan s) pages = λ j below. rounds (suc j) (omega (arith, below)) in
+    let same : s.turn + 1 + k ≡ s.turn + suc k = omega arith in
+    turn_on plan k pages (with_next_counts plan s) within later
+    ∙ ap (λ (x : ℕ). (x + k) % pages) next
+    ∙ mod-add-mod (s.turn + 1) pages k
+    ∙ ap (λ (x : ℕ). x % pages) same
+
+-- ---- all parts at once
+
+pub passed : (plan : Plan) (n pages : ℕ) (s : State) → 1 ≤ n → s.turn < pages → HasRounds plan n s pages
+    → (let r : State = record s { left = left_later n s.left; hold = hold_later n s.hold; count = (s.count + n) % COUNTS; day = (s.day + n) % FRAMES_A_DAY; turn = (s.turn + n) % pages } in
+    r ≡ counted_on plan n s)
+passed plan zero pages s some lt rounds = absurd (omega (arith, some))
+passed plan (suc k) pages s some lt rounds =
+    let n : ℕ = suc k in
+    let t : State = counted_on plan n s in
+    let before : State = record s { left = t.left; hold = t.hold; count = t.count; day = t.day; turn = t.turn } in
+    let after : State = record s { left = left_later n s.left; hold = hold_later n s.hold; count = (s.count + n) % COUNTS; day = (s.day + n) % FRAMES_A_DAY; turn = (s.turn + n) % pages } in
+    let parts : before ≡ after =
+    λ i. record s { left = left_on plan n s i; hold = hold_on plan n s i; count = count_on plan k s i; day = day_on plan k s i; turn = turn_on plan n pages s lt rounds i } in
+    sym (apart plan n s ∙ parts)

@@ -1,0 +1,193 @@
+-- What the player's calls need of quiet frames that go to a sink together.
+use Rattle.std.specs.Prelude.{replicate, Result, Ok, Err, IfOk, IfErr, OnOk}
+use Rattle.std.proofs.Common.{◌≡◌, ℕ, zero, suc, ◌+◌, ◌-◌, ◌<◌, ◌≤◌, true, false, List, [], ◌∷◌, ◌++◌, length, take, Option, Some, None, refl, sym, ap, subst, ◌∙◌, arith}
+use Rattle.std.specs.List.{concat}
+use Rattle.std.specs.Io.KnownBytes.{Appends}
+use Rattle.std.proofs.lemmas.Bool.{eqb-false}
+use Rattle.plan_code.specs.declared.plan.Plan.{Plan}
+use Rattle.plan_code.specs.Program.{Program}
+use Rattle.plan_code.specs.Machine.{State}
+use Rattle.plan_runs.specs.declared.event.Event.{Event}
+use Rattle.plan_runs.specs.declared.event.Event.TheVariants.{Frame}
+use Rattle.plan_runs.specs.Frames.{is_due, is_first_noticed, left_after_frame, shown_bytes, sent_entries, sent_rounds, with_next_counts, frame_bytes, after_frame}
+use Rattle.plan_runs.specs.Runs.{run, run_frames}
+use Rattle.plan_runs.specs.Announced.{notice_frames}
+use Rattle.plan_player.specs.declared.fault.Cut.{Cut}
+use Rattle.plan_player.specs.declared.phase_pages.PhasePages.{PhasePages}
+use Rattle.plan_player.specs.Phase.{IsGoing}
+use Rattle.plan_player.specs.Playing.{Playing, last_steps, played}
+use Rattle.plan_player.specs.Delivery.{played_bytes, next_frame, Delivered, Stopped}
+use Rattle.plan_player.specs.Quiet.{IsQuiet, AreQuiet, counted_on, SwapIsAway}
+use Rattle.plan_player.specs.Stretch.{IsStretch, IsCut}
+use Rattle.plan_player.proofs.Keeping.{turned}
+use Rattle.plan_player.proofs.Quiet.{stays, quiet_frames_are_copied}
+use Rattle.plan_player.proofs.QuietFacts.{quiet_ready, quiet_goes}
+use Rattle.plan_player.proofs.OneFrame.{all_frames}
+use Rattle.plan_player.proofs.Joining.{replicate_more, stopped_before}
+
+-- ---- fewer of them, and each of them
+
+pub fewer_quiet : (p : Program) (m n : ℕ) (s : State) → n ≤ m → AreQuiet p m s → AreQuiet p n s
+fewer_quiet p m zero s le quiet = tt
+fewer_quiet p zero (suc n) s le quiet = absurd (omega (arith, le))
+fewer_quiet p (suc m) (suc n) s le quiet = (quiet.0, fewer_quiet p m n (after_frame p s) (omega (arith, le)) quiet.1)
+
+quiet_on : (p : Program) (m : ℕ) (s : State) → IsQuiet p s → AreQuiet p m (after_frame p s) → AreQuiet p m (with_next_counts p.plan s)
+quiet_on p m s now later = subst (λ (t : State). AreQuiet p m t) (stays p s now).after later
+
+pub quiet_at : (p : Program) (n k : ℕ) (s : State) → k < n → AreQuiet p n s → IsQuiet p (counted_on p.plan k s)
+quiet_at p zero k s lt quiet = absurd (omega (arith, lt))
+quiet_at p (suc n) zero s lt quiet = quiet.0
+quiet_at p (suc n) (suc k) s lt quiet = quiet_at p n k (with_next_counts p.plan s) (omega (arith, lt)) (quiet_on p n s quiet.0 quiet.1)
+
+-- ---- the swap is away
+
+away_more : (notice n : ℕ) (left : Option ℕ) → is_due left ≡ false → is_first_noticed notice left ≡ false → SwapIsAway notice (left_after_frame left) n → SwapIsAway notice left (suc n)
+away_more notice n None due first away = tt
+away_more notice n (Some l) due first away =
+    let some = eqb-false l 0 due in
+    let apart = eqb-false l notice first in
+    (omega (arith, some, away.0), λ from. omega (arith, some, apart, from, away.1 (omega (arith, some, apart, from))))
+
+none_away : (notice : ℕ) (left : Option ℕ) → SwapIsAway notice left 0
+none_away notice None = tt
+none_away notice (Some l) = (omega arith, λ from. omega (arith, from))
+
+swap_away : (p : Program) (n : ℕ) (s : State) → AreQuiet p n s → SwapIsAway p.plan.notice s.left n
+swap_away p zero s quiet = none_away p.plan.notice s.left
+swap_away p (suc n) s quiet =
+    away_more p.plan.notice n s.left quiet.0.no_swap (stays p s quiet.0).no_notice
+    (swap_away p n (with_next_counts p.plan s) (quiet_on p n s quiet.0 quiet.1))
+
+-- ---- what holds between them
+
+next_goes : (p : Program) (s : State) (steps : ℕ) (pages : PhasePages) → pages.is_whole ≡ true → IsGoing p s steps pages → IsQuiet p s → IsGoing p (with_next_counts p.plan s) 0 pages
+next_goes p s steps pages whole h quiet =
+    let ready = quiet_ready p p.plan s steps pages refl h quiet in
+    let made = ready.keeps.all whole in
+    let keeps = turned p.plan.mode (sent_entries p.plan s) s.turn (sent_rounds p.plan s) pages ready.keeps (omega (arith, made, ready.sent.turn)) in
+    quiet_goes p p.plan s (with_next_counts p.plan s) steps pages pages refl h quiet refl keeps refl
+
+pub going_on : (p : Program) (n k : ℕ) (s : State) (steps : ℕ) (pages : PhasePages) → k ≤ n → pages.is_whole ≡ true → IsGoing p s steps pages → AreQuiet p n s → IsGoing p (counted_on p.plan k s) 0 pages
+going_on p n zero s steps pages le whole h quiet = record { played = h.played; phase = h.phase; within = omega arith }
+going_on p zero (suc k) s steps pages le whole h quiet = absurd (omega (arith, le))
+going_on p (suc n) (suc k) s steps pages le whole h quiet =
+    going_on p n k (with_next_counts p.plan s) 0 pages (omega (arith, le)) whole (next_goes p s steps pages whole h quiet.0) (quiet_on p n s quiet.0 quiet.1)
+
+pub stretch : (p : Program) (plan : Plan) (n : ℕ) (s : State) (steps : ℕ) (pages : PhasePages) → plan ≡ p.plan → pages.is_whole ≡ true → IsGoing p s steps pages → AreQuiet p n s → IsStretch plan n s pages
+stretch p plan n s steps pages e whole h quiet =
+    let here : IsStretch p.plan n s pages = record {
+      whole = whole;
+      away = swap_away p n s quiet;
+      ready = λ k lt. quiet_ready p p.plan (counted_on p.plan k s) 0 pages refl (going_on p n k s steps pages (omega (arith, lt)) whole h quiet) (quiet_at p n k s lt quiet);
+    } in
+    subst (λ (q : Plan). IsStretch q n s pages) (sym e) here
+
+-- ---- the player after them
+
+steps_on : (p : Program) (n : ℕ) (s : State) (steps : ℕ) → 1 ≤ n → AreQuiet p n s → last_steps p s steps (replicate n Frame) ≡ 0
+steps_on p zero s steps some quiet = absurd (omega (arith, some))
+steps_on p (suc n) s steps some quiet = (quiet_frames_are_copied p (suc n) s quiet).no_steps
+
+pub played_on : (p : Program) (n : ℕ) (s : State) (steps : ℕ) → 1 ≤ n → AreQuiet p n s
+    → (let old : Playing = record { code = p; state = s; steps = steps } in
+    let new : Playing = record { code = p; state = counted_on p.plan n s; steps = 0 } in
+    new ≡ played old (replicate n Frame))
+played_on p n s steps some quiet =
+    let copied = quiet_frames_are_copied p n s quiet in
+    ap (λ (t : State). let r : Playing = record { code = p; state = t; steps = 0 } in r) (sym copied.state)
+    ∙ ap (λ (k : ℕ). let r : Playing = record { code = p; state = run p s (replicate n Frame); steps = k } in r) (sym (steps_on p n s steps some quiet))
+
+bytes_on : (p : Program) (n : ℕ) (s : State) → AreQuiet p n s → concat (notice_frames p.plan n s) ≡ concat (run_frames p s (replicate n Frame))
+bytes_on p n s quiet = ap (λ (fs : List (List ℕ)). concat fs) (sym (quiet_frames_are_copied p n s quiet).frames)
+
+pub stretch_delivered : (p : Program) (n : ℕ) (s t : State) (steps : ℕ) (x y : Option (List ℕ)) → 1 ≤ n → AreQuiet p n s → t ≡ counted_on p.plan n s → Appends x y (concat (notice_frames p.plan n s))
+    → (let old : Playing = record { code = p; state = s; steps = steps } in
+    let new : Playing = record { code = p; state = t; steps = 0 } in
+    Delivered old new (replicate n Frame) x y n)
+stretch_delivered p n s t steps x y some quiet state out = record {
+  state = ap (λ (u : State). let r : Playing = record { code = p; state = u; steps = 0 } in r) state ∙ played_on p n s steps some quiet;
+  out = subst (λ (l : List ℕ). Appends x y l) (bytes_on p n s quiet) out;
+  whole = all_frames p s n;
+}
+
+-- ---- the sink failed in one of them
+
+pub stretch_stopped : (p : Program) (n : ℕ) (s t : State) (steps : ℕ) (x y : Option (List ℕ)) (frames bytes : ℕ) → AreQuiet p n s → IsCut p.plan n s t x y frames bytes
+    → (let old : Playing = record { code = p; state = s; steps = steps } in
+    let new : Playing = record { code = p; state = t; steps = 0 } in
+    Stopped old new (replicate n Frame) x y frames bytes)
+stretch_stopped p n s t steps x y frames bytes quiet cut =
+    let old : Playing = record { code = p; state = s; steps = steps } in
+    let done : List Event = replicate frames Frame in
+    let r : ℕ = n - suc frames in
+    let at : State = counted_on p.plan frames s in
+    let before = fewer_quiet p n frames s (omega (arith, cut.few)) quiet in
+    let upto = fewer_quiet p n (suc frames) s (omega (arith, cut.few)) quiet in
+    let copied = quiet_frames_are_copied p frames s before in
+    let next : shown_bytes p.plan at ≡ next_frame (played old done) =
+    sym (stays p at (quiet_at p n frames s cut.few quiet)).bytes ∙ ap (λ (u : State). frame_bytes p u) (sym copied.state) in
+    let all : frames + suc r ≡ n = omega (arith, cut.few) in
+    let one : frames + 1 ≡ suc frames = omega arith in
+    let last : replicate (suc frames) Frame ≡ done ++ Frame ∷ [] = ap (λ (k : ℕ). replicate k Frame) (sym one) ∙ replicate_more frames 1 in
+    let text : concat (notice_frames p.plan frames s) ++ take bytes (shown_bytes p.plan at) ≡ played_bytes old done ++ take bytes (next_frame (played old done)) =
+    ap (λ (l : List ℕ). l ++ take bytes (shown_bytes p.plan at)) (bytes_on p frames s before)
+    ∙ ap (λ (l : List ℕ). played_bytes old done ++ take bytes l) next in
+    record {
+      done = done;
+      rest = replicate r Frame;
+      cut = ap (λ (k : ℕ). replicate k Frame) (sym all) ∙ replicate_more frames (suc r);
+      whole = all_frames p s frames;
+      part = subst (λ (l : List ℕ). bytes < length l) next cut.part;
+      state = ap (λ (u : State). let q : Playing = record { code = p; state = u; steps = 0 } in q) cut.state
+          ∙ played_on p (suc frames) s steps (omega arith) upto
+          ∙ ap (λ (l : List Event). played old l) last;
+      out = subst (λ (l : List ℕ). Appends x y l) text cut.out;
+    }
+
+-- ---- what is answered
+
+pub quiet_done : (p : Program) (plan : Plan) (n : ℕ) (s t : State) (steps : ℕ) (x y : Option (List ℕ)) (r : Result ℕ Cut) → plan ≡ p.plan → 1 ≤ n → AreQuiet p n s
+    → IfOk r (λ k. k ≡ n) → OnOk r (t ≡ counted_on plan n s) → OnOk r (Appends x y (concat (notice_frames plan n s)))
+    → (let old : Playing = record { code = p; state = s; steps = steps } in
+    let new : Playing = record { code = p; state = t; steps = 0 } in
+    IfOk r (λ k. Delivered old new (replicate k Frame) x y k))
+quiet_done p plan n s t steps x y (Err cut) e some quiet all state out = tt
+quiet_done p plan n s t steps x y (Ok m) e some quiet all state out =
+    let old : Playing = record { code = p; state = s; steps = steps } in
+    let new : Playing = record { code = p; state = t; steps = 0 } in
+    let whole = stretch_delivered p n s t steps x y some quiet (subst (λ (q : Plan). t ≡ counted_on q n s) e state) (subst (λ (q : Plan). Appends x y (concat (notice_frames q n s))) e out) in
+    subst (λ (k : ℕ). Delivered old new (replicate k Frame) x y k) (sym all) whole
+
+pub quiet_stopped : (p : Program) (plan : Plan) (m n : ℕ) (s t : State) (steps : ℕ) (x y : Option (List ℕ)) (r : Result ℕ Cut) → plan ≡ p.plan → n ≤ m → AreQuiet p n s
+    → IfErr r (λ cut. IsCut plan n s t x y cut.frames cut.bytes)
+    → (let old : Playing = record { code = p; state = s; steps = steps } in
+    let new : Playing = record { code = p; state = t; steps = 0 } in
+    IfErr r (λ cut. Stopped old new (replicate m Frame) x y cut.frames cut.bytes))
+quiet_stopped p plan m n s t steps x y (Ok k) e le quiet cut = tt
+quiet_stopped p plan m n s t steps x y (Err c) e le quiet cut =
+    let old : Playing = record { code = p; state = s; steps = steps } in
+    let new : Playing = record { code = p; state = t; steps = 0 } in
+    let here = stretch_stopped p n s t steps x y c.frames c.bytes quiet (subst (λ (q : Plan). IsCut q n s t x y c.frames c.bytes) e cut) in
+    let all : n + (m - n) ≡ m = omega (arith, le) in
+    let more : replicate n Frame ++ replicate (m - n) Frame ≡ replicate m Frame = sym (replicate_more n (m - n)) ∙ ap (λ (k : ℕ). replicate k Frame) all in
+    subst (λ (l : List Event). Stopped old new l x y c.frames c.bytes) more (stopped_before old new (replicate n Frame) (replicate (m - n) Frame) x y c.frames c.bytes here)
+
+pub some_quiet : (m n : ℕ) (r : Result ℕ Cut) → 1 ≤ n → n ≤ m → IfOk r (λ k. k ≡ n) → IfOk r (λ k. (1 ≤ k) × (k ≤ m))
+some_quiet m n (Err cut) some le all = tt
+some_quiet m n (Ok k) some le all = (omega (arith, some, all), omega (arith, le, all))
+
+pub goes_quiet : (p : Program) (plan : Plan) (n k : ℕ) (s t : State) (steps : ℕ) (pages : PhasePages) → plan ≡ p.plan → k ≤ n → pages.is_whole ≡ true → IsGoing p s steps pages → AreQuiet p n s → t ≡ counted_on plan k s → IsGoing p t 0 pages
+goes_quiet p plan n k s t steps pages e le whole h quiet state =
+    let at : t ≡ counted_on p.plan k s = state ∙ ap (λ (q : Plan). counted_on q k s) e in
+    subst (λ (u : State). IsGoing p u 0 pages) (sym at) (going_on p n k s steps pages le whole h quiet)
+
+-- after some of them the others are quiet
+pub quiet_rest : (p : Program) (n k : ℕ) (s : State) → k ≤ n → AreQuiet p n s → AreQuiet p (n - k) (run p s (replicate k Frame))
+quiet_rest p n zero s le quiet =
+    let same : n ≡ n - 0 = omega arith in
+    subst (λ (m : ℕ). AreQuiet p m s) same quiet
+quiet_rest p zero (suc k) s le quiet = absurd (omega (arith, le))
+quiet_rest p (suc n) (suc k) s le quiet =
+    let same : n - k ≡ suc n - suc k = omega arith in
+    subst (λ (m : ℕ). AreQuiet p m (run p (after_frame p s) (replicate k Frame))) same (quiet_rest p n k (after_frame p s) (omega (arith, le)) quiet.1)

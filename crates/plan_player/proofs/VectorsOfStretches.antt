@@ -1,0 +1,100 @@
+-- Quiet frames that go to a sink together: each definition where it holds, and where it fails.
+use Rattle.std.proofs.Common.{◌≡◌, ℕ, zero, suc, ◌<◌, false, true, List, [], take, Option, Some, None, refl, arith}
+use Rattle.fib_codec.specs.declared.modes.Mode.TheVariants.{I}
+use Rattle.plan_code.specs.declared.hold.Hold.TheVariants.{Waits, Ended}
+use Rattle.plan_code.specs.Machine.{State}
+use Rattle.plan_runs.specs.Frames.{shown, shown_bytes}
+use Rattle.plan_player.specs.declared.machine.sending.Header.{Header}
+use Rattle.plan_player.specs.Quiet.{counted_on}
+use Rattle.plan_player.specs.Stretch.{header_of, ensemble_at, headed_at, IsPageReady, IsStretch, IsCut, left_later, hold_later, HasRounds}
+use Rattle.plan_player.proofs.VectorsOfPhases.{plan, waits, second, fresh, kept, ready_for_the_second}
+
+-- ---- the counts
+
+two_left : left_later 3 (Some 5) ≡ Some 2
+two_left = refl
+
+not_three_left : left_later 3 (Some 5) ≡ Some 3 → ⊥
+not_three_left e = absurd cc
+
+waits_over : hold_later 9 (Waits 5) ≡ Waits 0
+waits_over = refl
+
+not_ended : hold_later 9 (Waits 5) ≡ Ended → ⊥
+not_ended e = absurd cc
+
+-- ---- FIG 0/0
+
+abbrev at : State
+at = shown waits second
+
+abbrev before_swap : ℕ → State
+before_swap left = record at { left = Some left; count = 4990 }
+
+unflagged : header_of plan (before_swap 25) ≡ record { eid = 0xe1c5; change = 0; swap = None }
+unflagged = refl
+
+-- the swap comes at count 10
+flagged : (header_of plan (before_swap 20)).swap ≡ Some 10
+flagged = refl
+
+not_at_the_next : (header_of plan (before_swap 20)).swap ≡ Some 11 → ⊥
+not_at_the_next e = absurd cc
+
+abbrev header : Header
+header = record { eid = 0xe1c5; change = 0; swap = None }
+
+on_step : headed_at I header 8 ≡ Some (ensemble_at header 8)
+on_step = refl
+
+off_step : headed_at I header 9 ≡ Some (ensemble_at header 9) → ⊥
+off_step e = absurd cc
+
+its_count : (ensemble_at header 8).count ≡ 8
+its_count = refl
+
+no_other_count : (ensemble_at header 8).count ≡ 9 → ⊥
+no_other_count e = omega (arith, e)
+
+-- ---- the frames
+
+page_ready : IsPageReady plan at kept
+page_ready = record {
+  sent = ready_for_the_second.sent;
+  few = ready_for_the_second.few;
+  keeps = ready_for_the_second.kept refl;
+  change = ready_for_the_second.change refl;
+}
+
+-- there is no page 1
+no_page_one : IsPageReady plan (record at { turn = 1 }) kept → ⊥
+no_page_one h = let e : 1 < 1 = h.sent.turn in omega (arith, e)
+
+each_ready : (k : ℕ) → k < 1 → IsPageReady plan (counted_on plan k at) kept
+each_ready zero lt = page_ready
+each_ready (suc k) lt = absurd (omega (arith, lt))
+
+one_frame : IsStretch plan 1 at kept
+one_frame = record { whole = refl; away = tt; ready = each_ready }
+
+-- the page was not made yet
+not_made : IsStretch plan 1 at fresh → ⊥
+not_made h = let e : false ≡ true = h.whole in absurd cc
+
+one_page : HasRounds plan 1 at 1
+one_page = each
+  where
+    each : HasRounds plan 1 at 1
+    each zero lt = refl
+    each (suc k) lt = absurd (omega (arith, lt))
+
+not_two_pages : HasRounds plan 1 at 2 → ⊥
+not_two_pages h = let e : 1 ≡ 2 = h 0 (omega arith) in omega (arith, e)
+
+-- the sink took five bytes of the frame
+five_bytes : IsCut plan 1 at (counted_on plan 1 at) (Some []) (Some (take 5 (shown_bytes plan at))) 0 5
+five_bytes = record { few = omega arith; part = omega arith; state = refl; out = refl }
+
+-- there is no frame after it
+no_second_frame : (before after : Option (List ℕ)) → IsCut plan 1 at (counted_on plan 2 at) before after 1 5 → ⊥
+no_second_frame before after h = let e : 1 < 1 = h.few in omega (arith, e)

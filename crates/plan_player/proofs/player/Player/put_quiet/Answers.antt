@@ -1,0 +1,148 @@
+use Rattle.std.proofs.Common.{◌≡◌, ◌+◌, ◌++◌, ◌-◌, ◌≤◌, ℕ, suc, List, replicate, true, IfOk, IfErr, refl, sym, ap, subst, ◌∙◌, arith}
+use Rattle.plan_code.specs.Machine.{State}
+use Rattle.plan_runs.specs.declared.event.Event.{Event}
+use Rattle.plan_runs.specs.declared.event.Event.TheVariants.{Frame}
+use Rattle.plan_player.specs.Playing.{Playing}
+use Rattle.plan_player.specs.Delivery.{Delivered, Stopped}
+use Rattle.plan_player.specs.Positions.{state_of}
+use Rattle.plan_player.specs.Quiet.{AreQuiet}
+use Rattle.plan_player.proofs.OneFrame.{one_delivered, one_stopped, first_quiet}
+use Rattle.plan_player.proofs.Joining.{stopped_before, replicate_more}
+use Rattle.plan_player.proofs.Stretches.{fewer_quiet, stretch, quiet_done, quiet_stopped, some_quiet, goes_quiet}
+use Rattle.plan_player.proofs.player.Player.put_quiet.Goals as goal
+
+pub same-self : goal.same-self
+same-self g c = refl
+
+pub put_quiet_frame-requires-clause-working : goal.put_quiet_frame-requires-clause-working
+put_quiet_frame-requires-clause-working g c = c.requires.working
+
+pub put_quiet_frame-requires-clause-plan : goal.put_quiet_frame-requires-clause-plan
+put_quiet_frame-requires-clause-plan g c = c.requires.plan
+
+pub put_quiet_frame-requires-clause-quiet : goal.put_quiet_frame-requires-clause-quiet
+put_quiet_frame-requires-clause-quiet g c =
+    let p : Playing = c.args.self.now in
+    let m : ℕ = c.args.most - 1 in
+    let next : c.args.most ≡ suc m = omega (arith, c.requires.one) in
+    (first_quiet p.code p.state c.args.most m next c.requires.quiet).0
+
+pub returns-in-Ok-clause-done : goal.returns-in-Ok-clause-done
+returns-in-Ok-clause-done g c =
+    let taken = g.K.Sink.taken in
+    let h = c.in-Ok.ensures in
+    one_delivered c.args.self.now c.put_quiet_frame.new.self (taken c.args.sink.now) (taken c.put_quiet_frame.new.sink) h.state h.bytes
+
+pub returns-in-Ok-clause-some : goal.returns-in-Ok-clause-some
+returns-in-Ok-clause-some g c = (omega arith, c.requires.one)
+
+pub returns-in-Ok-clause-code : goal.returns-in-Ok-clause-code
+returns-in-Ok-clause-code g c = ap (λ (x : Playing). x.code) c.in-Ok.ensures.state
+
+pub returns-in-Ok-clause-works : goal.returns-in-Ok-clause-works
+returns-in-Ok-clause-works g c = c.in-Ok.ensures.works
+
+pub returns-in-Err-clause-code : goal.returns-in-Err-clause-code
+returns-in-Err-clause-code g c = ap (λ (x : Playing). x.code) c.in-Err.ensures.state
+
+pub returns-in-Err-clause-stopped : goal.returns-in-Err-clause-stopped
+returns-in-Err-clause-stopped g c =
+    let taken = g.K.Sink.taken in
+    let h = c.in-Err.ensures in
+    let old : Playing = c.args.self.now in
+    let new : Playing = c.put_quiet_frame.new.self in
+    let left : ℕ = c.args.most - 1 in
+    let all : 1 + left ≡ c.args.most = omega (arith, c.requires.one) in
+    let cut : replicate 1 Frame ++ replicate left Frame ≡ replicate c.args.most Frame = sym (replicate_more 1 left) ∙ ap (λ (m : ℕ). replicate m Frame) all in
+    let one = one_stopped old new (taken c.args.sink.now) (taken c.put_quiet_frame.new.sink) c.in-Err.bytes h.state h.bound h.part in
+    subst (λ (l : List Event). Stopped old new l (taken c.args.sink.now) (taken c.put_quiet_frame.new.sink) 0 c.in-Err.bytes) cut
+    (stopped_before old new (replicate 1 Frame) (replicate left Frame) (taken c.args.sink.now) (taken c.put_quiet_frame.new.sink) 0 c.in-Err.bytes one)
+
+pub returns-in-Err-clause-fails : goal.returns-in-Err-clause-fails
+returns-in-Err-clause-fails g c = c.in-Err.ensures.fails
+
+pub overflow_cast-count : goal.overflow_cast-count
+overflow_cast-count g c = omega (arith, c.min-count.ensures, c.from.ensures)
+
+pub put_stretch-requires-clause-one : goal.put_stretch-requires-clause-one
+put_stretch-requires-clause-one g c = omega (arith, c.min-count.ensures, c.from.ensures, c.requires.one)
+
+pub put_stretch-requires-clause-few : goal.put_stretch-requires-clause-few
+put_stretch-requires-clause-few g c = omega (arith, c.min-count.ensures, c.from.ensures)
+
+pub put_stretch-requires-clause-working : goal.put_stretch-requires-clause-working
+put_stretch-requires-clause-working g c = c.requires.working
+
+pub put_stretch-requires-clause-stretch : goal.put_stretch-requires-clause-stretch
+put_stretch-requires-clause-stretch g c =
+    let i = c.self.inside in
+    let n : ℕ = c.min-count.result in
+    let s : State = state_of g.S.Store.content i.machine in
+    let quiet = subst (λ (x : Playing). AreQuiet x.code c.args.most x.state) (sym c.self.view_is) c.requires.quiet in
+    let plan = subst (λ (x : Playing). c.args.plan.now ≡ x.code.plan) (sym c.self.view_is) c.requires.plan in
+    let few : n ≤ c.args.most = omega (arith, c.min-count.ensures) in
+    let whole : i.pages.is_whole ≡ true = grind (arith, c.if-not-self.false) in
+    stretch i.code.now c.args.plan.now n s i.steps i.pages plan whole c.self.invariant (fewer_quiet i.code.now c.args.most n s few quiet)
+
+pub invariant_of-self : goal.invariant_of-self
+invariant_of-self g c =
+    let i = c.self.inside in
+    let n : ℕ = c.min-count.result in
+    let s : State = state_of g.S.Store.content i.machine in
+    let t : State = state_of g.S.Store.content c.put_stretch.new.machine in
+    let quiet = subst (λ (x : Playing). AreQuiet x.code c.args.most x.state) (sym c.self.view_is) c.requires.quiet in
+    let plan = subst (λ (x : Playing). c.args.plan.now ≡ x.code.plan) (sym c.self.view_is) c.requires.plan in
+    let few : n ≤ c.args.most = omega (arith, c.min-count.ensures) in
+    let whole : i.pages.is_whole ≡ true = grind (arith, c.if-not-self.false) in
+    let counted = c.put_stretch.ensures.counted in
+    goes_quiet i.code.now c.args.plan.now n counted.0 s t i.steps i.pages plan counted.1 whole c.self.invariant (fewer_quiet i.code.now c.args.most n s few quiet) counted.2
+
+pub returns-clause-done : goal.returns-clause-done
+returns-clause-done g c =
+    let i = c.self.inside in
+    let n : ℕ = c.min-count.result in
+    let s : State = state_of g.S.Store.content i.machine in
+    let t : State = state_of g.S.Store.content c.put_stretch.new.machine in
+    let taken = g.K.Sink.taken in
+    let x = taken c.args.sink.now in
+    let y = taken c.put_stretch.new.sink in
+    let quiet = subst (λ (x : Playing). AreQuiet x.code c.args.most x.state) (sym c.self.view_is) c.requires.quiet in
+    let plan = subst (λ (x : Playing). c.args.plan.now ≡ x.code.plan) (sym c.self.view_is) c.requires.plan in
+    let few : n ≤ c.args.most = omega (arith, c.min-count.ensures) in
+    let some : 1 ≤ n = omega (arith, c.min-count.ensures, c.requires.one, c.from.ensures) in
+    let new : Playing = record { code = i.code.now; state = t; steps = 0 } in
+    let e = c.put_stretch.ensures in
+    let here = quiet_done i.code.now c.args.plan.now n s t i.steps x y c.put_stretch.result plan some (fewer_quiet i.code.now c.args.most n s few quiet) e.all e.state e.bytes in
+    subst (λ (old : Playing). IfOk c.put_stretch.result (λ k. Delivered old new (replicate k Frame) x y k)) c.self.view_is here
+
+pub returns-clause-some : goal.returns-clause-some
+returns-clause-some g c =
+    let n : ℕ = c.min-count.result in
+    let few : n ≤ c.args.most = omega (arith, c.min-count.ensures) in
+    let some : 1 ≤ n = omega (arith, c.min-count.ensures, c.requires.one, c.from.ensures) in
+    some_quiet c.args.most n c.put_stretch.result some few c.put_stretch.ensures.all
+
+pub returns-clause-code : goal.returns-clause-code
+returns-clause-code g c = ap (λ (x : Playing). x.code) c.self.view_is
+
+pub returns-clause-works : goal.returns-clause-works
+returns-clause-works g c = c.put_stretch.ensures.works
+
+pub returns-clause-stopped : goal.returns-clause-stopped
+returns-clause-stopped g c =
+    let i = c.self.inside in
+    let n : ℕ = c.min-count.result in
+    let s : State = state_of g.S.Store.content i.machine in
+    let t : State = state_of g.S.Store.content c.put_stretch.new.machine in
+    let taken = g.K.Sink.taken in
+    let x = taken c.args.sink.now in
+    let y = taken c.put_stretch.new.sink in
+    let quiet = subst (λ (x : Playing). AreQuiet x.code c.args.most x.state) (sym c.self.view_is) c.requires.quiet in
+    let plan = subst (λ (x : Playing). c.args.plan.now ≡ x.code.plan) (sym c.self.view_is) c.requires.plan in
+    let few : n ≤ c.args.most = omega (arith, c.min-count.ensures) in
+    let new : Playing = record { code = i.code.now; state = t; steps = 0 } in
+    let here = quiet_stopped i.code.now c.args.plan.now c.args.most n s t i.steps x y c.put_stretch.result plan few (fewer_quiet i.code.now c.args.most n s few quiet) c.put_stretch.ensures.cut in
+    subst (λ (old : Playing). IfErr c.put_stretch.result (λ cut. Stopped old new (replicate c.args.most Frame) x y cut.frames cut.bytes)) c.self.view_is here
+
+pub returns-clause-fails : goal.returns-clause-fails
+returns-clause-fails g c = c.put_stretch.ensures.fails

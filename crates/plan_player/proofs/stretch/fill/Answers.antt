@@ -1,0 +1,56 @@
+use Rattle.std.proofs.Common.{◌≡◌, ◌+◌, ◌%◌, ℕ, suc, sym, ap, subst, ◌∙◌, arith}
+use Rattle.std.specs.List.{concat}
+use Rattle.mux_entries.specs.declared.limits.TheConstants.{COUNTS}
+use Rattle.fib_carousel.specs.Pages.{page_after}
+use Rattle.plan_code.specs.Machine.{State}
+use Rattle.plan_runs.specs.Frames.{sent_entries}
+use Rattle.plan_runs.specs.Announced.{notice_frames}
+use Rattle.plan_player.specs.Positions.{state_of}
+use Rattle.plan_player.specs.Quiet.{counted_on}
+use Rattle.plan_player.specs.Phase.{HasPage}
+use Rattle.plan_player.proofs.Together.{stretch_page, headed_within, page_kept, batch_more, turn_more, count_more}
+use Rattle.plan_player.proofs.stretch.fill.Goals as goal
+
+pub held-page-requires : goal.held-page-requires
+held-page-requires g c =
+    let plan = c.args.plan.now in
+    let s : State = state_of g.S.Store.content c.args.machine.now in
+    let k : ℕ = c.loop-done.done in
+    let t : State = counted_on plan k s in
+    let pages = c.args.pages.now in
+    let has = stretch_page plan c.args.count k s pages c.requires.stretch c.loop-done-test.true in
+    let here = subst (λ (x : ℕ). HasPage plan.mode (sent_entries plan t) x pages.pages) (sym c.loop-done.invariant.turn) has in
+    (here.page, here.held)
+
+pub push-requires-clause-within : goal.push-requires-clause-within
+push-requires-clause-within g c =
+    let s : State = state_of g.S.Store.content c.args.machine.now in
+    headed_within c.args.plan.now c.args.count c.loop-done.done s c.args.pages.now c.make_header-header.result c.loop-done.number c.requires.stretch c.loop-done-test.true
+    c.make_header-header.ensures c.loop-done.invariant.number
+
+pub loop-done-preserved : goal.loop-done-preserved
+loop-done-preserved g c =
+    let plan = c.args.plan.now in
+    let n : ℕ = c.args.count in
+    let s : State = state_of g.S.Store.content c.args.machine.now in
+    let k : ℕ = c.loop-done.done in
+    let t : State = counted_on plan k s in
+    let pages = c.args.pages.now in
+    let h = c.requires.stretch in
+    let lt = c.loop-done-test.true in
+    let before = c.loop-done.invariant in
+    let next : suc k ≡ k + 1 = omega arith in
+    let kept = page_kept plan n k s pages c.loop-done.turn c.held-page.result.now h lt before.turn c.held-page.ensures in
+    let more = batch_more plan n k s pages c.make_header-header.result c.loop-done.number c.loop-done.batch c.push.new.batch h lt c.make_header-header.ensures before.number before.bytes
+    (c.push.ensures.bytes (sent_entries plan t) t.turn kept) in
+    let turn : c.page_after-turn.result ≡ (counted_on plan (suc k) s).turn =
+    c.page_after-turn.ensures ∙ ap (λ (r : ℕ). page_after r c.loop-done.turn) c.from-rounds.ensures ∙ ap (λ (x : ℕ). page_after pages.made x) before.turn ∙ sym (turn_more plan n k s pages h lt) in
+    let number : c.count_after-number.result ≡ (counted_on plan (suc k) s).count =
+    c.count_after-number.ensures ∙ ap (λ (x : ℕ). (x + 1) % COUNTS) before.number ∙ sym (count_more plan k s) in
+    record {
+      within = omega (arith, lt);
+      turn = subst (λ (j : ℕ). c.page_after-turn.result ≡ (counted_on plan j s).turn) next turn;
+      number = subst (λ (j : ℕ). c.count_after-number.result ≡ (counted_on plan j s).count) next number;
+      bytes = subst (λ (j : ℕ). c.push.new.batch ≡ concat (notice_frames plan j s)) next more;
+      room = omega (arith, before.room, c.push.ensures.size);
+    }

@@ -1,0 +1,22 @@
+use Rattle.std.proofs.Common.{◌-◌, ◌≡◌, ◌≤◌, ◌*◌, length}
+use Rattle.std.specs.List.{concat}
+use Rattle.plan_code.specs.Machine.{State}
+use Rattle.plan_runs.specs.Announced.{notice_frames}
+use Rattle.plan_player.specs.Positions.{state_of}
+use Rattle.plan_player.specs.Quiet.{counted_on}
+use Rattle.plan_player.proofs.stretch.fill.Given as goal
+
+abbrev pub invariant-loop-done : goal.invariant-loop-done
+invariant-loop-done g l =
+    let s : State = state_of g.S.Store.content l.machine in
+    let t : State = counted_on l.plan l.done s in
+    record {
+      within : l.done ≤ l.count;
+      turn : l.turn ≡ t.turn;
+      number : l.number ≡ t.count;
+      bytes : l.batch ≡ concat (notice_frames l.plan l.done s);
+      room : length l.batch ≤ 128 * l.done;
+    }
+
+abbrev pub decreases-loop-done : goal.decreases-loop-done
+decreases-loop-done g l = l.count - l.done

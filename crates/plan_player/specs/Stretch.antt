@@ -1,0 +1,76 @@
+-- Quiet frames that go to a sink together: their pages were all made, and their FIG 0/0 differs in the count alone.
+use Rattle.std.specs.Prelude.{◌≡◌, ℕ, suc, ◌-◌, ◌<◌, ◌≤◌, ◌%◌, ◌==◌, ◌++◌, true, false, if◌then◌else◌, List, length, take, Option, Some, None}
+use Rattle.std.specs.List.{concat}
+use Rattle.std.specs.Io.KnownBytes.{Appends}
+use Rattle.mux_config.specs.Change.{change_of, bits_of}
+use Rattle.mux_entries.specs.Entries.{EnsembleInformation}
+use Rattle.fib_codec.specs.Modes.{count_step}
+use Rattle.fib_codec.specs.declared.modes.Mode.{Mode}
+use Rattle.plan_code.specs.declared.hold.Hold.{Hold}
+use Rattle.plan_code.specs.declared.hold.Hold.TheVariants.{Waits, WaitsDay, WaitsContact, WaitsSwap, Ended}
+use Rattle.plan_code.specs.declared.plan.Plan.{Plan}
+use Rattle.plan_code.specs.Machine.{State}
+use Rattle.plan_runs.specs.Frames.{is_noticed, low_of_swap, shown_bytes, sent_entries, sent_rounds}
+use Rattle.plan_runs.specs.TypedRuns.{CanBeSent}
+use Rattle.plan_runs.specs.Announced.{notice_frames}
+use Rattle.plan_player.specs.declared.phase_pages.PhasePages.{PhasePages}
+use Rattle.plan_player.specs.declared.machine.sending.Header.{Header}
+use Rattle.plan_player.specs.Phase.{Keeps, HasChange}
+use Rattle.plan_player.specs.Quiet.{counted_on, SwapIsAway}
+
+-- ---- FIG 0/0
+
+-- all that it says but for the count
+abbrev pub header_of : Plan → State → Header
+header_of plan s =
+    if is_noticed plan.notice s.left then
+    record { eid = s.eid; change = bits_of (change_of s.current s.next); swap = Some (low_of_swap s.count s.left) }
+    else record { eid = s.eid; change = 0; swap = None }
+
+-- what it says in a frame of this count
+abbrev pub ensemble_at : Header → ℕ → EnsembleInformation
+ensemble_at header count = record { eid = header.eid; change = header.change; al = false; count = count; occurrence = header.swap }
+
+abbrev pub headed_at : Mode → Header → ℕ → Option EnsembleInformation
+headed_at mode header count = if count % count_step mode == 0 then Some (ensemble_at header count) else None
+
+-- ---- the frames
+
+-- a frame whose page was made, or is the next to be made, can be sent as the state has it
+pub record IsPageReady (plan : Plan) (s : State) (pages : PhasePages) : Type 0 where
+  pub sent : CanBeSent plan s
+  pub few : sent_rounds plan s ≤ 60
+  pub keeps : Keeps plan.mode (sent_entries plan s) s.turn pages
+  pub change : HasChange plan.notice s.left s.current s.next pages.change
+
+-- each of n frames is so, all pages were made, and no notice begins or ends
+pub record IsStretch (plan : Plan) (n : ℕ) (s : State) (pages : PhasePages) : Type 0 where
+  pub whole : pages.is_whole ≡ true
+  pub away : SwapIsAway plan.notice s.left n
+  pub ready : (k : ℕ) → k < n → IsPageReady plan (counted_on plan k s) pages
+
+-- a sink took so many of n frames whole, and so many bytes of the next one, fewer than all: the counts are those after
+-- that one
+pub record IsCut (plan : Plan) (n : ℕ) (s t : State) (before after : Option (List ℕ)) (frames bytes : ℕ) : Type 0 where
+  pub few : frames < n
+  pub part : bytes < length (shown_bytes plan (counted_on plan frames s))
+  pub state : t ≡ counted_on plan (suc frames) s
+  pub out : Appends before after (concat (notice_frames plan frames s) ++ take bytes (shown_bytes plan (counted_on plan frames s)))
+
+-- ---- the counts
+
+-- the frames until a swap and what is waited for, n frames later
+abbrev pub left_later : ℕ → Option ℕ → Option ℕ
+left_later n None = None
+left_later n (Some left) = Some (left - n)
+
+abbrev pub hold_later : ℕ → Hold → Hold
+hold_later n (Waits frames) = Waits (frames - n)
+hold_later n (WaitsDay t) = WaitsDay t
+hold_later n (WaitsContact c closed) = WaitsContact c closed
+hold_later n WaitsSwap = WaitsSwap
+hold_later n Ended = Ended
+
+-- in each of n frames that many pages are sent in turn
+abbrev pub HasRounds : Plan → ℕ → State → ℕ → Type 0
+HasRounds plan n s pages = (k : ℕ) → k < n → sent_rounds plan (counted_on plan k s) ≡ pages

@@ -1,0 +1,126 @@
+//! Quiet frames that go to a sink together.
+
+ghost use Rattle.std.specs.Prelude.{◌≡◌, ℕ, ◌+◌, ◌≤◌, ◌<◌, ◌%◌, ◌==◌, ◌++◌, List, length, true, false, IfOk, IfErr, OnOk, OnErr};
+ghost use Rattle.std.specs.List.{concat};
+ghost use Rattle.std.specs.Io.KnownBytes.{Appends};
+ghost use Rattle.mux_entries.specs.Facts.{Marked};
+ghost use Rattle.fib_codec.specs.Modes.{count_step};
+ghost use Rattle.fib_codec.specs.Ranges.{IsEnsembleInformation};
+ghost use Rattle.fib_carousel.specs.Bytes.{page_bytes};
+ghost use Rattle.fib_carousel.specs.Kept.{IsKept};
+ghost use Rattle.plan_runs.specs.Announced.{notice_frames};
+ghost use Rattle.plan_player.specs.Positions.{state_of};
+ghost use Rattle.plan_player.specs.Quiet.{counted_on};
+ghost use Rattle.plan_player.specs.Stretch.{ensemble_at, headed_at, IsStretch, IsCut};
+
+use crate::batch::Batch;
+use crate::fault::Cut;
+use crate::machine::{
+    Header, Machine, count_after, is_on_step, make_header, page_after, pass_many,
+};
+use crate::phase_pages::{PhasePages, held};
+use crate::sink::{Sink, put_all};
+use fib_carousel::KeptPage;
+use fib_codec::FibFrame;
+use mux_config::Store;
+use plan_code::{Mode, Plan};
+
+/// Appends a frame of this page: with FIG 0/0 where the mode sends it at this count.
+fn push(
+    mode: Mode,
+    header: Header,
+    count: u16,
+    page: &KeptPage,
+    headed: &mut FibFrame,
+    batch: &mut Batch,
+)
+    requires within { (count % count_step mode == 0) ≡ true
+        → IsEnsembleInformation (ensemble_at header count) }
+    requires room { length batch.old + 128 ≤ 4096 }
+    ensures bytes { (ms : List Marked) (k : ℕ) → IsKept mode ms k page.now
+        → batch.new ≡ batch.old ++ page_bytes mode (headed_at mode header count) k ms }
+    ensures size { length batch.new ≤ length batch.old + 128 }
+{
+    if is_on_step(mode, count) {
+        page.with_ensemble(header.at(count), headed);
+        batch.append(headed.bytes());
+    } else {
+        batch.append(page.without_ensemble().bytes());
+    }
+}
+
+/// Fills a batch with this many quiet frames, from the next one on.
+#[inline(never)]
+fn fill<S: Store>(
+    plan: &Plan,
+    machine: &Machine<S>,
+    pages: &PhasePages,
+    count: u16,
+    batch: &mut Batch,
+)
+    requires one { 1 ≤ count }
+    requires few { count ≤ 32 }
+    requires stretch { IsStretch plan.now count (state_of S.content machine.now) pages.now }
+    ensures { batch.new ≡
+        concat (notice_frames plan.now count (state_of S.content machine.now)) }
+{
+    batch.clear();
+    let header = make_header(plan, machine, pages.change);
+    let rounds = usize::from(pages.made);
+    let mut headed = FibFrame::new(plan.mode);
+    let mut turn = machine.turn();
+    let mut number = machine.count();
+    let mut done = 0u16;
+    while done < count {
+        let page = held(&pages.pages, turn);
+        push(plan.mode, header, number, page, &mut headed, batch);
+        turn = page_after(rounds, turn);
+        number = count_after(number);
+        done += 1;
+    }
+}
+
+/// Makes this many quiet frames, and puts them into the sink together; how many is the result. `Err`: it failed in one of them, which has been
+/// made, and later ones have not.
+pub(crate) fn put_stretch<S: Store, K: Sink>(
+    plan: &Plan,
+    machine: &mut Machine<S>,
+    pages: &PhasePages,
+    batch: &mut Batch,
+    count: u16,
+    sink: &mut K,
+) -> Result<u32, Cut>
+    requires working { K.has_failed sink.old ≡ false }
+    requires one { 1 ≤ count }
+    requires few { count ≤ 32 }
+    requires stretch { IsStretch plan.now count (state_of S.content machine.old) pages.now }
+    ensures all { IfOk result (λ n. n ≡ count) }
+    ensures counted { (k : ℕ) × (k ≤ count) × (state_of S.content machine.new ≡
+        counted_on plan.now k (state_of S.content machine.old)) }
+    ensures state { OnOk result (state_of S.content machine.new ≡
+        counted_on plan.now count (state_of S.content machine.old)) }
+    ensures bytes { OnOk result (Appends (K.taken sink.old) (K.taken sink.new)
+        (concat (notice_frames plan.now count (state_of S.content machine.old)))) }
+    ensures works { OnOk result (K.has_failed sink.new ≡ false) }
+    ensures cut { IfErr result (λ cut. IsCut plan.now count
+        (state_of S.content machine.old) (state_of S.content machine.new)
+        (K.taken sink.old) (K.taken sink.new) cut.frames cut.bytes) }
+    ensures fails { OnErr result (K.has_failed sink.new ≡ true) }
+{
+    fill(plan, machine, pages, count, batch);
+    match put_all(sink, batch.as_slice()) {
+        Ok(()) => {
+            pass_many(pages.made, count, machine);
+            Ok(u32::from(count))
+        }
+        Err(taken) => {
+            let size = 32 * plan.mode.fibs();
+            let frames = (taken / size) as u16;
+            pass_many(pages.made, frames + 1, machine);
+            Err(Cut {
+                frames: u32::from(frames),
+                bytes: taken % size,
+            })
+        }
+    }
+}
