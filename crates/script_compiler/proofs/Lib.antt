@@ -27,3 +27,5 @@ mod Making
 mod Bounded
 mod Ranged
 mod Formed
+mod Pooled
+mod Numbered

@@ -5,3 +5,5 @@ pub mod Room
 pub mod Fingerprint
 pub mod Space
 pub mod Marked
+pub mod Pool
+pub mod Working

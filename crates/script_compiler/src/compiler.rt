@@ -21,17 +21,15 @@ ghost use Rattle.script_meaning.specs.Meaning.{PlaysAsItReads};
 use crate::cost::first_round;
 use crate::falls::{all_fall, all_silent};
 use crate::fault::CompileFault;
-use crate::marks::Marks;
 use crate::needs::{first_over, needs};
 use crate::opening::{built, test};
 use crate::refusal::refused;
-use crate::work::Work;
+use crate::work::{Laid, Work};
 use mux_config::Config;
 use plan_code::{Code, Line, Plan};
 use plan_flow::Cause;
 use script_front::{Script, Statement};
 use script_meaning::laws;
-use script_scheme::Spot;
 use std::alloc::{AllocError, Global};
 
 /// Whether what follows each of these blocks can be reached.
@@ -73,7 +71,7 @@ fn plan_of(script: &Script) -> Plan
 }
 
 /// All that is laid down of a script that begins with this configuration.
-fn lay(alloc: Global, plan: &Plan, script: &Script, config: &Config) -> Result<Work, CompileFault>
+fn lay(alloc: Global, plan: &Plan, script: &Script, config: &Config) -> Result<Laid, CompileFault>
     ensures lines { IfOk result (λ w. w.lines.items ≡ lines_of_places (all_places plan.now
         script.now.last_line (body_of script.now) (beginning config.now))) }
     ensures marks { IfOk result (λ w. w.marks.items ≡ marks_of 0 (all_places plan.now
@@ -94,12 +92,7 @@ fn lay(alloc: Global, plan: &Plan, script: &Script, config: &Config) -> Result<W
 {
     let known = known_of(alloc, script.blocks())?;
     let silent = silent_of(alloc, script.blocks())?;
-    let mut work = Work {
-        lines: Vec::new(alloc),
-        marks: Marks::new(alloc),
-        now: Spot::opening(config),
-        saved: Vec::new(alloc),
-    };
+    let mut work = Work::new(alloc, config);
     let falls = match work.block(
         plan,
         &known,
@@ -112,7 +105,7 @@ fn lay(alloc: Global, plan: &Plan, script: &Script, config: &Config) -> Result<W
         Err(fault) => return Err(fault),
     };
     match work.close(falls, script.last_line()) {
-        Ok(()) => Ok(work),
+        Ok(()) => Ok(work.into_laid()),
         Err(fault) => Err(fault),
     }
 }
@@ -198,7 +191,8 @@ pub fn compile(alloc: Global, script: &Script) -> Result<Code, CompileFault>
     let costs = needs(alloc, &work.lines, plan.budget)?;
     test_costs(alloc, &work.lines, &costs, plan.budget)?;
     let labels = work.marks.labels(alloc, &costs)?;
-    match Code::new(plan, work.marks.into_configs(), labels, work.lines) {
+    let configs = work.marks.into_configs(alloc)?;
+    match Code::new(plan, configs, labels, work.lines) {
         Some(code) => {
             promise(script, &code);
             Ok(code)

@@ -49,7 +49,7 @@ promise-requires c =
     let lines = c.in_ok-work.work.lines.items in
     let marks = c.in_ok-work.work.marks.items in
     let needs = c.in_ok-costs.costs.items in
-    let configs = c.into_configs.result.items in
+    let configs = c.in_ok-configs.configs.items in
     let labels = c.in_ok-labels.labels.items in
     let parts : Parts s plan config lines marks needs configs labels = record {
       plan_is = c.plan_of-plan.ensures;
@@ -58,8 +58,8 @@ promise-requires c =
       marked = c.in_ok-work.ensures.marks;
       each = λ pc. c.in_ok-costs.ensures pc ∙ ap (λ (ls : List Line). longest (instrs_of ls) (plan.budget + 1) pc) c.deref.ensures.value;
       within = λ pc. let h = c.in_ok-test_costs.ensures.within refl pc in let e = ap (λ xs. get_or xs pc 0) c.deref-3.ensures.value in omega (arith, h, e);
-      tabled = subst (λ (t : List Configuration). Tabled [] marks t) (sym c.into_configs.ensures) c.in_ok-work.ensures.table;
-      labelled = subst (λ (t : List Configuration). AreLabelsOf t marks labels) (sym c.into_configs.ensures) c.in_ok-labels.ensures.labels;
+      tabled = subst (λ (t : List Configuration). Tabled [] marks t) (sym c.in_ok-configs.ensures.value) c.in_ok-work.ensures.table;
+      labelled = subst (λ (t : List Configuration). AreLabelsOf t marks labels) (sym c.in_ok-configs.ensures.value) c.in_ok-labels.ensures.labels;
       priced = subst (λ xs. Priced xs labels) c.deref-4.ensures.value c.in_ok-labels.ensures.costs;
     } in
     let same = sym c.in-Some.ensures.value in
@@ -106,7 +106,7 @@ returns-clause-refused c =
     let lines = c.in_ok-work.work.lines.items in
     let marks = c.in_ok-work.work.marks.items in
     let needs = c.in_ok-costs.costs.items in
-    let configs = c.into_configs.result.items in
+    let configs = c.in_ok-configs.configs.items in
     let labels = c.in_ok-labels.labels.items in
     let parts : Parts s plan config lines marks needs configs labels = record {
       plan_is = c.plan_of-plan.ensures;
@@ -115,8 +115,8 @@ returns-clause-refused c =
       marked = c.in_ok-work.ensures.marks;
       each = λ pc. c.in_ok-costs.ensures pc ∙ ap (λ (ls : List Line). longest (instrs_of ls) (plan.budget + 1) pc) c.deref.ensures.value;
       within = λ pc. let h = c.in_ok-test_costs.ensures.within refl pc in let e = ap (λ xs. get_or xs pc 0) c.deref-3.ensures.value in omega (arith, h, e);
-      tabled = subst (λ (t : List Configuration). Tabled [] marks t) (sym c.into_configs.ensures) c.in_ok-work.ensures.table;
-      labelled = subst (λ (t : List Configuration). AreLabelsOf t marks labels) (sym c.into_configs.ensures) c.in_ok-labels.ensures.labels;
+      tabled = subst (λ (t : List Configuration). Tabled [] marks t) (sym c.in_ok-configs.ensures.value) c.in_ok-work.ensures.table;
+      labelled = subst (λ (t : List Configuration). AreLabelsOf t marks labels) (sym c.in_ok-configs.ensures.value) c.in_ok-labels.ensures.labels;
       priced = subst (λ xs. Priced xs labels) c.deref-4.ensures.value c.in_ok-labels.ensures.costs;
     } in
     λ is accepted.
