@@ -29,3 +29,6 @@ mod Ranged
 mod Formed
 mod Pooled
 mod Numbered
+mod Cycles
+mod Uncosted
+mod VectorsOfCosts

@@ -1,6 +1,8 @@
 //! From scripts to codes.
 
-ghost use Rattle.std.specs.Prelude.{◌≡◌, ◌≢◌, ℕ, ◌<◌, ◌≤◌, [], length, map, slice_index, IsOk, IfOk, IfErr};
+ghost use Rattle.std.specs.Prelude.{◌≡◌, ◌≢◌, ℕ, ◌+◌, ◌<◌, ◌≤◌, [], length, map, slice_get, slice_index, Some, IsOk, IfOk, IfErr};
+ghost use Rattle.script_compiler.specs.Costs.{HasCostAt, IsCostRefused};
+ghost use Rattle.script_compiler.specs.Longest.{longest};
 ghost use Rattle.plan_flow.specs.Rules.{pages_alone};
 ghost use Rattle.script_scheme.specs.Scheme.{falls_out, all_places, marks_of};
 ghost use Rattle.script_scheme.specs.Compiled.{plan_of, lines_of_places, body_of, beginning, opening_of, places_of, instrs_of, nested, AreFine, Tabled, IsCodeOf, CostsItsNeeds, IsAccepted};
@@ -18,7 +20,7 @@ ghost use Rattle.plan_code.specs.Program.{IsProgram};
 ghost use Rattle.plan_verifier.specs.Typing.{IsTyped};
 ghost use Rattle.script_meaning.specs.Meaning.{PlaysAsItReads};
 
-use crate::cost::first_round;
+use crate::cost::costly;
 use crate::falls::{all_fall, all_silent};
 use crate::fault::CompileFault;
 use crate::needs::{first_over, needs};
@@ -111,28 +113,31 @@ fn lay(alloc: Global, plan: &Plan, script: &Script, config: &Config) -> Result<L
 }
 
 /// The number of the line that an instruction comes from.
-fn line_at(lines: &[Line], pc: usize) -> u16 {
+fn line_at(lines: &[Line], pc: usize) -> u16
+    ensures { (line : Line) → slice_get lines.now pc ≡ Some line → result ≡ line.number }
+{
     match lines.get(pc) {
         Some(line) => line.number,
         None => 0,
     }
 }
 
-/// Whether every need is within the budget: refused is `Cost`, at the first instruction that goes back on a round
-/// without a suspension, and where there is none at the first whose need is over the budget.
+/// Whether every need is within the budget: refused is `Cost`, at the first instruction that ends a loop which can be
+/// gone round without a suspension, and where there is none at the first whose need is over the budget.
 fn test_costs(alloc: Global, lines: &[Line], needs: &[u16], budget: u8) -> Result<(), CompileFault>
+    requires few { length lines.now ≤ 4096 }
+    requires needs { (pc : ℕ) → slice_index needs.now pc ≡ longest (instrs_of lines.now)
+        (budget + 1) pc }
     ensures within { IsOk result → (pc : ℕ) → slice_index needs.now pc ≤ budget }
     ensures refused { IfErr result (λ e. e ≢ Memory → (pc : ℕ) × (budget
         < slice_index needs.now pc)) }
     ensures why { IfErr result (λ e. IfRefused e (λ at given. given ≡ Cost)) }
+    ensures line { IfErr result (λ e. IfRefused e (λ at given. HasCostAt budget lines.now at)) }
 {
     let Some(over) = first_over(needs, budget) else {
         return Ok(());
     };
-    let pc = match first_round(alloc, lines)? {
-        Some(round) => round,
-        None => over,
-    };
+    let pc = costly(alloc, lines, over)?;
     Err(refused(line_at(lines, pc), Cause::Cost))
 }
 
@@ -165,9 +170,9 @@ fn promise(script: &Script, code: &Code)
 ///
 /// `Refused` with the first fault that is found as the code is laid down, in text order: of an item, of the opening
 /// at the line of `begin`, and of a statement, where `Table` says that it cannot be reached. `Limit` only where a limit
-/// of codes would be passed, `Memory` where memory was refused. Costs come last: `Cost` is at the line of the first loop
-/// that can be gone round without a suspension, or else of the first instruction from which more instructions than the
-/// budget can run in one frame. A script that is accepted is refused only for want of memory.
+/// of codes would be passed, `Memory` where memory was refused. Costs come last: `Cost` is at the line of the first instruction
+/// that ends a loop which can be gone round without a suspension, or else of the first instruction from which more
+/// instructions than the budget can run in one frame. A script that is accepted is refused only for want of memory.
 pub fn compile(alloc: Global, script: &Script) -> Result<Code, CompileFault>
     ensures code { IfOk result (λ c. IsCodeOf script.now c) }
     ensures costs { IfOk result (λ c. CostsItsNeeds c) }
@@ -183,6 +188,8 @@ pub fn compile(alloc: Global, script: &Script) -> Result<Code, CompileFault>
     ensures refused { IfErr result (λ e. e ≢ Memory → IsAccepted script.now → ⊥) }
     ensures why { IfErr result (λ e. IfRefused e (λ line cause. IsRefused script.now line
         cause)) }
+    ensures cost { IfErr result (λ e. IfRefused e (λ line cause. cause ≡ Cost
+        → IsCostRefused script.now line)) }
 {
     let plan = plan_of(script);
     let config = built(script.items())?;
