@@ -13,7 +13,7 @@ use Rattle.script_scheme.specs.declared.flow.Spot.{Spot}
 use Rattle.script_scheme.specs.Scheme.{Place, past, at_label, meet, join, onward, head, spot_after, place_of_instr, alone, places, all_places, instr_of_act, falls_out}
 use Rattle.script_scheme.specs.Judged.{IsJudged, WaysAgree, BranchesAgree}
 use Rattle.script_scheme.specs.Compiled.{Tabled, lines_of_places, nested}
-use Rattle.script_compiler.specs.declared.work.Work.{Work}
+use Rattle.script_compiler.specs.Working.{Work}
 use Rattle.script_compiler.specs.declared.fault.CompileFault.{CompileFault}
 use Rattle.script_compiler.specs.declared.fault.CompileFault.TheVariants.{Limit}
 use Rattle.script_compiler.specs.Laying.{Lays, Left, Forks, Turns, line_of_instr, jumping, spots_of, way}

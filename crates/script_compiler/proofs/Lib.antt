@@ -27,3 +27,8 @@ mod Making
 mod Bounded
 mod Ranged
 mod Formed
+mod Pooled
+mod Numbered
+mod Cycles
+mod Uncosted
+mod VectorsOfCosts

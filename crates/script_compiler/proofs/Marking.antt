@@ -15,18 +15,18 @@ use Rattle.script_compiler.specs.Room.{IsDeepAtMost}
 
 -- ---- configurations by their places
 
-at_within : (xs : List Configuration) (i : ℕ) → i < length xs → slice_get xs i ≡ Some (configuration_at xs i)
+pub at_within : (xs : List Configuration) (i : ℕ) → i < length xs → slice_get xs i ≡ Some (configuration_at xs i)
 at_within [] i lt = absurd (omega (arith, lt))
 at_within (x ∷ xs) zero lt = refl
 at_within (x ∷ xs) (suc i) lt = at_within xs i (omega (arith, lt))
 
-at_some : (xs : List Configuration) (i : ℕ) (c : Configuration) → slice_get xs i ≡ Some c → configuration_at xs i ≡ c
+pub at_some : (xs : List Configuration) (i : ℕ) (c : Configuration) → slice_get xs i ≡ Some c → configuration_at xs i ≡ c
 at_some xs i c e =
     let here : Some (configuration_at xs i) ≡ Some c = sym (at_within xs i (slice_get_within xs i c e)) ∙ e in
     let h : configuration_at xs i ≡ c = cc in
     h
 
-at_more : (xs ys : List Configuration) (i : ℕ) → i < length xs → configuration_at (xs ++ ys) i ≡ configuration_at xs i
+pub at_more : (xs ys : List Configuration) (i : ℕ) → i < length xs → configuration_at (xs ++ ys) i ≡ configuration_at xs i
 at_more [] ys i lt = absurd (omega (arith, lt))
 at_more (x ∷ xs) ys zero lt = refl
 at_more (x ∷ xs) ys (suc i) lt = at_more xs ys i (omega (arith, lt))

@@ -99,7 +99,7 @@ module _ (code : List Instr) where
     longest = λ n h. let most = w pc n h in longest_most (budget + 1) n pc h (omega (arith, most));
   }
 
-  shorter : (m n pc : ℕ) → m ≤ n → HasPath code pc n → HasPath code pc m
+  pub shorter : (m n pc : ℕ) → m ≤ n → HasPath code pc n → HasPath code pc m
   shorter zero n pc le h = tt
   shorter (suc m) zero pc le h = absurd (omega arith)
   shorter (suc zero) (suc zero) pc le h = h
@@ -173,7 +173,7 @@ pub instrs_length : (lines : List Line) → length (instrs_of lines) ≡ length 
 instrs_length [] = refl
 instrs_length (l ∷ lines) = omega (arith, instrs_length lines)
 
-instr_at : (lines : List Line) (k : ℕ) (d : Line) → d ≡ get_or lines k d → k < length lines → slice_get (instrs_of lines) k ≡ Some d.instr
+pub instr_at : (lines : List Line) (k : ℕ) (d : Line) → d ≡ get_or lines k d → k < length lines → slice_get (instrs_of lines) k ≡ Some d.instr
 instr_at [] k d is lt = absurd (omega (arith, lt))
 instr_at (l ∷ lines) zero d is lt = ap (λ (x : Line). Some x.instr) (sym is)
 instr_at (l ∷ lines) (suc k) d is lt = instr_at lines k d is (omega (arith, lt))

@@ -1,5 +1,5 @@
 -- The fingerprint of a list, part by part.
-use Rattle.std.proofs.Common.{◌≡◌, ℕ, ◌+◌, ◌≤◌, List, drop, length, Some, refl, sym, ap, ◌∙◌, slice_get}
+use Rattle.std.proofs.Common.{◌≡◌, ℕ, ◌+◌, ◌≤◌, List, drop, length, Some, sym, ap, slice_get}
 use Rattle.mux_types.proofs.Walking.{cut, walked}
 use Rattle.script_compiler.specs.Fingerprint.{mixed, mixed_all}
 

@@ -5,7 +5,7 @@ use Rattle.std.proofs.lemmas.List.{append_cancel_left}
 use Rattle.plan_code.specs.declared.instr.Instr.{Instr}
 use Rattle.script_scheme.specs.declared.flow.Spot.{Spot}
 use Rattle.script_scheme.specs.Scheme.{alone, marks_of}
-use Rattle.script_compiler.specs.declared.work.Work.{Work}
+use Rattle.script_compiler.specs.Working.{Work}
 use Rattle.script_compiler.specs.Laying.{Lays, line_of_instr}
 
 pub on_ok_map : {A E : Type 0} (x : Result A E) {P Q : Type 0} → (P → Q) → OnOk x P → OnOk x Q

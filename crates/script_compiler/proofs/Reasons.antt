@@ -18,9 +18,9 @@ use Rattle.script_front.specs.declared.tree.Statement.{Statement}
 use Rattle.script_front.specs.Block.{Block, nothing, basic, when, either, repeat, forever, apply, before, block_of}
 use Rattle.script_scheme.specs.declared.flow.Spot.{Spot}
 use Rattle.script_scheme.specs.Scheme.{past, at_label, head, instr_of_act, spot_after, falls_out}
-use Rattle.script_scheme.specs.Judged.{IsJudged, WaysAgree, BranchesAgree, ComesRound}
+use Rattle.script_scheme.specs.Judged.{WaysAgree, BranchesAgree, ComesRound}
 use Rattle.script_scheme.specs.Refused.{IsRefusedIn, IsRefusedAfter, IsUnreached}
-use Rattle.script_compiler.specs.declared.work.Work.{Work}
+use Rattle.script_compiler.specs.Working.{Work}
 use Rattle.script_compiler.specs.declared.fault.CompileFault.{CompileFault}
 use Rattle.script_compiler.specs.declared.fault.CompileFault.TheVariants.{Refused, Limit, Memory}
 use Rattle.script_compiler.specs.Laying.{Left, Forks, Turns, spots_of, way}

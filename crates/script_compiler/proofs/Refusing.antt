@@ -12,7 +12,7 @@ use Rattle.script_front.specs.Block.{Block, nothing, basic, when, either, repeat
 use Rattle.script_scheme.specs.declared.flow.Spot.{Spot}
 use Rattle.script_scheme.specs.Scheme.{past, at_label, head, instr_of_act, spot_after, falls_out}
 use Rattle.script_scheme.specs.Judged.{IsJudged, IsDone, Reached, WaysAgree, BranchesAgree, ComesRound}
-use Rattle.script_compiler.specs.declared.work.Work.{Work}
+use Rattle.script_compiler.specs.Working.{Work}
 use Rattle.plan_code.specs.declared.instr.Line.{Line}
 use Rattle.script_scheme.specs.Compiled.{instrs_of}
 use Rattle.script_scheme.specs.Need.{IsWithinBudget}

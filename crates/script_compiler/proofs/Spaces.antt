@@ -14,7 +14,7 @@ use Rattle.script_scheme.specs.declared.flow.Mark.{Mark}
 use Rattle.script_scheme.specs.declared.flow.Spot.{Spot}
 use Rattle.script_scheme.specs.Scheme.{Place, place_of_instr, alone, onward, at_label, meet, spot_after, places, mark_of, marks_of}
 use Rattle.script_scheme.specs.Compiled.{StandsIn, Added, Tabled, lines_of_places}
-use Rattle.script_compiler.specs.declared.work.Work.{Work}
+use Rattle.script_compiler.specs.Working.{Work}
 use Rattle.script_compiler.specs.declared.fault.CompileFault.{CompileFault}
 use Rattle.script_compiler.specs.Laying.{Lays, jumping, way}
 use Rattle.script_compiler.specs.Room.{HasRoomFor, Leaves, named_by}

@@ -12,7 +12,7 @@ use Rattle.script_scheme.specs.declared.flow.Spot.{Spot}
 use Rattle.script_scheme.specs.Scheme.{past, onward, alone, spot_after, places, instr_of_act, falls_out}
 use Rattle.script_scheme.specs.Judged.{IsJudged, Reached}
 use Rattle.script_scheme.specs.Compiled.{nested}
-use Rattle.script_compiler.specs.declared.work.Work.{Work}
+use Rattle.script_compiler.specs.Working.{Work}
 use Rattle.script_compiler.specs.declared.fault.CompileFault.{CompileFault}
 use Rattle.script_compiler.specs.Laying.{Lays, Left, Forks, ClosesIf, Turns, GoesRound, IsAfterBranches, spots_of, way, tables, lays_nothing}
 use Rattle.script_compiler.proofs.Trees.{statements_cut}

@@ -1,6 +1,6 @@
 -- The code of a script that is judged, and whose needs are within the budget, is typed.
 use Rattle.std.proofs.Common.{◌≡◌, ℕ, zero, suc, ◌+◌, ◌-◌, ◌<◌, ◌≤◌, Bool, true, false, if◌then◌else◌, List, [], ◌∷◌, length, Option, Some, None, refl, sym, ap, ◌∙◌, subst, arith, inl, inr}
-use Rattle.std.specs.Prelude.{slice_get, Contains, nat_lt}
+use Rattle.std.specs.Prelude.{slice_get, Contains}
 use Rattle.std.specs.Option.{option_map}
 use Rattle.std.proofs.lemmas.Bool.{cases_lt}
 use Rattle.std.proofs.lemmas.Option.{slice_get_within}
@@ -16,7 +16,7 @@ use Rattle.plan_code.specs.declared.plan.Plan.{Plan}
 use Rattle.plan_code.specs.Flags.{is_set}
 use Rattle.plan_code.specs.Program.{Program, instr_at, label_at}
 use Rattle.plan_flow.specs.Rules.{Known, FitsSwap, IsFine, spent, leaves, target_of, continues, pages_alone, suspends}
-use Rattle.plan_flow.specs.Flows.{Flow, known_at, moved, FitsFlow, known_with, set_after, rests, left_over}
+use Rattle.plan_flow.specs.Flows.{Flow, known_at, moved, FitsFlow, known_with, rests, left_over}
 use Rattle.plan_flow.proofs.Leaving.{leaves_known}
 use Rattle.plan_verifier.specs.Typing.{Declares, ComesTo, Arrives, HasOpening, LabelStands, Reaches, IsAfter, IsSafe, IsTyped}
 use Rattle.script_front.specs.Block.{Block}

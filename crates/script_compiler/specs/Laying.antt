@@ -13,7 +13,7 @@ use Rattle.script_scheme.specs.Scheme.{Place, onward, spot_after, places, marks_
 use Rattle.script_scheme.specs.Judged.{IsJudged, Reached, WaysAgree, BranchesAgree, ComesRound}
 use Rattle.script_scheme.specs.Refused.{IsRefusedIn, IsRefusedAfter}
 use Rattle.script_scheme.specs.Compiled.{lines_of_places, nested}
-use Rattle.script_compiler.specs.declared.work.Work.{Work}
+use Rattle.script_compiler.specs.Working.{Work}
 
 -- the meanings of defined blocks
 abbrev pub tables : List (Vec Statement Global) → List Block

@@ -5,3 +5,7 @@ pub mod Room
 pub mod Fingerprint
 pub mod Space
 pub mod Marked
+pub mod Costs
+pub mod Reaching
+pub mod Pool
+pub mod Working

@@ -8,7 +8,7 @@ use Rattle.script_scheme.specs.declared.flow.Spot.{Spot}
 use Rattle.script_scheme.specs.Scheme.{Place, spot_after, places, marks_of}
 use Rattle.script_scheme.specs.Judged.{IsJudged}
 use Rattle.script_scheme.specs.Compiled.{StandsIn, Tabled, nested}
-use Rattle.script_compiler.specs.declared.work.Work.{Work}
+use Rattle.script_compiler.specs.Working.{Work}
 use Rattle.script_compiler.specs.Room.{HasRoomFor, Leaves, named_by}
 
 -- the labels of places

@@ -1,6 +1,8 @@
 //! From scripts to codes.
 
-ghost use Rattle.std.specs.Prelude.{◌≡◌, ◌≢◌, ℕ, ◌<◌, ◌≤◌, [], length, map, slice_index, IsOk, IfOk, IfErr};
+ghost use Rattle.std.specs.Prelude.{◌≡◌, ◌≢◌, ℕ, ◌+◌, ◌<◌, ◌≤◌, [], length, map, slice_get, slice_index, Some, IsOk, IfOk, IfErr};
+ghost use Rattle.script_compiler.specs.Costs.{HasCostAt, IsCostRefused};
+ghost use Rattle.script_compiler.specs.Longest.{longest};
 ghost use Rattle.plan_flow.specs.Rules.{pages_alone};
 ghost use Rattle.script_scheme.specs.Scheme.{falls_out, all_places, marks_of};
 ghost use Rattle.script_scheme.specs.Compiled.{plan_of, lines_of_places, body_of, beginning, opening_of, places_of, instrs_of, nested, AreFine, Tabled, IsCodeOf, CostsItsNeeds, IsAccepted};
@@ -18,20 +20,18 @@ ghost use Rattle.plan_code.specs.Program.{IsProgram};
 ghost use Rattle.plan_verifier.specs.Typing.{IsTyped};
 ghost use Rattle.script_meaning.specs.Meaning.{PlaysAsItReads};
 
-use crate::cost::first_round;
+use crate::cost::costly;
 use crate::falls::{all_fall, all_silent};
 use crate::fault::CompileFault;
-use crate::marks::Marks;
 use crate::needs::{first_over, needs};
 use crate::opening::{built, test};
 use crate::refusal::refused;
-use crate::work::Work;
+use crate::work::{Laid, Work};
 use mux_config::Config;
 use plan_code::{Code, Line, Plan};
 use plan_flow::Cause;
 use script_front::{Script, Statement};
 use script_meaning::laws;
-use script_scheme::Spot;
 use std::alloc::{AllocError, Global};
 
 /// Whether what follows each of these blocks can be reached.
@@ -73,7 +73,7 @@ fn plan_of(script: &Script) -> Plan
 }
 
 /// All that is laid down of a script that begins with this configuration.
-fn lay(alloc: Global, plan: &Plan, script: &Script, config: &Config) -> Result<Work, CompileFault>
+fn lay(alloc: Global, plan: &Plan, script: &Script, config: &Config) -> Result<Laid, CompileFault>
     ensures lines { IfOk result (λ w. w.lines.items ≡ lines_of_places (all_places plan.now
         script.now.last_line (body_of script.now) (beginning config.now))) }
     ensures marks { IfOk result (λ w. w.marks.items ≡ marks_of 0 (all_places plan.now
@@ -94,12 +94,7 @@ fn lay(alloc: Global, plan: &Plan, script: &Script, config: &Config) -> Result<W
 {
     let known = known_of(alloc, script.blocks())?;
     let silent = silent_of(alloc, script.blocks())?;
-    let mut work = Work {
-        lines: Vec::new(alloc),
-        marks: Marks::new(alloc),
-        now: Spot::opening(config),
-        saved: Vec::new(alloc),
-    };
+    let mut work = Work::new(alloc, config);
     let falls = match work.block(
         plan,
         &known,
@@ -112,34 +107,37 @@ fn lay(alloc: Global, plan: &Plan, script: &Script, config: &Config) -> Result<W
         Err(fault) => return Err(fault),
     };
     match work.close(falls, script.last_line()) {
-        Ok(()) => Ok(work),
+        Ok(()) => Ok(work.into_laid()),
         Err(fault) => Err(fault),
     }
 }
 
 /// The number of the line that an instruction comes from.
-fn line_at(lines: &[Line], pc: usize) -> u16 {
+fn line_at(lines: &[Line], pc: usize) -> u16
+    ensures { (line : Line) → slice_get lines.now pc ≡ Some line → result ≡ line.number }
+{
     match lines.get(pc) {
         Some(line) => line.number,
         None => 0,
     }
 }
 
-/// Whether every need is within the budget: refused is `Cost`, at the first instruction that goes back on a round
-/// without a suspension, and where there is none at the first whose need is over the budget.
+/// Whether every need is within the budget: refused is `Cost`, at the first instruction that ends a loop which can be
+/// gone round without a suspension, and where there is none at the first whose need is over the budget.
 fn test_costs(alloc: Global, lines: &[Line], needs: &[u16], budget: u8) -> Result<(), CompileFault>
+    requires few { length lines.now ≤ 4096 }
+    requires needs { (pc : ℕ) → slice_index needs.now pc ≡ longest (instrs_of lines.now)
+        (budget + 1) pc }
     ensures within { IsOk result → (pc : ℕ) → slice_index needs.now pc ≤ budget }
     ensures refused { IfErr result (λ e. e ≢ Memory → (pc : ℕ) × (budget
         < slice_index needs.now pc)) }
     ensures why { IfErr result (λ e. IfRefused e (λ at given. given ≡ Cost)) }
+    ensures line { IfErr result (λ e. IfRefused e (λ at given. HasCostAt budget lines.now at)) }
 {
     let Some(over) = first_over(needs, budget) else {
         return Ok(());
     };
-    let pc = match first_round(alloc, lines)? {
-        Some(round) => round,
-        None => over,
-    };
+    let pc = costly(alloc, lines, over)?;
     Err(refused(line_at(lines, pc), Cause::Cost))
 }
 
@@ -172,9 +170,9 @@ fn promise(script: &Script, code: &Code)
 ///
 /// `Refused` with the first fault that is found as the code is laid down, in text order: of an item, of the opening
 /// at the line of `begin`, and of a statement, where `Table` says that it cannot be reached. `Limit` only where a limit
-/// of codes would be passed, `Memory` where memory was refused. Costs come last: `Cost` is at the line of the first loop
-/// that can be gone round without a suspension, or else of the first instruction from which more instructions than the
-/// budget can run in one frame. A script that is accepted is refused only for want of memory.
+/// of codes would be passed, `Memory` where memory was refused. Costs come last: `Cost` is at the line of the first instruction
+/// that ends a loop which can be gone round without a suspension, or else of the first instruction from which more
+/// instructions than the budget can run in one frame. A script that is accepted is refused only for want of memory.
 pub fn compile(alloc: Global, script: &Script) -> Result<Code, CompileFault>
     ensures code { IfOk result (λ c. IsCodeOf script.now c) }
     ensures costs { IfOk result (λ c. CostsItsNeeds c) }
@@ -190,6 +188,8 @@ pub fn compile(alloc: Global, script: &Script) -> Result<Code, CompileFault>
     ensures refused { IfErr result (λ e. e ≢ Memory → IsAccepted script.now → ⊥) }
     ensures why { IfErr result (λ e. IfRefused e (λ line cause. IsRefused script.now line
         cause)) }
+    ensures cost { IfErr result (λ e. IfRefused e (λ line cause. cause ≡ Cost
+        → IsCostRefused script.now line)) }
 {
     let plan = plan_of(script);
     let config = built(script.items())?;
@@ -198,7 +198,8 @@ pub fn compile(alloc: Global, script: &Script) -> Result<Code, CompileFault>
     let costs = needs(alloc, &work.lines, plan.budget)?;
     test_costs(alloc, &work.lines, &costs, plan.budget)?;
     let labels = work.marks.labels(alloc, &costs)?;
-    match Code::new(plan, work.marks.into_configs(), labels, work.lines) {
+    let configs = work.marks.into_configs(alloc)?;
+    match Code::new(plan, configs, labels, work.lines) {
         Some(code) => {
             promise(script, &code);
             Ok(code)

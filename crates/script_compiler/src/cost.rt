@@ -1,6 +1,12 @@
-//! Why a code is refused in which more instructions can run in one frame than the budget.
+//! Where a code is refused in which more instructions can run in one frame than the budget.
 
-ghost use Rattle.std.specs.Prelude.{◌<◌, length};
+ghost use Rattle.std.specs.Prelude.{◌≡◌, ◌↔◌, ◌+◌, ◌<◌, ◌≤◌, ℕ, [], true, false, length, slice_get, Some, None, IsTrue, IfOk, IfSome, OnOk};
+ghost use Rattle.plan_flow.specs.Rules.{continues, target_of};
+ghost use Rattle.script_scheme.specs.Compiled.{instrs_of};
+ghost use Rattle.script_scheme.specs.Need.{GoesTo};
+ghost use Rattle.script_compiler.specs.Costs.{ClosesCycle, ComesBack, IsCostlyAt, IsFirst};
+ghost use Rattle.script_compiler.specs.Longest.{longest};
+ghost use Rattle.script_compiler.specs.Reaching.{GrowsBy, IsAt, Searched, trues};
 
 use plan_code::{Instr, Line};
 use plan_flow::ways::{continues, suspends, target_of};
@@ -13,21 +19,25 @@ struct Reached {
     waiting: Vec<usize>,
 }
 
-impl Reached {
-    /// No place of a code of this length is reached yet.
-    fn none(alloc: Global, length: usize) -> Result<Reached, AllocError> {
-        let mut places = Vec::new(alloc);
-        for _place in 0..length {
-            places.push(false)?;
-        }
-        Ok(Reached {
-            places,
-            waiting: Vec::new(alloc),
-        })
+/// No place of a code of this length.
+fn no_places(alloc: Global, count: usize) -> Result<Vec<bool>, AllocError>
+    ensures long { IfOk result (λ v. length v.items ≡ count) }
+    ensures none { IfOk result (λ v. (k : ℕ) → IsAt v.items k → ⊥) }
+    ensures count { IfOk result (λ v. trues v.items ≡ 0) }
+{
+    let mut places = Vec::new(alloc);
+    for _place in 0..count {
+        places.push(false)?;
     }
+    Ok(places)
+}
 
+impl Reached {
     /// A place is reached.
-    fn add(&mut self, place: usize) -> Result<(), AllocError> {
+    fn add(&mut self, place: usize) -> Result<(), AllocError>
+        ensures { OnOk result (GrowsBy self.old.places.items self.new.places.items
+            self.old.waiting.items self.new.waiting.items (λ k. k ≡ place)) }
+    {
         if place >= self.places.len() {
             return Ok(());
         }
@@ -39,59 +49,157 @@ impl Reached {
         Ok(())
     }
 
+    /// The place to which an instruction can jump.
+    fn add_target(&mut self, instr: &Instr) -> Result<(), AllocError>
+        ensures { OnOk result (GrowsBy self.old.places.items self.new.places.items
+            self.old.waiting.items self.new.waiting.items (λ k. target_of instr.now ≡ Some k)) }
+    {
+        match target_of(*instr) {
+            Some(target) => self.add(usize::from(target)),
+            None => Ok(()),
+        }
+    }
+
+    /// The place after an instruction, where it continues to it.
+    fn add_next(&mut self, instr: &Instr, pc: usize) -> Result<(), AllocError>
+        requires { pc < 4096 }
+        ensures { OnOk result (GrowsBy self.old.places.items self.new.places.items
+            self.old.waiting.items self.new.waiting.items (λ k. (continues instr.now ≡ true)
+            × (k ≡ pc + 1))) }
+    {
+        if !continues(*instr) {
+            return Ok(());
+        }
+        self.add(pc + 1)
+    }
+
     /// The places to which the machine can go from an instruction in the same frame.
-    fn add_following(&mut self, instr: &Instr, pc: usize) -> Result<(), AllocError> {
+    fn add_following(&mut self, instr: &Instr, pc: usize) -> Result<(), AllocError>
+        requires { pc < 4096 }
+        ensures { OnOk result (GrowsBy self.old.places.items self.new.places.items
+            self.old.waiting.items self.new.waiting.items (GoesTo instr.now pc)) }
+    {
         if suspends(*instr) {
             return Ok(());
         }
-        if let Some(target) = target_of(*instr) {
-            self.add(usize::from(target))?;
-        }
-        if continues(*instr) {
-            self.add(pc.saturating_add(1))?;
-        }
-        Ok(())
+        self.add_target(instr)?;
+        self.add_next(instr, pc)
     }
+
+    /// Looks on from a place that waits. False where none does.
+    fn step(&mut self, lines: &[Line]) -> Result<bool, AllocError>
+        requires { length lines.now ≤ 4096 }
+        ensures onward { IfOk result (λ b. b ≡ true → (pc n : ℕ) → Searched (instrs_of lines.now)
+            pc n self.old.places.items self.old.waiting.items → Searched (instrs_of lines.now) pc
+            (n + 1) self.new.places.items self.new.waiting.items) }
+        ensures done { IfOk result (λ b. b ≡ false → (self.old.waiting.items ≡ [])
+            × (self.new.places.items ≡ self.old.places.items)) }
+    {
+        let Some(place) = self.waiting.pop() else {
+            return Ok(false);
+        };
+        if place < lines.len() {
+            self.add_following(&lines[place].instr, place)?;
+        }
+        Ok(true)
+    }
+
+    /// Whether a place is reached.
+    fn has(&self, place: usize) -> bool
+        ensures { IsTrue result ↔ IsAt self.now.places.items place }
+    {
+        match self.places.get(place) {
+            Some(is_reached) => *is_reached,
+            None => false,
+        }
+    }
+}
+
+/// Where the machine can go from an instruction.
+fn begun(alloc: Global, lines: &[Line], pc: usize) -> Result<Reached, AllocError>
+    requires few { length lines.now ≤ 4096 }
+    requires within { pc < length lines.now }
+    ensures { IfOk result (λ r. Searched (instrs_of lines.now) pc 0 r.places.items
+        r.waiting.items) }
+{
+    let mut reached = Reached {
+        places: no_places(alloc, lines.len())?,
+        waiting: Vec::new(alloc),
+    };
+    reached.add_following(&lines[pc].instr, pc)?;
+    Ok(reached)
 }
 
 /// Whether the machine can come back to an instruction in the same frame.
-fn comes_back(alloc: Global, lines: &[Line], pc: usize) -> Result<bool, AllocError> {
-    let mut reached = Reached::none(alloc, lines.len())?;
-    if let Some(line) = lines.get(pc) {
-        reached.add_following(&line.instr, pc)?;
-    }
+fn comes_back(alloc: Global, lines: &[Line], pc: usize) -> Result<bool, AllocError>
+    requires few { length lines.now ≤ 4096 }
+    requires within { pc < length lines.now }
+    ensures back { IfOk result (λ b. IsTrue b → ComesBack (instrs_of lines.now) pc) }
+    ensures found { IfOk result (λ b. ComesBack (instrs_of lines.now) pc → IsTrue b) }
+{
+    let mut reached = begun(alloc, lines, pc)?;
     for _step in 0..lines.len() {
-        match reached.waiting.pop() {
-            None => break,
-            Some(place) => {
-                if let Some(line) = lines.get(place) {
-                    reached.add_following(&line.instr, place)?;
-                }
-            }
+        let more = reached.step(lines)?;
+        if !more {
+            return Ok(reached.has(pc));
         }
     }
-    Ok(match reached.places.get(pc) {
-        Some(is_reached) => *is_reached,
-        None => false,
-    })
+    Ok(reached.has(pc))
 }
 
 /// Whether an instruction goes back: it can jump to its own or an earlier place.
-fn goes_back(instr: Instr, pc: usize) -> bool {
+fn goes_back(instr: Instr, pc: usize) -> bool
+    ensures yes { IsTrue result → (target : ℕ) × (target_of instr ≡ Some target)
+        × (target ≤ pc) }
+    ensures no { (target : ℕ) → target_of instr ≡ Some target → target ≤ pc → IsTrue result }
+{
     match target_of(instr) {
         Some(target) => usize::from(target) <= pc,
         None => false,
     }
 }
 
-/// The first instruction that goes back on a round without a suspension, if there is one.
-pub(crate) fn first_round(alloc: Global, lines: &[Line]) -> Result<Option<usize>, AllocError> {
-    for (pc, line) in lines.iter().enumerate() {
-        if goes_back(line.instr, pc) {
-            if comes_back(alloc, lines, pc)? {
-                return Ok(Some(pc));
-            }
+/// Whether an instruction is the end of a loop that can be gone round without a suspension.
+fn closes_cycle(alloc: Global, lines: &[Line], pc: usize) -> Result<bool, AllocError>
+    requires few { length lines.now ≤ 4096 }
+    requires within { pc < length lines.now }
+    ensures yes { IfOk result (λ b. IsTrue b → ClosesCycle (instrs_of lines.now) pc) }
+    ensures no { IfOk result (λ b. ClosesCycle (instrs_of lines.now) pc → IsTrue b) }
+{
+    if !goes_back(lines[pc].instr, pc) {
+        return Ok(false);
+    }
+    comes_back(alloc, lines, pc)
+}
+
+/// The first instruction that ends a loop that can be gone round without a suspension, if there is one.
+fn first_round(alloc: Global, lines: &[Line]) -> Result<Option<usize>, AllocError>
+    requires few { length lines.now ≤ 4096 }
+    ensures some { IfOk result (λ o. IfSome o (λ pc. IsFirst (ClosesCycle
+        (instrs_of lines.now)) pc)) }
+    ensures none { IfOk result (λ o. o ≡ None → (k : ℕ) → ClosesCycle (instrs_of lines.now) k
+        → ⊥) }
+{
+    for pc in 0..lines.len() {
+        let closes = closes_cycle(alloc, lines, pc)?;
+        if closes {
+            return Ok(Some(pc));
         }
     }
     Ok(None)
+}
+
+/// The instruction at which a code is refused of which this is the first with a need over a budget: the end of a loop that
+/// can be gone round without a suspension, or else this one.
+pub(crate) fn costly(alloc: Global, lines: &[Line], over: usize) -> Result<usize, AllocError>
+    requires few { length lines.now ≤ 4096 }
+    ensures { IfOk result (λ pc. (budget : ℕ) → budget
+        < longest (instrs_of lines.now) (budget + 1) over
+        → ((k : ℕ) → k < over → longest (instrs_of lines.now) (budget + 1) k ≤ budget)
+        → IsCostlyAt budget (instrs_of lines.now) pc) }
+{
+    match first_round(alloc, lines)? {
+        Some(round) => Ok(round),
+        None => Ok(over),
+    }
 }

@@ -3,7 +3,8 @@
 ghost use Rattle.std.specs.Prelude.{◌≡◌, ℕ, ◌<◌, ◌≤◌, [], ◌∷◌, ◌++◌, length, slice_get, slice_index, false, Some, OnOk, IfOk, IfErr};
 ghost use Rattle.script_scheme.specs.Compiled.{Added, AreLabelsOf};
 ghost use Rattle.script_compiler.specs.Longest.{Priced};
-ghost use Rattle.script_compiler.specs.Marked.{mark_in};
+ghost use Rattle.script_compiler.specs.Marked.{configuration_at, mark_in};
+ghost use Rattle.script_compiler.specs.Pool.{Extends};
 ghost use Rattle.script_compiler.specs.Refusals.{IsRefusal};
 ghost use Rattle.script_compiler.specs.Room.{HasRoomFor, IsDeepAtMost};
 ghost use Rattle.script_compiler.specs.declared.fault.CompileFault.TheVariants.{Limit, Memory};
@@ -11,14 +12,15 @@ ghost use Rattle.script_compiler.specs.declared.fault.CompileFault.TheVariants.{
 use crate::fault::CompileFault;
 use crate::labels::labels_of;
 use crate::short::ShortMark;
-use crate::table::{ConfigTable, has_room_for_both, index_of};
+use crate::table::ConfigTable;
 use mux_config::Config;
 use mux_tables::Tables;
 use plan_code::Label;
 use std::alloc::Global;
 use std::marker::Model;
 
-/// Marks, and a table of configurations. Contracts see the marks whole, with the configurations that they name.
+/// Marks, and the configurations that they and the compiler's flows have. Contracts see the marks whole, with the
+/// configurations that they name.
 #[derive(Drop)]
 pub(crate) struct Marks {
     short: Vec<ShortMark>,
@@ -27,16 +29,18 @@ pub(crate) struct Marks {
 
 impl Model for Marks {
     ghost use Rattle.std.specs.Prelude.{length, map};
-    ghost use Rattle.script_compiler.specs.Marked.{MarkedTable, mark_in, AreInTable};
+    ghost use Rattle.script_compiler.specs.Marked.{mark_in, AreInTable};
+    ghost use Rattle.script_compiler.specs.Pool.{MarkedPool};
 
-    ghost Value = { MarkedTable };
+    ghost Value = { MarkedPool };
 
     ghost view = { λ m. record {
-      items = map (mark_in m.table.items) m.short.items;
-      table = m.table.items;
+      items = map (mark_in m.table.table) m.short.items;
+      table = m.table.table;
+      pool = m.table.pool;
     } };
 
-    ghost invariant = { λ m. AreInTable (length m.table.items) m.short.items };
+    ghost invariant = { λ m. AreInTable (length m.table.table) m.short.items };
 }
 
 impl Marks {
@@ -44,6 +48,7 @@ impl Marks {
     pub(crate) fn new(alloc: Global) -> Marks
         ensures items { result.items ≡ [] }
         ensures table { result.table ≡ [] }
+        ensures pool { result.pool ≡ [] }
     {
         Marks {
             short: Vec::new(alloc),
@@ -58,30 +63,60 @@ impl Marks {
         self.short.len()
     }
 
-    /// The index of a configuration in the table, to which it is added where it does not stand there yet.
+    /// The number of a configuration, which is taken in where it has none yet.
+    ///
+    /// # Errors
+    ///
+    /// `Memory`.
+    pub(crate) fn number_of(&mut self, config: &Tables) -> Result<usize, CompileFault>
+        ensures items { self.new.items ≡ self.old.items }
+        ensures table { self.new.table ≡ self.old.table }
+        ensures kept { Extends self.old.pool self.new.pool }
+        ensures number { IfOk result (λ i. slice_get self.new.pool i ≡ Some config.now) }
+        ensures memory { IfErr result (λ e. e ≡ Memory) }
+    {
+        self.table.number_of(config)
+    }
+
+    /// The configuration of a number.
+    pub(crate) fn config(&self, number: usize) -> &Config
+        requires { number < length self.now.pool }
+        ensures { slice_get self.now.pool number ≡ Some result.now }
+    {
+        self.table.config(number)
+    }
+
+    /// The index in the table of the configuration of a number, which is added where it is not there yet.
     ///
     /// # Errors
     ///
     /// `Limit` where the table is full, `Memory`.
-    pub(crate) fn index_of(&mut self, config: &Tables) -> Result<u16, CompileFault>
-        requires { length self.old.table ≤ 256 }
+    pub(crate) fn index_of(&mut self, number: usize) -> Result<u16, CompileFault>
+        requires number { number < length self.old.pool }
+        requires room { length self.old.table ≤ 256 }
         ensures items { self.new.items ≡ self.old.items }
+        ensures pool { self.new.pool ≡ self.old.pool }
         ensures room { OnOk result (length self.new.table ≤ 256) }
-        ensures added { OnOk result (Added config.now self.old.table self.new.table) }
-        ensures index { IfOk result (λ i. slice_get self.new.table i ≡ Some config.now) }
+        ensures added { OnOk result (Added (configuration_at self.old.pool number) self.old.table
+            self.new.table) }
+        ensures index { IfOk result (λ i. slice_get self.new.table i
+            ≡ Some (configuration_at self.old.pool number)) }
         ensures refused { IfErr result (λ e. IsRefusal e → ⊥) }
         ensures limited { IfErr result (λ e. e ≡ Limit
-            → HasRoomFor self.old.table (config.now ∷ []) → ⊥) }
+            → HasRoomFor self.old.table (configuration_at self.old.pool number ∷ []) → ⊥) }
     {
-        index_of(&mut self.table, config)
+        self.table.index_of(number)
     }
 
-    /// Whether the table has room for those of these two that it does not have.
-    pub(crate) fn has_room_for_both(&self, first: &Tables, second: &Tables) -> bool
-        ensures limited { result ≡ false → HasRoomFor self.now.table (first.now ∷ second.now ∷ [])
+    /// Whether the table has room for those of the configurations of two numbers that it does not have.
+    pub(crate) fn has_room_for_both(&self, first: usize, second: usize) -> bool
+        requires first { first < length self.now.pool }
+        requires second { second < length self.now.pool }
+        ensures limited { result ≡ false → HasRoomFor self.now.table
+            (configuration_at self.now.pool first ∷ configuration_at self.now.pool second ∷ [])
             → ⊥ }
     {
-        has_room_for_both(&self.table, first, second)
+        self.table.has_room_for_both(first, second)
     }
 
     /// One mark more, whose configurations stand in the table.
@@ -89,6 +124,7 @@ impl Marks {
         requires current { mark.cur < length self.old.table }
         requires following { mark.next < length self.old.table }
         ensures table { self.new.table ≡ self.old.table }
+        ensures pool { self.new.pool ≡ self.old.pool }
         ensures added { OnOk result (self.new.items ≡ self.old.items
             ++ mark_in self.old.table mark ∷ []) }
         ensures memory { IfErr result (λ e. e ≡ Memory) }
@@ -115,9 +151,14 @@ impl Marks {
     }
 
     /// The configurations of the table.
-    pub(crate) fn into_configs(self) -> Vec<Config>
-        ensures { result.items ≡ self.table }
+    ///
+    /// # Errors
+    ///
+    /// `Memory`.
+    pub(crate) fn into_configs(self, alloc: Global) -> Result<Vec<Config>, CompileFault>
+        ensures value { IfOk result (λ v. v.items ≡ self.table) }
+        ensures memory { IfErr result (λ e. e ≡ Memory) }
     {
-        self.table.into_configs()
+        self.table.into_configs(alloc)
     }
 }

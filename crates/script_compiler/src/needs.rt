@@ -106,6 +106,7 @@ pub(crate) fn needs(alloc: Global, lines: &[Line], budget: u8) -> Result<Vec<u16
 pub(crate) fn first_over(needs: &[u16], budget: u8) -> Option<usize>
     ensures none { result ≡ None → (pc : ℕ) → slice_index needs.now pc ≤ budget }
     ensures some { IfSome result (λ pc. budget < slice_index needs.now pc) }
+    ensures first { IfSome result (λ pc. (k : ℕ) → k < pc → slice_index needs.now k ≤ budget) }
 {
     for (pc, need) in needs.iter().enumerate() {
         if *need > u16::from(budget) {

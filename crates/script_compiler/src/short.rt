@@ -1,4 +1,4 @@
-//! What the compiler keeps of a mark.
+//! What the compiler keeps of a mark, and of a spot that is saved.
 
 use plan_code::Swap;
 
@@ -15,4 +15,17 @@ pub(crate) struct ShortMark {
     pub(crate) pending: Swap,
     /// How many repeats stand around it.
     pub(crate) repeats: u8,
+}
+
+/// A spot, with the configurations by their numbers in a pool.
+#[derive(Clone, Copy)]
+pub(crate) struct ShortSpot {
+    /// The number of the current configuration.
+    pub(crate) current: usize,
+    /// The number of the next configuration.
+    pub(crate) next: usize,
+    /// Whether a swap is pending, and when it comes.
+    pub(crate) pending: Swap,
+    /// Whether a label stands there.
+    pub(crate) labelled: bool,
 }

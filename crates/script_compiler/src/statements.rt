@@ -186,7 +186,7 @@ impl Work {
             counters (when line contact (block_of (tables blocks.now) first.now) rest) self.old
             → ⊥) }
     {
-        let at = self.lines.len();
+        let at = self.len();
         if let Err(fault) = self.fork(line, counters, Instr::Test { contact, target: 0 }) {
             return Err(fault);
         }
@@ -232,7 +232,7 @@ impl Work {
             counters (either line contact (block_of (tables blocks.now) first.now)
             (block_of (tables blocks.now) second.now) rest) self.old → ⊥) }
     {
-        let at = self.lines.len();
+        let at = self.len();
         if let Err(fault) = self.fork(line, counters, Instr::Test { contact, target: 0 }) {
             return Err(fault);
         }
@@ -240,7 +240,7 @@ impl Work {
             Ok(falls) => falls,
             Err(fault) => return Err(fault),
         };
-        let jump = self.lines.len();
+        let jump = self.len();
         if let Err(fault) = self.turn(first_falls, line, counters, contact, at) {
             return Err(fault);
         }
@@ -289,7 +289,7 @@ impl Work {
         if let Err(fault) = self.put(line, counters, Instr::Set { counter, times }) {
             return Err(fault);
         }
-        let target = self.lines.len() as u16;
+        let target = self.len() as u16;
         if let Err(fault) = self.enter(all_fall(known, body)) {
             return Err(fault);
         }
@@ -338,7 +338,7 @@ impl Work {
         ensures limited { IfErr result (λ e. e ≡ Limit → (rest : Block) → CanLay plan.now
             counters (forever line (block_of (tables blocks.now) body.now) rest) self.old → ⊥) }
     {
-        let target = self.lines.len() as u16;
+        let target = self.len() as u16;
         if let Err(fault) = self.enter(all_fall(known, body)) {
             return Err(fault);
         }

@@ -1,197 +1,249 @@
 //! The table of configurations that labels name, each content once.
 
-ghost use Rattle.std.specs.Prelude.{◌≡◌, ◌≢◌, ◌≤◌, ◌<◌, ℕ, [], ◌∷◌, ◌++◌, length, map, slice_get, false, Some, None, OnOk, IfOk, IfErr, IfSome};
+ghost use Rattle.std.specs.Prelude.{◌≡◌, ◌≢◌, ◌≤◌, ◌<◌, ℕ, [], ◌∷◌, ◌++◌, length, map, slice_get, false, true, Some, None, OnOk, IfOk, IfErr, IfSome};
 ghost use Rattle.script_scheme.specs.Compiled.{Added};
-ghost use Rattle.script_compiler.specs.Fingerprint.{print_of};
+ghost use Rattle.script_compiler.specs.Marked.{configuration_at};
+ghost use Rattle.script_compiler.specs.Pool.{AreBelow, Extends, IsDistinct};
 ghost use Rattle.script_compiler.specs.Refusals.{IsRefusal};
 ghost use Rattle.script_compiler.specs.Room.{HasRoomFor};
 ghost use Rattle.script_compiler.specs.declared.fault.CompileFault.TheVariants.{Limit, Memory};
 
 use crate::fault::CompileFault;
-use crate::fingerprint::print_of;
+use crate::pool::Pool;
 use mux_config::{Config, Store};
 use mux_tables::Tables;
 use plan_code::limits::MOST_CONFIGURATIONS;
-use plan_flow::flow::is_same;
 use std::alloc::Global;
 use std::marker::Model;
 
-/// A table of configurations. Contracts see the configurations.
+/// A pool of configurations, and the table of those that labels name. Contracts see both as lists.
 #[derive(Drop)]
 pub(crate) struct ConfigTable {
-    configs: Vec<Config>,
-    /// The fingerprint of each, so that a search looks at the parts of few.
-    prints: Vec<u64>,
-    /// The two places that were found last, where a search begins: mostly those of the current and of the next
-    /// configuration.
-    recent: [usize; 2],
+    pool: Pool,
+    /// The numbers of the table's configurations, in its order.
+    order: Vec<usize>,
 }
 
 impl Model for ConfigTable {
-    ghost use Rattle.std.specs.Prelude.{◌≡◌, map};
-    ghost use Rattle.script_compiler.specs.Fingerprint.{Listed, print_of};
+    ghost use Rattle.std.specs.Prelude.{length, map};
+    ghost use Rattle.script_compiler.specs.Marked.{configuration_at};
+    ghost use Rattle.script_compiler.specs.Pool.{AreBelow, PooledTable};
 
-    ghost Value = { Listed };
+    ghost Value = { PooledTable };
 
-    ghost view = { λ t. record { items = t.configs.items } };
+    ghost view = { λ t. record {
+      pool = t.pool.items;
+      table = map (configuration_at t.pool.items) t.order.items;
+    } };
 
-    ghost invariant = { λ t. t.prints.items ≡ map print_of t.configs.items };
+    ghost invariant = { λ t. AreBelow (length t.pool.items) t.order.items };
 }
 
 impl ConfigTable {
     /// No configuration.
     pub(crate) fn new(alloc: Global) -> ConfigTable
-        ensures { result.items ≡ [] }
+        ensures pool { result.pool ≡ [] }
+        ensures table { result.table ≡ [] }
     {
         ConfigTable {
-            configs: Vec::new(alloc),
-            prints: Vec::new(alloc),
-            recent: [0; 2],
+            pool: Pool::new(alloc),
+            order: Vec::new(alloc),
         }
     }
 
-    /// How many configurations there are.
-    pub(crate) fn len(&self) -> usize
-        ensures { result ≡ length self.now.items }
-    {
-        self.configs.len()
-    }
-
-    /// The configurations.
-    pub(crate) fn into_configs(self) -> Vec<Config>
-        ensures { result.items ≡ self.items }
-    {
-        self.configs
-    }
-
-    /// Where a configuration stands, if that is one of the places that were found last.
-    fn recall(&self, config: &Tables) -> Option<usize>
-        ensures within { IfSome result (λ i. i < length self.now.items) }
-        ensures some { IfSome result (λ i. slice_get self.now.items i ≡ Some config.now) }
-    {
-        for place in self.recent {
-            if place < self.configs.len() {
-                if is_same(&self.configs[place], config) {
-                    return Some(place);
-                }
-            }
-        }
-        None
-    }
-
-    /// Where a configuration stands; None where it does not.
-    fn find(&self, config: &Tables) -> Option<usize>
-        ensures within { IfSome result (λ i. i < length self.now.items) }
-        ensures some { IfSome result (λ i. slice_get self.now.items i ≡ Some config.now) }
-        ensures none { result ≡ None → (i : ℕ) → slice_get self.now.items i ≢ Some config.now }
-    {
-        if let Some(place) = self.recall(config) {
-            return Some(place);
-        }
-        find(&self.prints, &self.configs, print_of(config), config)
-    }
-
-    /// Notes that a place was found.
-    fn note(&mut self, place: usize)
-        ensures { self.new.items ≡ self.old.items }
-    {
-        if place != self.recent[0] && place != self.recent[1] {
-            self.recent = [self.recent[1], place];
-        }
-    }
-
-    /// One configuration more.
-    fn add(&mut self, config: &Tables) -> Result<(), CompileFault>
-        ensures added { OnOk result (self.new.items ≡ self.old.items ++ config.now ∷ []) }
-        ensures unchanged { IfErr result (λ _. self.new.items ≡ self.old.items) }
+    /// The number of a configuration, which is taken in where it is not there yet.
+    ///
+    /// # Errors
+    ///
+    /// `Memory`.
+    pub(crate) fn number_of(&mut self, config: &Tables) -> Result<usize, CompileFault>
+        ensures table { self.new.table ≡ self.old.table }
+        ensures kept { Extends self.old.pool self.new.pool }
+        ensures number { IfOk result (λ i. slice_get self.new.pool i ≡ Some config.now) }
         ensures memory { IfErr result (λ e. e ≡ Memory) }
     {
-        let place = self.configs.len();
-        if self.prints.push(print_of(config)).is_err() {
+        self.pool.number_of(config)
+    }
+
+    /// The configuration of a number.
+    pub(crate) fn config(&self, number: usize) -> &Config
+        requires { number < length self.now.pool }
+        ensures { slice_get self.now.pool number ≡ Some result.now }
+    {
+        self.pool.config(number)
+    }
+
+    /// No configuration has two numbers.
+    fn is_distinct(&self)
+        ensures { IsDistinct self.now.pool }
+    {
+        self.pool.is_distinct();
+    }
+
+    /// The index in the table of the configuration of a number; None where it is not there.
+    fn find(&self, number: usize) -> Option<usize>
+        requires { number < length self.now.pool }
+        ensures some { IfSome result (λ i. slice_get self.now.table i
+            ≡ Some (configuration_at self.now.pool number)) }
+        ensures none { result ≡ None → (i : ℕ) → slice_get self.now.table i
+            ≢ Some (configuration_at self.now.pool number) }
+    {
+        self.pool.is_distinct();
+        position(&self.order, number)
+    }
+
+    /// How many configurations the table has.
+    fn len(&self) -> usize
+        ensures { result ≡ length self.now.table }
+    {
+        self.order.len()
+    }
+
+    /// The table takes in the configuration of a number.
+    fn add(&mut self, number: usize) -> Result<(), CompileFault>
+        requires { number < length self.old.pool }
+        ensures pool { self.new.pool ≡ self.old.pool }
+        ensures added { OnOk result (self.new.table ≡ self.old.table
+            ++ configuration_at self.old.pool number ∷ []) }
+        ensures unchanged { IfErr result (λ _. self.new.table ≡ self.old.table) }
+        ensures memory { IfErr result (λ e. e ≡ Memory) }
+    {
+        if self.order.push(number).is_err() {
             return Err(CompileFault::Memory);
         }
-        if self.configs.push(config.to_config()).is_err() {
-            self.prints.pop();
-            return Err(CompileFault::Memory);
-        }
-        self.note(place);
         Ok(())
+    }
+
+    /// The index in the table of the configuration of a number, which is added where it is not there yet.
+    ///
+    /// # Errors
+    ///
+    /// `Limit` where the table is full, `Memory`.
+    pub(crate) fn index_of(&mut self, number: usize) -> Result<u16, CompileFault>
+        requires number { number < length self.old.pool }
+        requires room { length self.old.table ≤ 256 }
+        ensures pool { self.new.pool ≡ self.old.pool }
+        ensures room { OnOk result (length self.new.table ≤ 256) }
+        ensures added { OnOk result (Added (configuration_at self.old.pool number) self.old.table
+            self.new.table) }
+        ensures index { IfOk result (λ i. slice_get self.new.table i
+            ≡ Some (configuration_at self.old.pool number)) }
+        ensures unchanged { IfErr result (λ _. self.new.table ≡ self.old.table) }
+        ensures refused { IfErr result (λ e. IsRefusal e → ⊥) }
+        ensures limited { IfErr result (λ e. e ≡ Limit
+            → HasRoomFor self.old.table (configuration_at self.old.pool number ∷ []) → ⊥) }
+    {
+        if let Some(index) = self.find(number) {
+            return Ok(index as u16);
+        }
+        let index = self.len();
+        if index >= usize::from(MOST_CONFIGURATIONS) {
+            return Err(CompileFault::Limit);
+        }
+        if let Err(fault) = self.add(number) {
+            return Err(fault);
+        }
+        Ok(index as u16)
+    }
+
+    /// Whether the table has room for the configuration of a number, or has it.
+    fn has_room_for(&self, number: usize) -> bool
+        requires { number < length self.now.pool }
+        ensures limited { result ≡ false → HasRoomFor self.now.table
+            (configuration_at self.now.pool number ∷ []) → ⊥ }
+    {
+        if self.len() < usize::from(MOST_CONFIGURATIONS) {
+            return true;
+        }
+        self.find(number).is_some()
+    }
+
+    /// Whether the table has room for those of the configurations of two numbers that it does not have.
+    pub(crate) fn has_room_for_both(&self, first: usize, second: usize) -> bool
+        requires first { first < length self.now.pool }
+        requires second { second < length self.now.pool }
+        ensures limited { result ≡ false → HasRoomFor self.now.table
+            (configuration_at self.now.pool first ∷ configuration_at self.now.pool second ∷ [])
+            → ⊥ }
+    {
+        if self.len() <= usize::from(MOST_CONFIGURATIONS - 2) {
+            return true;
+        }
+        if second == first {
+            return self.has_room_for(first);
+        }
+        self.is_distinct();
+        if self.find(second).is_some() {
+            return self.has_room_for(first);
+        }
+        if self.find(first).is_some() {
+            return self.has_room_for(second);
+        }
+        false
+    }
+
+    /// The configurations of the table.
+    ///
+    /// # Errors
+    ///
+    /// `Memory`.
+    pub(crate) fn into_configs(self, alloc: Global) -> Result<Vec<Config>, CompileFault>
+        ensures value { IfOk result (λ v. v.items ≡ self.table) }
+        ensures memory { IfErr result (λ e. e ≡ Memory) }
+    {
+        let mut configs = self.pool.into_configs();
+        if is_in_order(&self.order) {
+            configs.truncate(self.order.len());
+            return Ok(configs);
+        }
+        picked(alloc, &configs, &self.order)
     }
 }
 
-/// Where a configuration stands among others, by their fingerprints; None where it does not.
-fn find(prints: &[u64], table: &[Config], print: u64, config: &Tables) -> Option<usize>
-    requires prints { prints.now ≡ map print_of table.now }
-    requires print { print ≡ print_of config.now }
-    ensures within { IfSome result (λ i. i < length table.now) }
-    ensures some { IfSome result (λ i. slice_get table.now i ≡ Some config.now) }
-    ensures none { result ≡ None → (i : ℕ) → slice_get table.now i ≢ Some config.now }
+/// Where a number is among others, looked for from the end; None where it is not there.
+fn position(numbers: &[usize], number: usize) -> Option<usize>
+    ensures some { IfSome result (λ i. slice_get numbers.now i ≡ Some number) }
+    ensures none { result ≡ None → (i : ℕ) → slice_get numbers.now i ≢ Some number }
 {
-    for (index, other) in prints.iter().enumerate() {
-        if *other == print {
-            if is_same(&table[index], config) {
-                return Some(index);
-            }
+    for taken in 0..numbers.len() {
+        let index = numbers.len() - taken - 1;
+        if numbers[index] == number {
+            return Some(index);
         }
     }
     None
 }
 
-/// The index of a configuration in the table, to which it is added where it does not stand there yet.
-///
-/// # Errors
-///
-/// `Limit` where the table is full, `Memory`.
-pub(crate) fn index_of(table: &mut ConfigTable, config: &Tables) -> Result<u16, CompileFault>
-    requires { length table.old.items ≤ 256 }
-    ensures room { OnOk result (length table.new.items ≤ 256) }
-    ensures added { OnOk result (Added config.now table.old.items table.new.items) }
-    ensures index { IfOk result (λ i. slice_get table.new.items i ≡ Some config.now) }
-    ensures unchanged { IfErr result (λ _. table.new.items ≡ table.old.items) }
-    ensures refused { IfErr result (λ e. IsRefusal e → ⊥) }
-    ensures limited { IfErr result (λ e. e ≡ Limit
-        → HasRoomFor table.old.items (config.now ∷ []) → ⊥) }
+/// Whether these are the first numbers, in their order.
+fn is_in_order(numbers: &[usize]) -> bool
+    ensures { result ≡ true → (i k : ℕ) → slice_get numbers.now i ≡ Some k → k ≡ i }
 {
-    if let Some(index) = table.find(config) {
-        table.note(index);
-        return Ok(index as u16);
+    for (index, number) in numbers.iter().enumerate() {
+        if *number != index {
+            return false;
+        }
     }
-    let index = table.len();
-    if index >= usize::from(MOST_CONFIGURATIONS) {
-        return Err(CompileFault::Limit);
-    }
-    if let Err(fault) = table.add(config) {
-        return Err(fault);
-    }
-    Ok(index as u16)
+    true
 }
 
-/// Whether the table has room for a configuration, or has it.
-fn has_room_for(table: &ConfigTable, config: &Tables) -> bool
-    ensures limited { result ≡ false → HasRoomFor table.now.items (config.now ∷ []) → ⊥ }
+/// The same configuration.
+fn copied(config: &Config) -> Config
+    ensures { result ≡ config.now }
 {
-    if table.len() < usize::from(MOST_CONFIGURATIONS) {
-        return true;
-    }
-    table.find(config).is_some()
+    config.to_config()
 }
 
-/// Whether the table has room for those of these two that it does not have.
-pub(crate) fn has_room_for_both(table: &ConfigTable, first: &Tables, second: &Tables) -> bool
-    ensures limited { result ≡ false → HasRoomFor table.now.items (first.now ∷ second.now ∷ [])
-        → ⊥ }
+/// The configurations of these numbers.
+fn picked(alloc: Global, configs: &[Config], numbers: &[usize]) -> Result<Vec<Config>, CompileFault>
+    requires { AreBelow (length configs.now) numbers.now }
+    ensures value { IfOk result (λ v. v.items ≡ map (configuration_at configs.now) numbers.now) }
+    ensures memory { IfErr result (λ e. e ≡ Memory) }
 {
-    if table.len() <= usize::from(MOST_CONFIGURATIONS - 2) {
-        return true;
+    let mut picked = Vec::new(alloc);
+    for number in numbers {
+        if picked.push(copied(&configs[*number])).is_err() {
+            return Err(CompileFault::Memory);
+        }
     }
-    if is_same(second, first) {
-        return has_room_for(table, first);
-    }
-    if table.find(second).is_some() {
-        return has_room_for(table, first);
-    }
-    if table.find(first).is_some() {
-        return has_room_for(table, second);
-    }
-    false
+    Ok(picked)
 }

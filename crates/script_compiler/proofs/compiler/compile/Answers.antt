@@ -9,6 +9,9 @@ use Rattle.script_scheme.specs.Scheme.{all_places, marks_of}
 use Rattle.script_scheme.specs.Judged.{IsJudged}
 use Rattle.script_scheme.specs.Need.{IsWithinBudget}
 use Rattle.script_scheme.specs.Compiled.{plan_of, with_items, opening_of, body_of, beginning, places_of, lines_of_places, instrs_of, AreFine, Tabled, AreLabelsOf, IsCodeOf, CostsItsNeeds, IsAccepted}
+use Rattle.plan_flow.specs.declared.cause.Cause.TheVariants.{Cost}
+use Rattle.script_compiler.specs.Costs.{HasCostAt, IsCostRefused}
+use Rattle.script_compiler.proofs.Uncosted.{in_uncosted, item_uncosted}
 use Rattle.script_compiler.specs.Longest.{longest, Priced}
 use Rattle.script_compiler.specs.declared.fault.CompileFault.TheVariants.{Memory}
 use Rattle.script_compiler.proofs.Refusing.{over_budget}
@@ -49,7 +52,7 @@ promise-requires c =
     let lines = c.in_ok-work.work.lines.items in
     let marks = c.in_ok-work.work.marks.items in
     let needs = c.in_ok-costs.costs.items in
-    let configs = c.into_configs.result.items in
+    let configs = c.in_ok-configs.configs.items in
     let labels = c.in_ok-labels.labels.items in
     let parts : Parts s plan config lines marks needs configs labels = record {
       plan_is = c.plan_of-plan.ensures;
@@ -58,8 +61,8 @@ promise-requires c =
       marked = c.in_ok-work.ensures.marks;
       each = λ pc. c.in_ok-costs.ensures pc ∙ ap (λ (ls : List Line). longest (instrs_of ls) (plan.budget + 1) pc) c.deref.ensures.value;
       within = λ pc. let h = c.in_ok-test_costs.ensures.within refl pc in let e = ap (λ xs. get_or xs pc 0) c.deref-3.ensures.value in omega (arith, h, e);
-      tabled = subst (λ (t : List Configuration). Tabled [] marks t) (sym c.into_configs.ensures) c.in_ok-work.ensures.table;
-      labelled = subst (λ (t : List Configuration). AreLabelsOf t marks labels) (sym c.into_configs.ensures) c.in_ok-labels.ensures.labels;
+      tabled = subst (λ (t : List Configuration). Tabled [] marks t) (sym c.in_ok-configs.ensures.value) c.in_ok-work.ensures.table;
+      labelled = subst (λ (t : List Configuration). AreLabelsOf t marks labels) (sym c.in_ok-configs.ensures.value) c.in_ok-labels.ensures.labels;
       priced = subst (λ xs. Priced xs labels) c.deref-4.ensures.value c.in_ok-labels.ensures.costs;
     } in
     let same = sym c.in-Some.ensures.value in
@@ -106,7 +109,7 @@ returns-clause-refused c =
     let lines = c.in_ok-work.work.lines.items in
     let marks = c.in_ok-work.work.marks.items in
     let needs = c.in_ok-costs.costs.items in
-    let configs = c.into_configs.result.items in
+    let configs = c.in_ok-configs.configs.items in
     let labels = c.in_ok-labels.labels.items in
     let parts : Parts s plan config lines marks needs configs labels = record {
       plan_is = c.plan_of-plan.ensures;
@@ -115,8 +118,8 @@ returns-clause-refused c =
       marked = c.in_ok-work.ensures.marks;
       each = λ pc. c.in_ok-costs.ensures pc ∙ ap (λ (ls : List Line). longest (instrs_of ls) (plan.budget + 1) pc) c.deref.ensures.value;
       within = λ pc. let h = c.in_ok-test_costs.ensures.within refl pc in let e = ap (λ xs. get_or xs pc 0) c.deref-3.ensures.value in omega (arith, h, e);
-      tabled = subst (λ (t : List Configuration). Tabled [] marks t) (sym c.into_configs.ensures) c.in_ok-work.ensures.table;
-      labelled = subst (λ (t : List Configuration). AreLabelsOf t marks labels) (sym c.into_configs.ensures) c.in_ok-labels.ensures.labels;
+      tabled = subst (λ (t : List Configuration). Tabled [] marks t) (sym c.in_ok-configs.ensures.value) c.in_ok-work.ensures.table;
+      labelled = subst (λ (t : List Configuration). AreLabelsOf t marks labels) (sym c.in_ok-configs.ensures.value) c.in_ok-labels.ensures.labels;
       priced = subst (λ xs. Priced xs labels) c.deref-4.ensures.value c.in_ok-labels.ensures.costs;
     } in
     λ is accepted.
@@ -178,4 +181,33 @@ returns-in_err-test_costs-clause-why c =
     let more : budget < get_or needs past.0 0 = let x = ap (λ xs. get_or xs past.0 0) c.deref-3.ensures.value in let y = past.1 in omega (arith, x, y) in
     over_budget lines needs budget within each past.0 more in
     inr (fine, inr (opening.0, opening.1, inr (judged, over, k)))) c.in_err-test_costs.ensures.why in
+    search (rules, h)
+
+pub returns-in_err-config-clause-cost : goal.returns-in_err-config-clause-cost
+returns-in_err-config-clause-cost c =
+    let s = c.args.script.now in
+    let h : IfRefused c.in_err-config.field-0.0 (λ line cause. cause ≡ Cost → IsCostRefused s line) = refused_map c.in_err-config.field-0.0 (λ at given k e. absurd (item_uncosted _ nothing at given k e)) c.in_err-config.ensures.why in
+    search (rules, h)
+
+pub returns-in_err-work-clause-cost : goal.returns-in_err-work-clause-cost
+returns-in_err-work-clause-cost c =
+    let s = c.args.script.now in
+    let h : IfRefused c.in_err-work.field-0.0 (λ line cause. cause ≡ Cost → IsCostRefused s line) = refused_map c.in_err-work.field-0.0 (λ at given k e. absurd (in_uncosted _ _ _ at given k e)) c.in_err-work.ensures.why in
+    search (rules, h)
+
+pub returns-in_err-test_costs-clause-cost : goal.returns-in_err-test_costs-clause-cost
+returns-in_err-test_costs-clause-cost c =
+    let s = c.args.script.now in
+    let plan = c.plan_of-plan.result in
+    let lines = c.in_ok-work.work.lines.items in
+    let budget = plan.budget in
+    let config = c.in_ok-config.config in
+    let plan_is : plan ≡ plan_of s = c.plan_of-plan.ensures in
+    let config_is : config ≡ opening_of s = c.in_ok-config.ensures.made ∙ ap (λ xs. with_items xs nothing) c.items.ensures.value in
+    let places_are = ap (λ (p : Plan). all_places p s.last_line (body_of s) (beginning config)) plan_is ∙ ap (λ x. all_places (plan_of s) s.last_line (body_of s) (beginning x)) config_is in
+    let lines_are : lines ≡ lines_of_places (places_of s) = c.in_ok-work.ensures.lines ∙ ap lines_of_places places_are in
+    let budget_is : budget ≡ s.header.budget = ap (λ (p : Plan). p.budget) plan_is in
+    let h : IfRefused c.in_err-test_costs.field-0.0 (λ line cause. cause ≡ Cost → IsCostRefused s line) = refused_map c.in_err-test_costs.field-0.0 (λ at given k e.
+    let there = subst (λ (ls : List Line). HasCostAt budget ls at) (c.deref-2.ensures.value ∙ lines_are) k in
+    subst (λ b. HasCostAt b (lines_of_places (places_of s)) at) budget_is there) c.in_err-test_costs.ensures.line in
     search (rules, h)

@@ -1,9 +1,8 @@
-use Rattle.std.proofs.Common.{◌≡◌, sym, true, [], ap, ◌∙◌, subst}
+use Rattle.std.proofs.Common.{◌≡◌, sym, [], ap, ◌∙◌, subst}
 use Rattle.plan_code.specs.declared.instr.Instr.TheVariants.{End}
 use Rattle.script_front.specs.Block.{block_of, table_of}
 use Rattle.script_scheme.specs.Scheme.{onward, alone}
 use Rattle.script_scheme.specs.Compiled.{body_of, beginning}
-use Rattle.script_compiler.specs.declared.work.Work.{Work}
 use Rattle.script_compiler.specs.Laying.{Lays, way, tables}
 use Rattle.script_compiler.specs.Space.{HasSpace}
 use Rattle.script_compiler.proofs.Whole.{laid_whole}
@@ -16,63 +15,63 @@ use Rattle.script_compiler.proofs.compiler.lay.Goals as goal
 pub returns-in-Ok-close-clause-lines : goal.returns-in-Ok-close-clause-lines
 returns-in-Ok-close-clause-lines c =
     let s = c.args.script.now in
-    let w0 : Work = record { lines = c.new.result; marks = c.new-2.result; now = c.opening.result; saved = c.new-3.result } in
+    let w0 = c.new-work.result in
     let same : block_of (tables c.blocks-4.result.now) c.statements.result.now ≡ body_of s = ap (λ xs. block_of (table_of [] xs) c.statements.result.now) c.blocks-4.ensures.value ∙ ap (λ xs. block_of (table_of [] s.blocks) xs) c.statements.ensures.value in
     let lays = subst (λ n. Lays c.block.new.self c.close.new.self (onward (way c.in-Ok.falls c.block.new.self) [] (alone n End 0))) c.last_line.ensures c.in-Ok-close.ensures.lays in
-    let whole = laid_whole c.args.plan.now s.last_line (body_of s) (block_of (tables c.blocks-4.result.now) c.statements.result.now) (beginning c.args.config.now) w0 c.block.new.self c.close.new.self c.in-Ok.falls same c.new.ensures.items c.new-2.ensures.items c.opening.ensures c.in-Ok.ensures.left lays in
-    whole.lines
+    let whole = laid_whole c.args.plan.now s.last_line (body_of s) (block_of (tables c.blocks-4.result.now) c.statements.result.now) (beginning c.args.config.now) w0 c.block.new.self c.close.new.self c.in-Ok.falls same c.new-work.ensures.lines c.new-work.ensures.marks c.new-work.ensures.now c.in-Ok.ensures.left lays in
+    c.into_laid.ensures.lines ∙ whole.lines
 
 pub returns-in-Ok-close-clause-marks : goal.returns-in-Ok-close-clause-marks
 returns-in-Ok-close-clause-marks c =
     let s = c.args.script.now in
-    let w0 : Work = record { lines = c.new.result; marks = c.new-2.result; now = c.opening.result; saved = c.new-3.result } in
+    let w0 = c.new-work.result in
     let same : block_of (tables c.blocks-4.result.now) c.statements.result.now ≡ body_of s = ap (λ xs. block_of (table_of [] xs) c.statements.result.now) c.blocks-4.ensures.value ∙ ap (λ xs. block_of (table_of [] s.blocks) xs) c.statements.ensures.value in
     let lays = subst (λ n. Lays c.block.new.self c.close.new.self (onward (way c.in-Ok.falls c.block.new.self) [] (alone n End 0))) c.last_line.ensures c.in-Ok-close.ensures.lays in
-    let whole = laid_whole c.args.plan.now s.last_line (body_of s) (block_of (tables c.blocks-4.result.now) c.statements.result.now) (beginning c.args.config.now) w0 c.block.new.self c.close.new.self c.in-Ok.falls same c.new.ensures.items c.new-2.ensures.items c.opening.ensures c.in-Ok.ensures.left lays in
-    whole.marks
+    let whole = laid_whole c.args.plan.now s.last_line (body_of s) (block_of (tables c.blocks-4.result.now) c.statements.result.now) (beginning c.args.config.now) w0 c.block.new.self c.close.new.self c.in-Ok.falls same c.new-work.ensures.lines c.new-work.ensures.marks c.new-work.ensures.now c.in-Ok.ensures.left lays in
+    c.into_laid.ensures.items ∙ whole.marks
 
 pub returns-in-Ok-close-clause-judged : goal.returns-in-Ok-close-clause-judged
 returns-in-Ok-close-clause-judged c =
     let s = c.args.script.now in
-    let w0 : Work = record { lines = c.new.result; marks = c.new-2.result; now = c.opening.result; saved = c.new-3.result } in
+    let w0 = c.new-work.result in
     let same : block_of (tables c.blocks-4.result.now) c.statements.result.now ≡ body_of s = ap (λ xs. block_of (table_of [] xs) c.statements.result.now) c.blocks-4.ensures.value ∙ ap (λ xs. block_of (table_of [] s.blocks) xs) c.statements.ensures.value in
     let lays = subst (λ n. Lays c.block.new.self c.close.new.self (onward (way c.in-Ok.falls c.block.new.self) [] (alone n End 0))) c.last_line.ensures c.in-Ok-close.ensures.lays in
-    let whole = laid_whole c.args.plan.now s.last_line (body_of s) (block_of (tables c.blocks-4.result.now) c.statements.result.now) (beginning c.args.config.now) w0 c.block.new.self c.close.new.self c.in-Ok.falls same c.new.ensures.items c.new-2.ensures.items c.opening.ensures c.in-Ok.ensures.left lays in
+    let whole = laid_whole c.args.plan.now s.last_line (body_of s) (block_of (tables c.blocks-4.result.now) c.statements.result.now) (beginning c.args.config.now) w0 c.block.new.self c.close.new.self c.in-Ok.falls same c.new-work.ensures.lines c.new-work.ensures.marks c.new-work.ensures.now c.in-Ok.ensures.left lays in
     (λ _. whole.judged)
 
 pub returns-in-Ok-close-clause-repeats : goal.returns-in-Ok-close-clause-repeats
 returns-in-Ok-close-clause-repeats c =
     let s = c.args.script.now in
-    let w0 : Work = record { lines = c.new.result; marks = c.new-2.result; now = c.opening.result; saved = c.new-3.result } in
+    let w0 = c.new-work.result in
     let same : block_of (tables c.blocks-4.result.now) c.statements.result.now ≡ body_of s = ap (λ xs. block_of (table_of [] xs) c.statements.result.now) c.blocks-4.ensures.value ∙ ap (λ xs. block_of (table_of [] s.blocks) xs) c.statements.ensures.value in
     let lays = subst (λ n. Lays c.block.new.self c.close.new.self (onward (way c.in-Ok.falls c.block.new.self) [] (alone n End 0))) c.last_line.ensures c.in-Ok-close.ensures.lays in
-    let whole = laid_whole c.args.plan.now s.last_line (body_of s) (block_of (tables c.blocks-4.result.now) c.statements.result.now) (beginning c.args.config.now) w0 c.block.new.self c.close.new.self c.in-Ok.falls same c.new.ensures.items c.new-2.ensures.items c.opening.ensures c.in-Ok.ensures.left lays in
+    let whole = laid_whole c.args.plan.now s.last_line (body_of s) (block_of (tables c.blocks-4.result.now) c.statements.result.now) (beginning c.args.config.now) w0 c.block.new.self c.close.new.self c.in-Ok.falls same c.new-work.ensures.lines c.new-work.ensures.marks c.new-work.ensures.now c.in-Ok.ensures.left lays in
     (λ _. whole.repeats)
 
 pub block-requires-clause-table : goal.block-requires-clause-table
-block-requires-clause-table c = table_none _ c.new-2.ensures.table c.new-2.ensures.items
+block-requires-clause-table c = table_none _ c.new-work.ensures.table c.new-work.ensures.marks
 
 pub returns-in-Err-clause-limited : goal.returns-in-Err-clause-limited
 returns-in-Err-clause-limited c = λ is judged deep few.
     let s = c.args.script.now in
-    let w0 : Work = record { lines = c.new.result; marks = c.new-2.result; now = c.opening.result; saved = c.new-3.result } in
+    let w0 = c.new-work.result in
     let same : block_of (tables c.blocks-4.result.now) c.statements.result.now ≡ body_of s = ap (λ xs. block_of (table_of [] xs) c.statements.result.now) c.blocks-4.ensures.value ∙ ap (λ xs. block_of (table_of [] s.blocks) xs) c.statements.ensures.value in
-    c.in-Err.ensures.limited is (can_whole c.args.plan.now s.last_line (body_of s) (block_of (tables c.blocks-4.result.now) c.statements.result.now) (beginning c.args.config.now) w0 same c.new.ensures.items c.new-2.ensures.items c.opening.ensures judged deep few)
+    c.in-Err.ensures.limited is (can_whole c.args.plan.now s.last_line (body_of s) (block_of (tables c.blocks-4.result.now) c.statements.result.now) (beginning c.args.config.now) w0 same c.new-work.ensures.lines c.new-work.ensures.marks c.new-work.ensures.now judged deep few)
 
 pub returns-clause-limited : goal.returns-clause-limited
 returns-clause-limited c = λ is judged deep few.
     let s = c.args.script.now in
-    let w0 : Work = record { lines = c.new.result; marks = c.new-2.result; now = c.opening.result; saved = c.new-3.result } in
+    let w0 = c.new-work.result in
     let same : block_of (tables c.blocks-4.result.now) c.statements.result.now ≡ body_of s = ap (λ xs. block_of (table_of [] xs) c.statements.result.now) c.blocks-4.ensures.value ∙ ap (λ xs. block_of (table_of [] s.blocks) xs) c.statements.ensures.value in
-    let space = space_whole_end c.args.plan.now s.last_line (body_of s) (block_of (tables c.blocks-4.result.now) c.statements.result.now) (beginning c.args.config.now) w0 c.block.new.self c.in-Ok.falls same c.new.ensures.items c.new-2.ensures.items c.opening.ensures c.in-Ok.ensures.left few in
+    let space = space_whole_end c.args.plan.now s.last_line (body_of s) (block_of (tables c.blocks-4.result.now) c.statements.result.now) (beginning c.args.config.now) w0 c.block.new.self c.in-Ok.falls same c.new-work.ensures.lines c.new-work.ensures.marks c.new-work.ensures.now c.in-Ok.ensures.left few in
     c.in-Err-close.ensures.limited is (subst (λ n. HasSpace c.block.new.self (onward (way c.in-Ok.falls c.block.new.self) [] (alone n End 0))) (sym c.last_line.ensures) space)
 
 pub returns-in-Err-clause-why : goal.returns-in-Err-clause-why
 returns-in-Err-clause-why c =
     let s = c.args.script.now in
-    let w0 : Work = record { lines = c.new.result; marks = c.new-2.result; now = c.opening.result; saved = c.new-3.result } in
+    let w0 = c.new-work.result in
     let same : block_of (tables c.blocks-4.result.now) c.statements.result.now ≡ body_of s = ap (λ xs. block_of (table_of [] xs) c.statements.result.now) c.blocks-4.ensures.value ∙ ap (λ xs. block_of (table_of [] s.blocks) xs) c.statements.ensures.value in
-    refused_map c.in-Err.fault (λ at given k. subst (λ (x : Spot). IsRefusedIn c.args.plan.now (body_of s) x at given) c.opening.ensures (subst (λ b. IsRefusedIn c.args.plan.now b w0.now at given) same k)) c.in-Err.ensures.why
+    refused_map c.in-Err.fault (λ at given k. subst (λ (x : Spot). IsRefusedIn c.args.plan.now (body_of s) x at given) c.new-work.ensures.now (subst (λ b. IsRefusedIn c.args.plan.now b w0.now at given) same k)) c.in-Err.ensures.why
 
 pub returns-clause-why : goal.returns-clause-why
 returns-clause-why c = no_refusal c.in-Err-close.fault _ c.in-Err-close.ensures.refused

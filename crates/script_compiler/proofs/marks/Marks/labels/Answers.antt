@@ -3,7 +3,8 @@ use Rattle.plan_code.specs.declared.label.Label.{Label}
 use Rattle.script_scheme.specs.Compiled.{AreLabelsOf}
 use Rattle.script_compiler.specs.declared.short.ShortMark.{ShortMark}
 use Rattle.script_compiler.specs.Longest.{Priced}
-use Rattle.script_compiler.specs.Marked.{MarkedTable, mark_in, label_of_mark, AreShallow}
+use Rattle.script_compiler.specs.Pool.{MarkedPool}
+use Rattle.script_compiler.specs.Marked.{mark_in, label_of_mark, AreShallow}
 use Rattle.script_compiler.specs.Room.{IsDeepAtMost}
 use Rattle.script_compiler.proofs.Marking.{labels_at, priced_at, shallow_marks, ok_each}
 use Rattle.script_compiler.proofs.Spaces.{err_each}
@@ -11,21 +12,21 @@ use Rattle.script_compiler.proofs.marks.Marks.labels.Goals as goal
 
 pub returns-clause-labels : goal.returns-clause-labels
 returns-clause-labels c =
-    let table = c.self.inside.table.items in
+    let table = c.self.inside.table.table in
     let short = c.self.inside.short.items in
     let needs = c.args.needs.now in
     ok_each c.labels_of.result (λ l e.
     let same = e ∙ ap (λ (ms : List ShortMark). map (label_of_mark needs) ms) c.deref.ensures.value in
     let all = subst (λ (xs : List Label). AreLabelsOf table (map (mark_in table) short) xs) (sym same) (labels_at table needs short c.self.invariant) in
-    subst (λ (v : MarkedTable). AreLabelsOf v.table v.items l.items) c.self.view_is all) c.labels_of.ensures.labels
+    subst (λ (v : MarkedPool). AreLabelsOf v.table v.items l.items) c.self.view_is all) c.labels_of.ensures.labels
 
 pub returns-clause-costs : goal.returns-clause-costs
 returns-clause-costs c = ok_each c.labels_of.result (λ l e. subst (λ (xs : List Label). Priced c.args.needs.now xs) (sym e) (priced_at c.args.needs.now c.deref.result.now)) c.labels_of.ensures.labels
 
 pub returns-clause-limited : goal.returns-clause-limited
 returns-clause-limited c =
-    let table = c.self.inside.table.items in
+    let table = c.self.inside.table.table in
     let short = c.self.inside.short.items in
     err_each c.labels_of.result (λ e f is deep.
-    let few = shallow_marks table 8 short (subst (λ (v : MarkedTable). IsDeepAtMost 8 v.items) (sym c.self.view_is) deep) in
+    let few = shallow_marks table 8 short (subst (λ (v : MarkedPool). IsDeepAtMost 8 v.items) (sym c.self.view_is) deep) in
     f is (subst (λ (ms : List ShortMark). AreShallow 8 ms) (sym c.deref.ensures.value) few)) c.labels_of.ensures.limited

@@ -33,19 +33,19 @@ either-returns-clause-left t c =
     let first = block_of (tables c.args.blocks.now) c.args.first.now in
     let second = block_of (tables c.args.blocks.now) c.args.second.now in
     ok_map c.close_else.result (λ f h. either_step c.args.plan.now c.args.counters c.args.line c.args.contact c.len-at.result c.len-jump.result first second c.args.self.now c.fork.new.self c.block.new.self c.turn.new.self c.block-2.new.self c.close_else.new.self c.in-Ok.falls c.in-Ok-block.falls f
-    c.requires.counters (c.len-at.ensures ∙ c.args.self.now.lines.ok.0) (c.len-jump.ensures ∙ c.block.new.self.lines.ok.0) c.in_default.ensures.forks c.in-Ok.ensures.left c.in_default-turn.ensures.turns c.in-Ok-block.ensures.left h) c.close_else.ensures.arrives
+    c.requires.counters (c.len-at.ensures) (c.len-jump.ensures) c.in_default.ensures.forks c.in-Ok.ensures.left c.in_default-turn.ensures.turns c.in-Ok-block.ensures.left h) c.close_else.ensures.arrives
 
 pub forever-returns-clause-left : goal.forever-returns-clause-left
 forever-returns-clause-left t c =
     let body = block_of (tables c.args.blocks.now) c.args.body.now in
     forever_step c.args.plan.now c.args.counters c.args.line body c.args.self.now c.enter.new.self c.block.new.self c.go_round.new.self c.in-Ok.falls c.all_fall.result c.len-target.result
-    c.requires.counters (c.len-target.ensures ∙ c.args.self.now.lines.ok.0) (c.all_fall.ensures (tables c.args.blocks.now) c.requires.known) c.in_default.ensures.lines c.in_default.ensures.marks c.in_default.ensures.now c.in_default.ensures.saved c.in-Ok.ensures.left c.in_default-go_round.ensures.round
+    c.requires.counters (c.len-target.ensures) (c.all_fall.ensures (tables c.args.blocks.now) c.requires.known) c.in_default.ensures.lines c.in_default.ensures.marks c.in_default.ensures.now c.in_default.ensures.saved c.in-Ok.ensures.left c.in_default-go_round.ensures.round
 
 pub repeat-returns-clause-left : goal.repeat-returns-clause-left
 repeat-returns-clause-left t c =
     let body = block_of (tables c.args.blocks.now) c.args.body.now in
     repeat_step c.args.plan.now c.args.counters c.args.line c.args.times body c.args.self.now c.put.new.self c.enter.new.self c.block.new.self c.go_round.new.self c.in-Ok.falls c.all_fall.result c.len-target.result c.in-Some.counter
-    (let lt : c.args.counters < 8 = c.in-Some.ensures.in_range.0 refl in omega (arith, lt)) c.in-Some.ensures.value c.in_default-put.ensures.lays c.in_default-put.ensures.now (c.len-target.ensures ∙ c.put.new.self.lines.ok.0) (c.all_fall.ensures (tables c.args.blocks.now) c.requires.known) c.in_default-enter.ensures.lines c.in_default-enter.ensures.marks c.in_default-enter.ensures.now c.in_default-enter.ensures.saved c.in-Ok.ensures.left c.in_default-go_round.ensures.round
+    (let lt : c.args.counters < 8 = c.in-Some.ensures.in_range.0 refl in omega (arith, lt)) c.in-Some.ensures.value c.in_default-put.ensures.lays c.in_default-put.ensures.now (c.len-target.ensures) (c.all_fall.ensures (tables c.args.blocks.now) c.requires.known) c.in_default-enter.ensures.lines c.in_default-enter.ensures.marks c.in_default-enter.ensures.now c.in_default-enter.ensures.saved c.in-Ok.ensures.left c.in_default-go_round.ensures.round
 
 pub statement-returns-then-number-blocks-clause-left : goal.statement-returns-then-number-blocks-clause-left
 statement-returns-then-number-blocks-clause-left t c =
@@ -125,7 +125,7 @@ pub when-returns-clause-left : goal.when-returns-clause-left
 when-returns-clause-left t c =
     let first = block_of (tables c.args.blocks.now) c.args.first.now in
     when_step c.args.plan.now c.args.counters c.args.line c.args.contact c.len-at.result first c.args.self.now c.fork.new.self c.block.new.self c.close_if.new.self c.in-Ok.falls c.close_if.result
-    c.requires.counters (c.len-at.ensures ∙ c.args.self.now.lines.ok.0) c.in_default.ensures.forks c.in-Ok.ensures.left c.close_if.ensures.goes_on c.close_if.ensures.closes
+    c.requires.counters (c.len-at.ensures) c.in_default.ensures.forks c.in-Ok.ensures.left c.close_if.ensures.goes_on c.close_if.ensures.closes
 
 pub block-returns-in-Err-clause-refused : goal.block-returns-in-Err-clause-refused
 block-returns-in-Err-clause-refused t c = λ is judged.

@@ -1,7 +1,7 @@
 use Rattle.std.proofs.Common.{ℕ, Bool, ◌+◌, ◌*◌, ◌≤◌, length, drop}
 use Rattle.script_front.specs.Block.{Block, nothing, when, either, repeat, forever, block_of, before}
 use Rattle.plan_code.specs.declared.plan.Plan.{Plan}
-use Rattle.script_compiler.specs.declared.work.Work.{Work}
+use Rattle.script_compiler.specs.Working.{Work}
 use Rattle.script_compiler.specs.Laying.{Left, tables}
 use Rattle.script_compiler.specs.Space.{HasTable}
 use Rattle.script_compiler.proofs.Weight.{weight}

@@ -12,19 +12,22 @@ use Rattle.script_compiler.proofs.work.Work.act.Goals as goal
 pub returns-clause-lays : goal.returns-clause-lays
 returns-clause-lays c =
     let i = instr_of_act c.args.act.now in
-    put_lays c.args.line c.args.counters i c.args.self.now c.put_label.new.self c.put_instr.new.self
-    c.put_label.ensures.lines c.put_label.ensures.saved (c.in_default.ensures.marks c.args.line i) c.put_instr.ensures.saved c.put_instr.ensures.marks
-    (c.in_default-put_instr.ensures.lines ∙ ap (λ (x : Instr). c.put_label.new.self.lines.items ++ line_of_instr c.args.line x ∷ []) c.instr_of.ensures)
+    put_lays c.args.line c.args.counters i c.args.self.now c.pass.new.self c.put_instr.new.self
+    (c.pass.ensures.lines ∙ c.put_label.ensures.lines) (c.pass.ensures.saved ∙ c.put_label.ensures.saved)
+    (ap (λ x. x.items) c.pass.ensures.marks ∙ c.in_default.ensures.marks c.args.line i) c.put_instr.ensures.saved c.put_instr.ensures.marks
+    (c.in_default-put_instr.ensures.lines ∙ ap (λ (x : Instr). c.pass.new.self.lines.items ++ line_of_instr c.args.line x ∷ []) c.instr_of.ensures)
 
 pub returns-clause-now : goal.returns-clause-now
 returns-clause-now c =
     let i = instr_of_act c.args.act.now in
+    let flow = c.in_default-pass.ensures.left ∙ ap (λ (s : Spot). moved c.args.plan.now i s.flow) c.in_default.ensures.now in
+    let labelled = c.pass.ensures.labelled ∙ ap (λ (s : Spot). s.labelled) c.in_default.ensures.now in
     c.put_instr.ensures.now
-    ∙ ap (λ (t : Flow). let s : Spot = record { flow = t; labelled = c.put_label.new.self.now.labelled } in s) (c.in_default-judge.ensures.left ∙ ap (λ (s : Spot). moved c.args.plan.now i s.flow) c.in_default.ensures.now)
-    ∙ ap (λ (b : Bool). let s : Spot = record { flow = moved c.args.plan.now i c.args.self.now.now.flow; labelled = b } in s) (ap (λ (s : Spot). s.labelled) c.in_default.ensures.now)
+    ∙ ap (λ (t : Flow). let s : Spot = record { flow = t; labelled = c.pass.new.self.now.labelled } in s) flow
+    ∙ ap (λ (b : Bool). let s : Spot = record { flow = moved c.args.plan.now i c.args.self.now.now.flow; labelled = b } in s) labelled
 
 pub returns-clause-fine : goal.returns-clause-fine
-returns-clause-fine c = subst (λ (s : Spot). IsFine c.args.plan.now (instr_of_act c.args.act.now) (known_at s.flow)) c.in_default.ensures.now (c.in_default-judge.ensures.fine.0 refl)
+returns-clause-fine c = subst (λ (s : Spot). IsFine c.args.plan.now (instr_of_act c.args.act.now) (known_at s.flow)) c.in_default.ensures.now (c.in_default-pass.ensures.fine.0 refl)
 
 pub returns-in-Err-clause-limited : goal.returns-in-Err-clause-limited
 returns-in-Err-clause-limited c = λ is p ps e space. c.in-Err.ensures.limited is (p ∷ ps) (covered_here c.args.self.now.now p ps e) space

@@ -1,7 +1,9 @@
-use Rattle.std.proofs.Common.{◌≡◌, ◌++◌, Some, None, if◌then◌else◌, length, sym, ap, ◌∙◌}
+use Rattle.std.proofs.Common.{◌≡◌, List, ◌++◌, Some, None, if◌then◌else◌, length, sym, ap, ◌∙◌}
 use Rattle.std.proofs.lemmas.List.{length-set}
 use Rattle.script_scheme.specs.declared.flow.Spot.{Spot}
 use Rattle.script_scheme.specs.Scheme.{meet, join}
+use Rattle.mux_config.specs.Configuration.{Configuration}
+use Rattle.script_compiler.specs.Pool.{spot_in}
 use Rattle.script_compiler.specs.Laying.{way, spots_of}
 use Rattle.script_compiler.proofs.Putting.{snoc_last}
 use Rattle.script_compiler.proofs.Spaces.{space_as, some_of, met_labelled}
@@ -14,10 +16,11 @@ returns-in-Err-clause-limited c = λ is front a first saved ps cover space.
     let u = c.aim.new.self in
     let some = some_of a (sym c.if-not-first.false ∙ first) in
     let kept = saved ∙ ap (λ x. front ++ spots_of x) some.1 in
-    let same : c.restore-exit.result ≡ some.0 = snoc_last v.saved.items front c.restore-exit.result some.0 (c.restore-exit.ensures.saved ∙ kept) in
+    let exit = spot_in u.pool c.restore-exit.result in
+    let same : exit ≡ some.0 = ap (λ (p : List Configuration). spot_in p c.restore-exit.result) c.aim.ensures.pool ∙ snoc_last v.saved.items front (spot_in v.pool c.restore-exit.result) some.0 (c.restore-exit.ensures.saved ∙ kept) in
     let lines = ap length c.aim.ensures.lines ∙ length-set v.lines.items c.args.jump _ ∙ ap (λ x. length x.items) c.restore-exit.ensures.lines in
     let marks = ap (λ x. x.items) (c.aim.ensures.marks ∙ c.restore-exit.ensures.marks) in
     let now : u.now ≡ w.now = c.aim.ensures.now ∙ c.restore-exit.ensures.now in
-    let met : meet (way c.args.second u) (Some c.restore-exit.result) ≡ join a (way c.args.second w) =
-    ap (λ (s : Spot). meet (if c.args.second then Some s else None) (Some c.restore-exit.result)) now ∙ ap (λ (s : Spot). meet (way c.args.second w) (Some s)) same ∙ ap (λ x. join x (way c.args.second w)) (sym some.1) in
-    c.in-Err.ensures.limited is ps (λ x e. cover x (sym met ∙ e) (met_labelled (way c.args.second u) c.restore-exit.result x e)) (space_as w u ps lines marks space)
+    let met : meet (way c.args.second u) (Some exit) ≡ join a (way c.args.second w) =
+    ap (λ (s : Spot). meet (if c.args.second then Some s else None) (Some exit)) now ∙ ap (λ (s : Spot). meet (way c.args.second w) (Some s)) same ∙ ap (λ x. join x (way c.args.second w)) (sym some.1) in
+    c.in-Err.ensures.limited is ps (λ x e. cover x (sym met ∙ e) (met_labelled (way c.args.second u) exit x e)) (space_as w u ps lines marks space)

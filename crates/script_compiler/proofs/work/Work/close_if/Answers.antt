@@ -1,7 +1,9 @@
-use Rattle.std.proofs.Common.{◌≡◌, Some, None, if◌then◌else◌, length, sym, ap, ◌∙◌}
+use Rattle.std.proofs.Common.{◌≡◌, List, Some, None, if◌then◌else◌, length, sym, ap, ◌∙◌}
 use Rattle.std.proofs.lemmas.List.{length-set}
 use Rattle.script_scheme.specs.declared.flow.Spot.{Spot}
 use Rattle.script_scheme.specs.Scheme.{meet}
+use Rattle.mux_config.specs.Configuration.{Configuration}
+use Rattle.script_compiler.specs.Pool.{spot_in}
 use Rattle.script_compiler.specs.Laying.{way}
 use Rattle.script_compiler.proofs.Putting.{snoc_last}
 use Rattle.script_compiler.proofs.Spaces.{space_as}
@@ -12,10 +14,11 @@ returns-in-Err-clause-limited c = λ is front entry saved ps cover space.
     let w = c.args.self.now in
     let v = c.restore-entry.new.self in
     let u = c.aim.new.self in
-    let same : c.restore-entry.result ≡ entry = snoc_last v.saved.items front c.restore-entry.result entry (c.restore-entry.ensures.saved ∙ saved) in
+    let exit = spot_in u.pool c.restore-entry.result in
+    let same : exit ≡ entry = ap (λ (p : List Configuration). spot_in p c.restore-entry.result) c.aim.ensures.pool ∙ snoc_last v.saved.items front (spot_in v.pool c.restore-entry.result) entry (c.restore-entry.ensures.saved ∙ saved) in
     let lines = ap length c.aim.ensures.lines ∙ length-set v.lines.items c.args.at _ ∙ ap (λ x. length x.items) c.restore-entry.ensures.lines in
     let marks = ap (λ x. x.items) (c.aim.ensures.marks ∙ c.restore-entry.ensures.marks) in
     let now : u.now ≡ w.now = c.aim.ensures.now ∙ c.restore-entry.ensures.now in
-    let met : meet (way c.args.falls u) (Some c.restore-entry.result) ≡ meet (way c.args.falls w) (Some entry) =
-    ap (λ (s : Spot). meet (if c.args.falls then Some s else None) (Some c.restore-entry.result)) now ∙ ap (λ (s : Spot). meet (way c.args.falls w) (Some s)) same in
+    let met : meet (way c.args.falls u) (Some exit) ≡ meet (way c.args.falls w) (Some entry) =
+    ap (λ (s : Spot). meet (if c.args.falls then Some s else None) (Some exit)) now ∙ ap (λ (s : Spot). meet (way c.args.falls w) (Some s)) same in
     c.in-Err.ensures.limited is ps (λ x e. cover x (sym met ∙ e)) (space_as w u ps lines marks space)

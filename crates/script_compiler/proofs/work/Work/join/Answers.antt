@@ -1,7 +1,9 @@
-use Rattle.std.proofs.Common.{◌≡◌, Some, refl, sym, ap, subst}
+use Rattle.std.proofs.Common.{◌≡◌, Some, length, sym, ap, subst}
 use Rattle.plan_flow.specs.Flows.{Flow, merged}
+use Rattle.script_scheme.specs.declared.flow.Spot.{Spot}
 use Rattle.script_scheme.specs.Scheme.{at_label, meet}
 use Rattle.script_compiler.specs.Laying.{way}
+use Rattle.script_compiler.specs.Pool.{spot_in}
 use Rattle.script_compiler.specs.Space.{IsCovered}
 use Rattle.script_compiler.proofs.Spaces.{err_each, space_as}
 use Rattle.script_compiler.proofs.work.Work.join.Goals as goal
@@ -9,15 +11,19 @@ use Rattle.script_compiler.proofs.work.Work.join.Goals as goal
 pub returns-then-not-falls-clause-limited : goal.returns-then-not-falls-clause-limited
 returns-then-not-falls-clause-limited c =
     let w = c.args.self.now in
-    let t = c.args.other in
+    let v = c.take.new.self in
+    let t = spot_in w.pool c.args.other.now in
     err_each c.mark.result (λ y h is ps cover space.
     let met : meet (way c.args.falls w) (Some t) ≡ Some (at_label t.flow) = ap (λ f. meet (way f w) (Some t)) c.if-not-falls.true in
-    h is ps (cover (at_label t.flow) met) (space_as w _ ps refl refl space)) c.mark.ensures.limited
+    let there = space_as w v ps (ap (λ x. length x.items) c.take.ensures.lines) (ap (λ x. x.items) c.take.ensures.marks) space in
+    h is ps (subst (λ (s : Spot). IsCovered s.flow ps) (sym c.take.ensures.now) (cover (at_label t.flow) met)) there) c.mark.ensures.limited
 
 pub returns-clause-limited : goal.returns-clause-limited
 returns-clause-limited c =
     let w = c.args.self.now in
-    let t = c.args.other in
+    let v = c.meet.new.self in
+    let t = spot_in w.pool c.args.other.now in
     err_each c.mark-2.result (λ y h is ps cover space.
     let met : meet (way c.args.falls w) (Some t) ≡ Some (at_label (merged w.now.flow t.flow)) = ap (λ f. meet (way f w) (Some t)) c.if-not-falls.false in
-    h is ps (subst (λ (x : Flow). IsCovered x ps) (sym (c.meet.ensures.met c.if-not-meet.false)) (cover (at_label (merged w.now.flow t.flow)) met)) (space_as w _ ps refl refl space)) c.mark-2.ensures.limited
+    let there = space_as w v ps (ap (λ x. length x.items) c.meet.ensures.lines) (ap (λ x. x.items) c.meet.ensures.marks) space in
+    h is ps (subst (λ (x : Flow). IsCovered x ps) (sym (c.meet.ensures.met c.if-not-meet.false)) (cover (at_label (merged w.now.flow t.flow)) met)) there) c.mark-2.ensures.limited

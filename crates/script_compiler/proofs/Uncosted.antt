@@ -1,0 +1,187 @@
+-- Only costs are refused with `Cost`, and at which line.
+use Rattle.std.proofs.Common.{◌≡◌, ℕ, ◌+◌, ◌<◌, ◌≤◌, inl, inr, List, [], ◌∷◌, Option, Some, None, IsSome, refl, sym, ◌∙◌, arith, rules, zero, suc}
+use Rattle.std.specs.Prelude.{slice_get}
+use Rattle.mux_config.specs.Configuration.{Configuration}
+use Rattle.mux_config.specs.Edits.{edit_fault}
+use Rattle.mux_config.specs.Sound.{first_fault}
+use Rattle.plan_code.specs.declared.plan.Plan.{Plan}
+use Rattle.plan_code.specs.declared.instr.Instr.{Instr}
+use Rattle.plan_code.specs.declared.instr.Instr.TheVariants.{Wait, Until, WaitContact, CommitIn, CommitAt, Join, Settle, End, Edit as Edits, Test, Jump, Set, Loop}
+use Rattle.plan_code.specs.declared.instr.Line.{Line}
+use Rattle.plan_flow.specs.declared.cause.Cause.{Cause}
+use Rattle.plan_flow.specs.declared.cause.Cause.TheVariants.{Edit as OfEdit, Config as OfConfig, Pending, NoChange, Notice, Count, JoinIdle, SwapUncertain, Round, Table, Mismatch, Cost}
+use Rattle.plan_flow.specs.Rules.{Known}
+use Rattle.plan_flow.specs.Flows.{known_at}
+use Rattle.plan_flow.specs.Causes.{WhereSome, CommitRefused, FlowRefused}
+use Rattle.script_front.specs.declared.tree.Item.{Item}
+use Rattle.script_front.specs.Block.{Block, nothing, basic, stop, when, either, repeat, forever, apply}
+use Rattle.script_scheme.specs.declared.flow.Spot.{Spot}
+use Rattle.script_scheme.specs.Scheme.{instr_of_act}
+use Rattle.script_scheme.specs.Compiled.{instrs_of}
+use Rattle.script_scheme.specs.Need.{HasPath}
+use Rattle.script_scheme.specs.Refused.{IsUnreached, IsMismatch, IsRefusedAfter, IsRefusedIn, IsItemRefused, IsOpeningRefused}
+use Rattle.mux_config.specs.Edits.{changed}
+use Rattle.script_compiler.specs.Costs.{ClosesCycle, IsCostlyAt, HasCostAt}
+use Rattle.script_compiler.specs.Longest.{longest}
+use Rattle.script_compiler.proofs.Paths.{has_longest, longest_most, shorter}
+
+-- ---- no other refusal has this cause
+
+some_uncosted : {T : Type 0} (o : Option T) (cause : T → Cause) (given : Cause) → ((x : T) → cause x ≡ Cost → ⊥) → WhereSome o cause given → given ≡ Cost → ⊥
+some_uncosted None cause given not_cost h e = h
+some_uncosted (Some x) cause given not_cost h e = not_cost x (sym h ∙ e)
+
+edit_uncosted : (o : Option _) (given : Cause) → WhereSome o OfEdit given → given ≡ Cost → ⊥
+edit_uncosted o given h e = some_uncosted o OfEdit given (λ x f. cc) h e
+
+config_uncosted : (o : Option _) (given : Cause) → WhereSome o OfConfig given → given ≡ Cost → ⊥
+config_uncosted o given h e = some_uncosted o OfConfig given (λ x f. cc) h e
+
+commit_uncosted : (plan : Plan) (t : Known) (fault : Type 0) (cause given : Cause) → (cause ≡ Cost → ⊥) → CommitRefused plan t fault cause given → given ≡ Cost → ⊥
+commit_uncosted plan t fault cause given not_cost h e = elim h [
+  | inl a ↦ (let x : Pending ≡ Cost = sym a.1 ∙ e in cc)
+  | inr b ↦ elim b.1 [
+    | inl a ↦ not_cost (sym a.1 ∙ e)
+    | inr b ↦ elim b.1 [
+      | inl a ↦ config_uncosted (first_fault t.next) given a e
+      | inr b ↦ elim b.1 [
+        | inl a ↦ (let x : NoChange ≡ Cost = sym a.1 ∙ e in cc)
+        | inr b ↦ (let x : Round ≡ Cost = sym b.1.1 ∙ e in cc)
+      ]
+    ]
+  ]
+]
+
+flow_uncosted : (plan : Plan) (i : Instr) (t : Known) (given : Cause) → FlowRefused plan i t given → given ≡ Cost → ⊥
+flow_uncosted plan (Edits edit) t given h e = elim h [
+  | inl a ↦ (let x : Pending ≡ Cost = sym a.1 ∙ e in cc)
+  | inr b ↦ edit_uncosted (edit_fault edit t.next) given b.1 e
+]
+flow_uncosted plan (CommitIn delay) t given h e = commit_uncosted plan t _ Notice given (λ f. cc) h e
+flow_uncosted plan (CommitAt count) t given h e = commit_uncosted plan t _ Count given (λ f. cc) h e
+flow_uncosted plan (Wait frames) t given h e = (let x : SwapUncertain ≡ Cost = sym h.1 ∙ e in cc)
+flow_uncosted plan (Until day) t given h e = h
+flow_uncosted plan (WaitContact contact closed) t given h e = h
+flow_uncosted plan Join t given h e = (let x : JoinIdle ≡ Cost = sym h.1 ∙ e in cc)
+flow_uncosted plan Settle t given h e = h
+flow_uncosted plan (Test contact target) t given h e = h
+flow_uncosted plan (Jump target) t given h e = h
+flow_uncosted plan (Loop counter target) t given h e = h
+flow_uncosted plan (Set counter times) t given h e = h
+flow_uncosted plan End t given h e = h
+
+table_uncosted : (given : Cause) → given ≡ Table → given ≡ Cost → ⊥
+table_uncosted given h e = (let x : Table ≡ Cost = sym h ∙ e in cc)
+
+unreached_uncosted : (b : Block) (at : ℕ) (given : Cause) → IsUnreached b at given → given ≡ Cost → ⊥
+unreached_uncosted nothing at given h e = h
+unreached_uncosted (basic line act rest) at given h e = table_uncosted given h.1 e
+unreached_uncosted (stop line rest) at given h e = table_uncosted given h.1 e
+unreached_uncosted (when line contact first rest) at given h e = table_uncosted given h.1 e
+unreached_uncosted (either line contact first second rest) at given h e = table_uncosted given h.1 e
+unreached_uncosted (repeat line times body rest) at given h e = table_uncosted given h.1 e
+unreached_uncosted (forever line body rest) at given h e = table_uncosted given h.1 e
+unreached_uncosted (apply line number named rest) at given h e = table_uncosted given h.1 e
+
+mismatch_uncosted : (line : ℕ) (agree : Type 0) (at : ℕ) (given : Cause) → IsMismatch line agree at given → given ≡ Cost → ⊥
+mismatch_uncosted line agree at given h e = (let x : Mismatch ≡ Cost = sym h.2 ∙ e in cc)
+
+after_uncosted : (o : Option Spot) (rest : Block) (refused : Spot → Type 0) (at : ℕ) (given : Cause) → ((u : Spot) → refused u → ⊥) → given ≡ Cost → IsRefusedAfter o rest refused at given → ⊥
+after_uncosted None rest refused at given not_cost e h = unreached_uncosted rest at given h e
+after_uncosted (Some u) rest refused at given not_cost e h = not_cost u h
+
+pub in_uncosted : (plan : Plan) (b : Block) (s : Spot) (at : ℕ) (given : Cause) → IsRefusedIn plan b s at given → given ≡ Cost → ⊥
+in_uncosted plan nothing s at given h e = h
+in_uncosted plan (basic line act rest) s at given h e = elim h [
+  | inl a ↦ flow_uncosted plan (instr_of_act act) (known_at s.flow) given a.1 e
+  | inr b ↦ in_uncosted plan rest _ at given b.1 e
+]
+in_uncosted plan (stop line rest) s at given h e = unreached_uncosted rest at given h e
+in_uncosted plan (when line contact first rest) s at given h e = elim h [
+  | inl a ↦ in_uncosted plan first _ at given a e
+  | inr b ↦ elim b.1 [
+    | inl m ↦ mismatch_uncosted line _ at given m e
+    | inr r ↦ after_uncosted _ rest (λ u. IsRefusedIn plan rest u at given) at given (λ u k. in_uncosted plan rest u at given k e) e r.1
+  ]
+]
+in_uncosted plan (either line contact first second rest) s at given h e = elim h [
+  | inl a ↦ in_uncosted plan first _ at given a e
+  | inr b ↦ elim b.1 [
+    | inl a ↦ in_uncosted plan second _ at given a e
+    | inr b ↦ elim b.1 [
+      | inl m ↦ mismatch_uncosted line _ at given m e
+      | inr r ↦ after_uncosted _ rest (λ u. IsRefusedIn plan rest u at given) at given (λ u k. in_uncosted plan rest u at given k e) e r.1
+    ]
+  ]
+]
+in_uncosted plan (repeat line times body rest) s at given h e = elim h [
+  | inl a ↦ in_uncosted plan body _ at given a e
+  | inr b ↦ elim b.1 [
+    | inl m ↦ mismatch_uncosted line _ at given m e
+    | inr r ↦ after_uncosted _ rest (λ u. IsRefusedIn plan rest _ at given) at given (λ u k. in_uncosted plan rest _ at given k e) e r.1
+  ]
+]
+in_uncosted plan (forever line body rest) s at given h e = elim h [
+  | inl a ↦ in_uncosted plan body _ at given a e
+  | inr b ↦ elim b.1 [
+    | inl m ↦ mismatch_uncosted line _ at given m e
+    | inr r ↦ unreached_uncosted rest at given r.1 e
+  ]
+]
+in_uncosted plan (apply line number named rest) s at given h e = elim h [
+  | inl a ↦ in_uncosted plan named s at given a e
+  | inr r ↦ after_uncosted _ rest (λ u. IsRefusedIn plan rest u at given) at given (λ u k. in_uncosted plan rest u at given k e) e r.1
+]
+
+pub item_uncosted : (items : List Item) (c : Configuration) (at : ℕ) (given : Cause) → IsItemRefused items c at given → given ≡ Cost → ⊥
+item_uncosted [] c at given h e = h
+item_uncosted (item ∷ items) c at given h e = elim h [
+  | inl a ↦ edit_uncosted (edit_fault item.edit c) given a.1 e
+  | inr b ↦ item_uncosted items (changed item.edit c) at given b.1 e
+]
+
+pub opening_uncosted : (plan : Plan) (c : Configuration) (given : Cause) → IsOpeningRefused plan c given → given ≡ Cost → ⊥
+opening_uncosted plan c given h e = elim h [
+  | inl a ↦ config_uncosted (first_fault c) given a e
+  | inr b ↦ (let x : Round ≡ Cost = sym b.1.1 ∙ e in cc)
+]
+
+-- ---- the pc and the line
+
+pub first_costly : (code : List Instr) (budget pc : ℕ) → ((k : ℕ) → ClosesCycle code k → ⊥) → budget < longest code (budget + 1) pc → ((k : ℕ) → k < pc → longest code (budget + 1) k ≤ budget) → IsCostlyAt budget code pc
+first_costly code budget pc none over before = inr (
+  none,
+  record {
+    here = (longest code (budget + 1) pc, over, has_longest code (budget + 1) pc);
+    earlier = λ k lt h.
+        let n = h.0 in
+        let more = h.1 in
+        let most = longest_most code (budget + 1) (budget + 1) k (shorter code (budget + 1) n k (omega (arith, more)) h.2) (omega arith) in
+        let few = before k lt in
+        absurd (omega (arith, most, few));
+  },
+)
+
+is_there : (o : Option Instr) → IsSome o → (i : Instr) × (o ≡ Some i)
+is_there None h = absurd (search (rules, h))
+is_there (Some i) h = (i, refl)
+
+over_there : (code : List Instr) (n pc budget : ℕ) → budget < n → HasPath code pc n → (i : Instr) × (slice_get code pc ≡ Some i)
+over_there code zero pc budget lt h = absurd (omega (arith, lt))
+over_there code (suc zero) pc budget lt h = is_there (slice_get code pc) h
+over_there code (suc (suc n)) pc budget lt h = (h.0, h.2)
+
+costly_there : (code : List Instr) (budget pc : ℕ) → IsCostlyAt budget code pc → (i : Instr) × (slice_get code pc ≡ Some i)
+costly_there code budget pc (inl f) = (f.here.instr, f.here.there)
+costly_there code budget pc (inr f) = over_there code f.1.here.0 pc budget f.1.here.1 f.1.here.2
+
+line_there : (lines : List Line) (pc : ℕ) (i : Instr) → slice_get (instrs_of lines) pc ≡ Some i → (l : Line) × (slice_get lines pc ≡ Some l)
+line_there [] pc i e = cc
+line_there (l ∷ lines) zero i e = (l, refl)
+line_there (l ∷ lines) (suc pc) i e = line_there lines pc i e
+
+pub cost_at : (lines : List Line) (budget pc at : ℕ) → IsCostlyAt budget (instrs_of lines) pc → ((l : Line) → slice_get lines pc ≡ Some l → at ≡ l.number) → HasCostAt budget lines at
+cost_at lines budget pc at costly number =
+    let i = costly_there (instrs_of lines) budget pc costly in
+    let l = line_there lines pc i.0 i.1 in
+    record { pc = pc; line = l.0; there = l.1; number = number l.0 l.1; costly = costly }

@@ -1,0 +1,16 @@
+use Rattle.std.proofs.Common.{◌≡◌, ◌<◌, ℕ, List, Some, length, sym, subst}
+use Rattle.std.specs.Prelude.{slice_get}
+use Rattle.script_compiler.specs.Marked.{configuration_at}
+use Rattle.script_compiler.specs.Pool.{PooledTable}
+use Rattle.script_compiler.proofs.Pooled.{none_in_table}
+use Rattle.script_compiler.proofs.table.ConfigTable.find.Goals as goal
+
+pub returns-clause-none : goal.returns-clause-none
+returns-clause-none c = λ e i there.
+    let n = c.args.number in
+    let pool = c.self.inside.pool.items in
+    let ks = c.self.inside.order.items in
+    let lt = subst (λ (v : PooledTable). n < length v.pool) (sym c.self.view_is) c.requires in
+    let none = subst (λ (l : List ℕ). (j : ℕ) → slice_get l j ≡ Some n → ⊥) c.deref.ensures.value (c.position.ensures.none e) in
+    let h = none_in_table pool ks n c.is_distinct.ensures c.self.invariant lt none i in
+    subst (λ (v : PooledTable). slice_get v.table i ≡ Some (configuration_at v.pool n) → ⊥) c.self.view_is h there

@@ -1,0 +1,6 @@
+use Rattle.std.proofs.Common.{◌≡◌, ◌<◌, ℕ, Some}
+use Rattle.std.specs.Prelude.{slice_get}
+use Rattle.script_compiler.proofs.table.is_in_order.Given as goal
+
+abbrev pub invariant-loop-index : goal.invariant-loop-index
+invariant-loop-index l = (i k : ℕ) → i < l.index → slice_get l.numbers i ≡ Some k → k ≡ i

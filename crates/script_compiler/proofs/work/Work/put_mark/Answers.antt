@@ -1,0 +1,79 @@
+use Rattle.std.proofs.Common.{◌≡◌, ◌≤◌, ◌++◌, ◌∷◌, [], List, Some, true, length, sym, ap, ◌∙◌, subst, arith}
+use Rattle.std.proofs.lemmas.Option.{slice_get_within}
+use Rattle.mux_config.specs.Configuration.{Configuration}
+use Rattle.script_scheme.specs.declared.flow.Mark.{Mark}
+use Rattle.script_scheme.specs.Scheme.{alone, marks_of}
+use Rattle.script_scheme.specs.Compiled.{Added}
+use Rattle.script_compiler.specs.Marked.{configuration_at, mark_in}
+use Rattle.script_compiler.specs.Pool.{spot_in}
+use Rattle.script_compiler.specs.Room.{HasRoomFor}
+use Rattle.script_compiler.specs.Space.{HasTable}
+use Rattle.script_compiler.specs.Working.{Work}
+use Rattle.script_compiler.proofs.Marking.{grown}
+use Rattle.script_compiler.proofs.Numbered.{room_here, marked_as, marked_here, mark_with, short_with}
+use Rattle.script_compiler.proofs.Spaces.{room_left, room_next, table_mark}
+use Rattle.script_compiler.proofs.work.Work.put_mark.Goals as goal
+
+pub returns-in-Err-clause-limited : goal.returns-in-Err-clause-limited
+returns-in-Err-clause-limited c = λ is ps cover space.
+    let w = c.args.self.now in
+    let v = c.self.inside.marks in
+    let s = c.args.here.now in
+    let room = subst (λ (x : Work). HasRoomFor x.marks.table (configuration_at x.pool s.current ∷ configuration_at x.pool s.next ∷ [])) (sym c.self.view_is) (room_here w s ps c.requires.same c.requires.table cover space) in
+    c.in-Err.ensures.limited is (room_left v.table (configuration_at v.pool s.current) (configuration_at v.pool s.next) room)
+
+pub returns-in-Err-index_of-clause-limited : goal.returns-in-Err-index_of-clause-limited
+returns-in-Err-index_of-clause-limited c = λ is ps cover space.
+    let w = c.args.self.now in
+    let v = c.self.inside.marks in
+    let s = c.args.here.now in
+    let room = subst (λ (x : Work). HasRoomFor x.marks.table (configuration_at x.pool s.current ∷ configuration_at x.pool s.next ∷ [])) (sym c.self.view_is) (room_here w s ps c.requires.same c.requires.table cover space) in
+    let left = room_next v.table c.index_of.new.self.table (configuration_at v.pool s.current) (configuration_at v.pool s.next) c.in-Ok.ensures.added room in
+    c.in-Err-index_of.ensures.limited is (subst (λ (p : List Configuration). HasRoomFor c.index_of.new.self.table (configuration_at p s.next ∷ [])) (sym c.index_of.ensures.pool) left)
+
+pub push-requires-clause-current : goal.push-requires-clause-current
+push-requires-clause-current c =
+    let v = c.self.inside.marks in
+    let s = c.args.here.now in
+    let table = c.index_of-2.new.self.table in
+    let there = grown (configuration_at v.pool s.current) (configuration_at c.index_of.new.self.pool s.next) c.in-Ok.cur c.index_of.new.self.table table c.in-Ok-index_of.ensures.added c.in-Ok.ensures.index in
+    slice_get_within table c.in-Ok.cur (configuration_at v.pool s.current) there
+
+pub push-requires-clause-following : goal.push-requires-clause-following
+push-requires-clause-following c =
+    slice_get_within c.index_of-2.new.self.table c.in-Ok-index_of.next (configuration_at c.index_of.new.self.pool c.args.here.now.next) c.in-Ok-index_of.ensures.index
+
+pub returns-clause-marks : goal.returns-clause-marks
+returns-clause-marks c = λ line i.
+    let v = c.self.inside in
+    let s = c.args.here.now in
+    let u : Work = record { lines = record { items = v.lines.items }; marks = record { items = v.marks.items; table = v.marks.table }; now = v.now; saved = c.args.self.now.saved; pool = v.marks.pool } in
+    let same = subst (λ (x : Work). spot_in x.pool s ≡ x.now) (sym c.self.view_is) c.requires.same in
+    let labelled = subst (λ (x : Work). x.now.labelled ≡ true) (sym c.self.view_is) c.requires.labelled in
+    let table = c.index_of-2.new.self.table in
+    let there = grown (configuration_at v.marks.pool s.current) (configuration_at c.index_of.new.self.pool s.next) c.in-Ok.cur c.index_of.new.self.table table c.in-Ok-index_of.ensures.added c.in-Ok.ensures.index in
+    let then = c.in-Ok-index_of.ensures.index ∙ ap (λ (p : List Configuration). Some (configuration_at p s.next)) c.index_of.ensures.pool in
+    let items = c.in_default.ensures.added ∙ ap (λ (ms : List Mark). ms ++ mark_in table (short_with c.len.result c.in-Ok.cur c.in-Ok-index_of.next c.args.counters s) ∷ []) (c.index_of-2.ensures.items ∙ c.index_of.ensures.items) in
+    let is = marked_as u s table c.in-Ok.cur c.in-Ok-index_of.next c.len.result c.args.counters c.push.new.self.items same there then items in
+    let h = marked_here u c.len.result c.args.counters line i c.push.new.self.items labelled (c.len.ensures ∙ v.lines.ok.0) is in
+    subst (λ (x : Work). c.push.new.self.items ≡ x.marks.items ++ marks_of (length x.lines.items) (alone line i c.args.counters x.now)) c.self.view_is h
+
+pub returns-clause-table : goal.returns-clause-table
+returns-clause-table c =
+    let v = c.self.inside in
+    let s = c.args.here.now in
+    let u : Work = record { lines = record { items = v.lines.items }; marks = record { items = v.marks.items; table = v.marks.table }; now = v.now; saved = c.args.self.now.saved; pool = v.marks.pool } in
+    let same = subst (λ (x : Work). spot_in x.pool s ≡ x.now) (sym c.self.view_is) c.requires.same in
+    let held = subst HasTable (sym c.self.view_is) c.requires.table in
+    let start : HasTable u = record { few = held.few; room = held.room; tabled = held.tabled } in
+    let table = c.index_of-2.new.self.table in
+    let there = grown (configuration_at v.marks.pool s.current) (configuration_at c.index_of.new.self.pool s.next) c.in-Ok.cur c.index_of.new.self.table table c.in-Ok-index_of.ensures.added c.in-Ok.ensures.index in
+    let then = c.in-Ok-index_of.ensures.index ∙ ap (λ (p : List Configuration). Some (configuration_at p s.next)) c.index_of.ensures.pool in
+    let items = c.in_default.ensures.added ∙ ap (λ (ms : List Mark). ms ++ mark_in table (short_with c.len.result c.in-Ok.cur c.in-Ok-index_of.next c.args.counters s) ∷ []) (c.index_of-2.ensures.items ∙ c.index_of.ensures.items) in
+    let is = marked_as u s table c.in-Ok.cur c.in-Ok-index_of.next c.len.result c.args.counters c.push.new.self.items same there then items in
+    let m = mark_with c.len.result c.args.counters v.now in
+    let current : Added m.flow.current v.marks.table c.index_of.new.self.table = subst (λ (x : Configuration). Added x v.marks.table c.index_of.new.self.table) (ap (λ x. x.flow.current) same) c.in-Ok.ensures.added in
+    let next : Added m.flow.next c.index_of.new.self.table table = subst (λ (x : Configuration). Added x c.index_of.new.self.table table) (ap (λ (p : List Configuration). configuration_at p s.next) c.index_of.ensures.pool ∙ ap (λ x. x.flow.next) same) c.in-Ok-index_of.ensures.added in
+    let added = subst (λ (x : List Configuration). Added m.flow.next c.index_of.new.self.table x) (sym c.push.ensures.table) next in
+    let few : length c.push.new.self.table ≤ 256 = (let k = c.in-Ok-index_of.ensures.room in let e = ap length c.push.ensures.table in omega (arith, k, e)) in
+    table_mark u _ c.index_of.new.self.table m current added is few start

@@ -1,0 +1,55 @@
+-- Configurations by their numbers in a pool. No public contract needs this.
+use Rattle.std.specs.Prelude.{◌≡◌, ℕ, ◌<◌, List, [], ◌∷◌, ◌++◌, Option, Some, IfSome, slice_get}
+use Rattle.mux_config.specs.Configuration.{Configuration}
+use Rattle.plan_flow.specs.Flows.{Flow}
+use Rattle.script_scheme.specs.declared.flow.Mark.{Mark}
+use Rattle.script_scheme.specs.declared.flow.Spot.{Spot}
+use Rattle.script_compiler.specs.declared.numbers.Numbers.{Numbers}
+use Rattle.script_compiler.specs.declared.short.ShortSpot.{ShortSpot}
+use Rattle.script_compiler.specs.Marked.{configuration_at}
+
+-- no configuration has two numbers
+abbrev pub IsDistinct : List Configuration → Type 0
+IsDistinct pool = (i j : ℕ) (c : Configuration) → slice_get pool i ≡ Some c → slice_get pool j ≡ Some c → i ≡ j
+
+-- the new pool has what the old one has, under the same numbers
+abbrev pub Extends : List Configuration → List Configuration → Type 0
+Extends old new = (more : List Configuration) × (new ≡ old ++ more)
+
+-- a configuration has this number, where one is given
+abbrev pub IsNumbered : List Configuration → Option ℕ → Configuration → Type 0
+IsNumbered pool known c = IfSome known (λ k. slice_get pool k ≡ Some c)
+
+abbrev pub AreNumbered : List Configuration → Numbers → Flow → Type 0
+AreNumbered pool numbers t = IsNumbered pool numbers.current t.current × IsNumbered pool numbers.next t.next
+
+-- a pool, and the table of those that labels name
+pub record PooledTable : Type 0 where
+  pub pool : List Configuration
+  pub table : List Configuration
+
+-- and marks whose configurations are in that table
+pub record MarkedPool : Type 0 where
+  pub items : List Mark
+  pub table : List Configuration
+  pub pool : List Configuration
+
+-- all of these are numbers of a pool of this length
+abbrev pub AreBelow : ℕ → List ℕ → Type 0
+AreBelow n [] = Unit {0}
+AreBelow n (k ∷ ks) = (k < n) × AreBelow n ks
+
+-- the spot, with its configurations
+abbrev pub spot_in : List Configuration → ShortSpot → Spot
+spot_in pool s =
+    record {
+      flow = record { current = configuration_at pool s.current; next = configuration_at pool s.next; pending = s.pending };
+      labelled = s.labelled;
+    }
+
+abbrev pub IsInPool : ℕ → ShortSpot → Type 0
+IsInPool n s = (s.current < n) × (s.next < n)
+
+abbrev pub AreInPool : ℕ → List ShortSpot → Type 0
+AreInPool n [] = Unit {0}
+AreInPool n (s ∷ ss) = IsInPool n s × AreInPool n ss

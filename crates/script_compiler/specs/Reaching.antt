@@ -1,0 +1,44 @@
+-- The search for the pcs that can be reached in a frame. No public contract needs this.
+use Rattle.std.specs.Prelude.{◌≡◌, ℕ, suc, ◌+◌, ◌<◌, ◌⊎◌, Bool, true, if◌then◌else◌, List, [], ◌∷◌, length, slice_get, Some}
+use Rattle.plan_code.specs.declared.instr.Instr.{Instr}
+use Rattle.script_scheme.specs.Need.{GoesTo}
+use Rattle.script_compiler.specs.Costs.{Leads}
+
+abbrev pub IsAt : List Bool → ℕ → Type 0
+IsAt places k = slice_get places k ≡ Some true
+
+abbrev pub IsIn : ℕ → List ℕ → Type 0
+IsIn k [] = ⊥
+IsIn k (x ∷ xs) = (k ≡ x) ⊎ IsIn k xs
+
+abbrev pub trues : List Bool → ℕ
+trues [] = 0
+trues (b ∷ bs) = (if b then 1 else 0) + trues bs
+
+-- of some pcs those that are in the code are reached, each of which waits if it was not reached before
+pub record Grows (ps qs : List Bool) (ws vs : List ℕ) (allowed : ℕ → Type 0) : Type 0 where
+  pub long : length qs ≡ length ps
+  pub kept : (k : ℕ) → IsAt ps k → IsAt qs k
+  pub only : (k : ℕ) → IsAt qs k → IsAt ps k ⊎ allowed k
+  pub fresh : (k : ℕ) → IsAt qs k → IsAt ps k ⊎ IsIn k vs
+  pub still : (k : ℕ) → IsIn k ws → IsIn k vs
+  pub waits : (k : ℕ) → IsIn k vs → IsIn k ws ⊎ IsAt qs k
+  pub count : trues qs + length ws ≡ trues ps + length vs
+
+-- and all of them are
+pub record GrowsBy (ps qs : List Bool) (ws vs : List ℕ) (wanted : ℕ → Type 0) : Type 0 where
+  pub grows : Grows ps qs ws vs wanted
+  pub all : (k : ℕ) → wanted k → k < length ps → IsAt qs k
+
+-- where the machine can go from here, it is reached
+abbrev pub IsExpanded : List Instr → List Bool → ℕ → Type 0
+IsExpanded code places k = (i : Instr) (to : ℕ) → slice_get code k ≡ Some i → GoesTo i k to → to < length code → IsAt places to
+
+-- after this many pcs have been looked at
+pub record Searched (code : List Instr) (pc n : ℕ) (places : List Bool) (waiting : List ℕ) : Type 0 where
+  pub long : length places ≡ length code
+  pub sound : (k : ℕ) → IsAt places k → (m : ℕ) × Leads code (suc m) pc k
+  pub start : IsExpanded code places pc
+  pub closed : (k : ℕ) → IsAt places k → IsIn k waiting ⊎ IsExpanded code places k
+  pub waits : (k : ℕ) → IsIn k waiting → IsAt places k
+  pub count : trues places ≡ n + length waiting
