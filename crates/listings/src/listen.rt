@@ -176,11 +176,13 @@ fn print_heard<W: Write>(heard: &Heard, out: &mut W) -> io::Result<()>
     ensures { OnOk result ((text : List ℕ) × IsListing heard.now text
         × Appends (W.contents out.old) (W.contents out.new) text) }
 {
+    let current = heard.listener.current();
+    let next = heard.listener.next();
     print_counts(heard, out)?;
     out.write_all(b"current\n")?;
-    print_picture(heard.listener.current(), out)?;
+    print_picture(current, out)?;
     out.write_all(b"next\n")?;
-    print_picture(heard.listener.next(), out)?;
+    print_picture(next, out)?;
     print_swap(heard.listener.swap_at(), out)
 }
 

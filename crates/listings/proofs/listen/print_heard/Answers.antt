@@ -16,7 +16,7 @@ returns g c =
     let then = Appends-trans _ _ _ _ _ first c.in_ok-write_all-2.ensures.bytes in
     let second = Appends-trans _ _ _ _ next.0 then next.2 in
     then_listed _ c.args.heard.now _ _ _ current.0 next.0
-    (subst (λ p. AreLinesOf (all_entries p) current.0) c.current.ensures current.1)
-    (subst (λ p. AreLinesOf (all_entries p) next.0) c.next.ensures next.1)
+    (subst (λ p. AreLinesOf (all_entries p) current.0) c.current-current.ensures current.1)
+    (subst (λ p. AreLinesOf (all_entries p) next.0) c.next-next.ensures next.1)
     second
     (subst (λ low. OnOk c.print_swap.result (Appends (g.W.Write.contents c.print_picture-2.new.out) (g.W.Write.contents c.print_swap.new.out) (swap_line low))) c.swap_at.ensures c.print_swap.ensures)
