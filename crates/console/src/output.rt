@@ -1,6 +1,6 @@
 //! Standard output: few writes, and none after one that failed.
 
-ghost use Rattle.std.specs.Prelude.{◌≡◌, ◌<◌, ◌≤◌, IfOk, OnOk, OnErr, length, take};
+ghost use Rattle.std.specs.Prelude.{◌≡◌, ◌<◌, ◌≤◌, true, IfOk, IsErr, OnOk, OnErr, length, take};
 ghost use Rattle.std.specs.Io.{WritesAtMost};
 ghost use Rattle.std.specs.Io.KnownBytes.{Appends, Keeps, WriteAppends};
 
@@ -44,6 +44,9 @@ impl<W: Write> Write for Output<'_, W> {
         ensures bytes { WriteAppends (printed W.contents self.old) (printed W.contents self.new)
             result bytes.now }
         ensures some { IfOk result (λ count. 0 < length bytes.now → 0 < count) }
+        ensures ended { self.old.has_failed ≡ true → Keeps (W.contents (writer_of self.old))
+            (W.contents (writer_of self.new)) }
+        ensures stays { self.old.has_failed ≡ true → self.new.has_failed ≡ true }
     {
         if self.held.is_full() {
             self.flush()?;
@@ -60,6 +63,10 @@ impl<W: Write> Write for Output<'_, W> {
         ensures passed { OnOk result (Keeps (printed W.contents self.old)
             (W.contents (writer_of self.new))) }
         ensures emptied { OnOk result (length self.new.held.items ≡ 0) }
+        ensures ended { self.old.has_failed ≡ true → Keeps (W.contents (writer_of self.old))
+            (W.contents (writer_of self.new)) }
+        ensures stays { self.old.has_failed ≡ true → IsErr result }
+        ensures fails { IsErr result → self.new.has_failed ≡ true }
     {
         if self.has_failed {
             return Err(Error::from(ErrorKind::Other));

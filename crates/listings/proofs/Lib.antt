@@ -2,3 +2,4 @@ mod Appending
 mod Hearing
 mod Naming
 mod OneAnswer
+mod PictureLines

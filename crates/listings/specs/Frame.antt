@@ -1,5 +1,11 @@
 -- One frame of the configuration that a record holds, or the first fault that is met.
-use Rattle.std.specs.Prelude.{ℕ, ◌%◌, ◌==◌, nat_lt, if◌then◌else◌, List, length, Option, Some, None, Result, Ok, Err}
+use Rattle.std.specs.Prelude.{◌≡◌, ℕ, ◌/◌, ◌%◌, ◌==◌, nat_lt, Bool, if◌then◌else◌, List, ◌++◌, codes, length, Option, Some, None, Result, Ok, Err}
+use Rattle.std.specs.List.{flat_map}
+use Rattle.std.specs.Simd.{first_chunks}
+use Rattle.std.specs.Io.KnownBytes.{Appends}
+use Rattle.console.specs.Digits.{digits_of_bytes}
+use Rattle.console.specs.declared.exit.Status.{Status}
+use Rattle.console.specs.declared.exit.Status.TheVariants.{Done, Refused}
 use Rattle.mux_config.specs.Configuration.{Configuration}
 use Rattle.mux_entries.specs.Entries.{EnsembleInformation}
 use Rattle.mux_config.specs.FieldReading.{Reads}
@@ -36,3 +42,25 @@ frame_of_read mode ensemble page (Ok (c, rest)) =
 -- the configuration, of the page
 abbrev pub frame_of : Mode → EnsembleInformation → ℕ → List ℕ → Result (List ℕ) FrameFault
 frame_of mode ensemble page bytes = frame_of_read mode ensemble page (config_at bytes)
+
+-- a FIB as its digits, on a line
+abbrev pub fib_line : List ℕ → List ℕ
+fib_line fib = digits_of_bytes fib ++ codes "\n"
+
+-- the FIBs of a frame, 32 bytes each
+abbrev pub fibs_text : List ℕ → List ℕ
+fibs_text frame = flat_map fib_line (first_chunks 32 (length frame / 32) frame)
+
+-- a frame as its bytes, or as digits
+abbrev pub frame_text : (raw : Bool) → List ℕ → List ℕ
+frame_text raw frame = if raw then frame else fibs_text frame
+
+-- the longest record: three numbers, 64 sub-channels and packet components of 7 bytes, 64 services of 4 bytes with 12
+-- components of 3; and a byte more, which tells that a file is longer
+abbrev pub most_bytes : ℕ
+most_bytes = 3460
+
+-- the frame is shown, or it is refused, by a writer that had `old` and has `new`
+abbrev pub ShowsFrame : (raw : Bool) → Result (List ℕ) FrameFault → (old new : Option (List ℕ)) → Status → Type 0
+ShowsFrame raw (Ok frame) old new status = (status ≡ Done) × Appends old new (frame_text raw frame)
+ShowsFrame raw (Err fault) old new status = status ≡ Refused

@@ -1,8 +1,8 @@
 //! `dabplan frame`: one frame of the configuration that a record holds.
 
-ghost use Rattle.std.specs.Prelude.{◌≡◌, true, OnOk};
+ghost use Rattle.std.specs.Prelude.{◌≡◌, ◌≢◌, IfOk, IfSome, OnOk, codes, take};
 ghost use Rattle.std.specs.Io.KnownBytes.{Appends};
-ghost use Rattle.listings.specs.Frame.{frame_of, page_or_fault, sent};
+ghost use Rattle.listings.specs.Frame.{ShowsFrame, fibs_text, frame_of, frame_text, most_bytes, page_or_fault, sent};
 
 use command_line::FrameRequest;
 use console::exit::{Failure, Status, read_input};
@@ -43,7 +43,14 @@ pub fn show_frame<'a, F: Files, W: Write>(
     request: &FrameRequest<'a>,
     files: &mut F,
     out: &mut W,
-) -> Result<Status, Failure<'a>> {
+) -> Result<Status, Failure<'a>>
+    ensures input { request.now.config.now ≡ codes "-" → IfSome (F.known_input files.old) (λ bytes.
+        IfOk result (ShowsFrame request.now.raw (frame_of request.now.mode request.now.ensemble
+        request.now.page (take most_bytes bytes)) (W.contents out.old) (W.contents out.new))) }
+    ensures file { request.now.config.now ≢ codes "-" → IfSome (F.known files.old request.now.config.now) (λ bytes.
+        IfOk result (ShowsFrame request.now.raw (frame_of request.now.mode request.now.ensemble
+        request.now.page (take most_bytes bytes)) (W.contents out.old) (W.contents out.new))) }
+{
     let record = read_input(alloc, files, request.config, MOST_BYTES + 1)?;
     match frame_of(
         record.as_slice(),
@@ -51,10 +58,10 @@ pub fn show_frame<'a, F: Files, W: Write>(
         request.ensemble,
         request.page,
     ) {
-        Ok(frame) => {
-            print_frame(&frame, request.raw, out)?;
-            Ok(Status::Done)
-        }
+        Ok(frame) => match print_frame(&frame, request.raw, out) {
+            Ok(()) => Ok(Status::Done),
+            Err(_) => Err(Failure::Output),
+        },
         Err(fault) => {
             writeln!(out, "{fault}")?;
             Ok(Status::Refused)
@@ -117,8 +124,8 @@ fn sent(mode: Mode, ensemble: Ensemble) -> Option<Ensemble>
 
 /// Prints the FIBs of a frame, as bytes where these are asked for, and else as digits.
 pub fn print_frame<W: Write>(frame: &FibFrame, raw: bool, out: &mut W) -> io::Result<()>
-    ensures raw { raw ≡ true → OnOk result (Appends (W.contents out.old) (W.contents out.new)
-        frame.now) }
+    ensures { OnOk result (Appends (W.contents out.old) (W.contents out.new)
+        (frame_text raw frame.now)) }
 {
     if raw {
         out.write_all(frame.bytes())
@@ -128,7 +135,10 @@ pub fn print_frame<W: Write>(frame: &FibFrame, raw: bool, out: &mut W) -> io::Re
 }
 
 /// Prints the FIBs of a frame as 64 hexadecimal digits each.
-fn print_fibs<W: Write>(frame: &FibFrame, out: &mut W) -> io::Result<()> {
+fn print_fibs<W: Write>(frame: &FibFrame, out: &mut W) -> io::Result<()>
+    ensures { OnOk result (Appends (W.contents out.old) (W.contents out.new)
+        (fibs_text frame.now)) }
+{
     for fib in frame.bytes().as_chunks::<32>().0 {
         out.write_all(digits_of_fib(fib).as_slice())?;
         out.write_all(b"\n")?;

@@ -1,8 +1,12 @@
 //! `dabplan listen`: what a receiver makes of a stream of FIBs.
 
-ghost use Rattle.std.specs.Prelude.{◌≡◌, ℕ, List, IfOk};
-ghost use Rattle.std.specs.Io.KnownBytes.{Consumes, IsAtEnd};
+ghost use Rattle.std.specs.Prelude.{◌≡◌, ◌≢◌, ℕ, List, Result, Err, Ok, IfOk, IfSome, OnOk, codes};
+ghost use Rattle.std.specs.Io.KnownBytes.{Appends, Consumes, IsAtEnd};
+ghost use Rattle.fib_reader.specs.Listening.{all_entries};
+ghost use Rattle.listings.specs.Listing.{AreLinesOf, IsListing, IsShown, ShowsStream, counts_line, refusal_line, swap_line};
 ghost use Rattle.listings.specs.Stream.{HearsStream, ended};
+ghost use Rattle.listings.specs.declared.listen.Heard.{Heard as HeardOf};
+ghost use Rattle.listings.specs.declared.listen.StreamFault.{StreamFault as FaultOf};
 
 use crate::listing::print_entry;
 use console::exit::{Failure, Status, pieces_of};
@@ -83,18 +87,47 @@ pub fn show_heard<'a, F: Files, W: Write>(
     path: &'a str,
     files: &mut F,
     out: &mut W,
-) -> Result<Status, Failure<'a>> {
+) -> Result<Status, Failure<'a>>
+    ensures input { path.now ≡ codes "-" → IfSome (F.known_input files.old) (λ stream.
+        IfOk result (ShowsStream stream (W.contents out.old) (W.contents out.new))) }
+    ensures file { path.now ≢ codes "-" → IfSome (F.known files.old path.now) (λ stream.
+        IfOk result (ShowsStream stream (W.contents out.old) (W.contents out.new))) }
+{
     let mut pieces = pieces_of(alloc, files, path)?;
-    let heard = listen_to(&mut pieces).map_err(|fault| Failure::of_file(fault, path))?;
+    let heard = match listen_to(&mut pieces) {
+        Ok(heard) => heard,
+        Err(fault) => return Err(Failure::of_file(fault, path)),
+    };
+    match print_answer(&heard, out) {
+        Ok(status) => Ok(status),
+        Err(_) => Err(Failure::Output),
+    }
+}
+
+/// Prints the listing of what was heard, or the line of a refusal.
+fn print_answer<W: Write>(heard: &Result<Heard, StreamFault>, out: &mut W) -> io::Result<Status>
+    ensures { IfOk result (λ status. (text : List ℕ) × IsShown heard.now status text
+        × Appends (W.contents out.old) (W.contents out.new) text) }
+{
     match heard {
         Ok(heard) => {
-            print_heard(&heard, out)?;
+            print_heard(heard, out)?;
             Ok(Status::Done)
         }
         Err(fault) => {
-            writeln!(out, "{fault}")?;
+            print_refusal(*fault, out)?;
             Ok(Status::Refused)
         }
+    }
+}
+
+/// Prints the line of a refusal.
+fn print_refusal<W: Write>(fault: StreamFault, out: &mut W) -> io::Result<()>
+    ensures { OnOk result (Appends (W.contents out.old) (W.contents out.new) (refusal_line fault)) }
+{
+    match fault {
+        StreamFault::NotWhole => writeln!(out, "refused: not whole FIBs"),
+        StreamFault::Full => writeln!(out, "refused: Full"),
     }
 }
 
@@ -139,22 +172,48 @@ fn ended(has_room: bool, heard: Heard) -> Result<Heard, StreamFault>
 }
 
 /// Prints what was heard.
-fn print_heard<W: Write>(heard: &Heard, out: &mut W) -> io::Result<()> {
+fn print_heard<W: Write>(heard: &Heard, out: &mut W) -> io::Result<()>
+    ensures { OnOk result ((text : List ℕ) × IsListing heard.now text
+        × Appends (W.contents out.old) (W.contents out.new) text) }
+{
+    let current = heard.listener.current();
+    let next = heard.listener.next();
+    print_counts(heard, out)?;
+    out.write_all(b"current\n")?;
+    print_picture(current, out)?;
+    out.write_all(b"next\n")?;
+    print_picture(next, out)?;
+    print_swap(heard.listener.swap_at(), out)
+}
+
+/// Prints how many FIBs were heard, and how many of them were damaged.
+fn print_counts<W: Write>(heard: &Heard, out: &mut W) -> io::Result<()>
+    ensures { OnOk result (Appends (W.contents out.old) (W.contents out.new)
+        (counts_line heard.now)) }
+{
     let fibs = heard.fibs;
     let damaged = heard.damaged;
-    writeln!(out, "fibs {fibs} damaged {damaged}")?;
-    writeln!(out, "current")?;
-    print_picture(heard.listener.current(), out)?;
-    writeln!(out, "next")?;
-    print_picture(heard.listener.next(), out)?;
-    match heard.listener.swap_at() {
+    writeln!(out, "fibs {fibs} damaged {damaged}")
+}
+
+/// Prints the low part of the CIF count at which a swap is awaited.
+fn print_swap<W: Write>(swap_at: Option<u8>, out: &mut W) -> io::Result<()>
+    ensures { OnOk result (Appends (W.contents out.old) (W.contents out.new)
+        (swap_line swap_at)) }
+{
+    match swap_at {
         Some(low) => writeln!(out, "swap at low {low}"),
         None => writeln!(out, "no swap"),
     }
 }
 
-fn print_picture<W: Write>(picture: &Picture, out: &mut W) -> io::Result<()> {
-    for entry in picture.entries() {
+/// Prints the lines of each entry of a picture, in the order of its entries.
+fn print_picture<W: Write>(picture: &Picture, out: &mut W) -> io::Result<()>
+    ensures { OnOk result ((text : List ℕ) × AreLinesOf (all_entries picture.now) text
+        × Appends (W.contents out.old) (W.contents out.new) text) }
+{
+    let mut entries = picture.entries();
+    while let Some(entry) = entries.next() {
         print_entry(&entry.value(), out)?;
     }
     Ok(())
