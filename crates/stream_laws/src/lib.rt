@@ -1,5 +1,5 @@
 //! Theory: what a stream of FIBs in which `stream_check` finds no fault says to a receiver, and
-//! which faults the streams of typed codes cannot have (EN 300 401 clause 6.5).
+//! that the streams of typed codes have none (EN 300 401 clause 6.5).
 //!
 //! `specs/Faultless.antt` says what a stream without a fault is. The functions of `laws` do
 //! nothing: their contracts are the laws.
