@@ -1,12 +1,29 @@
-use Rattle.std.proofs.Common.{◌≡◌, [], ap, subst, ◌∙◌}
+use Rattle.std.proofs.Common.{◌≡◌, ℕ, List, [], ap, subst, ◌∙◌}
+use Rattle.std.specs.Io.KnownBytes.{IsAtEnd}
 use Rattle.plan_code.specs.Program.{Program}
 use Rattle.plan_code.specs.declared.plan.Plan.{Plan}
 use Rattle.plan_runs.specs.declared.event.Start.{Start}
 use Rattle.plan_player.specs.Playing.{Playing}
 use Rattle.plan_session.specs.Playback.{Request, asked, start_of}
-use Rattle.plan_live.specs.Living.{Streamed, streamed, StoppedBy, IsPrompt}
+use Rattle.plan_live.specs.Living.{Streamed, streamed, Reached, StoppedBy, IsPrompt}
 use Rattle.plan_live.proofs.Starts.{one_player}
 use Rattle.plan_live.proofs.playback.live.Goals as goal
+
+pub returns-in-Ok-lead-clause-played : goal.returns-in-Ok-lead-clause-played
+returns-in-Ok-lead-clause-played g c = λ p h.
+    let left = g.E.Ends.left in
+    let written = g.E.Ends.written in
+    let told = g.E.Ends.told in
+    let old : Streamed = streamed (left c.args.ends.now) (written c.args.ends.now) (told c.args.ends.now) in
+    let new : Streamed = streamed (left c.lead.new.ends) (written c.lead.new.ends) (told c.lead.new.ends) in
+    let r : Request = asked c.args.code.now [] c.args.count c.args.day c.args.contacts in
+    let verified : Program = c.in-Ok.verified in
+    let start : Start = record { eid = c.plan.result.eid; count = c.args.count; day = c.args.day; contacts = c.args.contacts } in
+    let plan : c.plan.result ≡ verified.plan = c.plan.ensures.value ∙ ap (λ (code : Program). code.plan) c.code.ensures.value in
+    let starts : start ≡ start_of verified r = ap (λ (l : Plan). let s : Start = record { eid = l.eid; count = c.args.count; day = c.args.day; contacts = c.args.contacts } in s) plan in
+    let codes : verified ≡ p.code = c.in-Ok.ensures.only p.code h.ready.file in
+    let same : c.in-Ok-new.player ≡ p = one_player r verified start p c.in-Ok-new.player h codes starts c.in-Ok-new.ensures.begins in
+    subst (λ (x : Playing). (lines : List (List ℕ)) × Reached c.args.options.skip c.args.options.status x old new lines × IsAtEnd (left c.lead.new.ends)) same c.in-Ok-lead.ensures.whole
 
 pub returns-clause-played : goal.returns-clause-played
 returns-clause-played g c = λ p h.
