@@ -1,0 +1,155 @@
+#!/usr/bin/env python3
+"""'dabplan live': the frames of lines as they come, what is skipped, what is told, and how it refuses; and '--time' for
+'play' and 'debug'. The last line is 'N passed, M failed'."""
+import subprocess
+
+import rows
+from rows import NOTHING_FILE, RATES_FILE, REFUSED_FILE, hexadecimal
+
+# Contact 3 is closed after the first frame: the swap is announced from count 4 on and made at 28. It is opened after
+# frame 39: the second one is announced from 40 on and made at 64.
+LINES = ("frames 1", "contact 3 closed", "frames 39", "contact 3 open", "frames 30")
+STATUS = """\
+frame 4 count 4 announced 1 swap at low 28
+frame 28 count 28 swap
+frame 40 count 40 announced 1 swap at low 64
+frame 64 count 64 swap
+"""
+
+
+def played(rows, code, text, options=""):
+    """The bytes that `play` writes for the same steps."""
+    rows.run(f"play x.code x.events x.fib {options}", {"x.code": hexadecimal(code), "x.events": text})
+    return rows.made("x.fib")
+
+
+def live(rows, code, lines, options, status, written, told):
+    """A code led by these bytes ends so."""
+    ended = rows.run(f"live x.code {options}", {"x.code": hexadecimal(code)}, lines)
+    rows.tally.same(f"live {lines[:60]} {options}", (status, written, told), (*ended.lines(), ended.messages.decode()))
+
+
+def lines_are_played(rows):
+    """Steps over several lines, blank lines, comments, and a last line without its end."""
+    wanted = played(rows, RATES_FILE, " ".join(LINES))
+    for lines in ("\n".join(LINES) + "\n", "\n".join(LINES), "# on\n\n" + "\n\r\n".join(LINES) + " # frames 3\n",
+                  " ".join(LINES) + "\n", "frames 1\ncontact 3 closed\n" + "frames 1\n" * 39 + "contact 3 open\n" + "frames 1\n" * 30):
+        live(rows, RATES_FILE, lines.encode(), "", 0, wanted, "")
+        live(rows, RATES_FILE, lines.encode(), "--status", 0, wanted, STATUS)
+    for lines in (b"", b"\n", b"\n\n# nothing"):
+        live(rows, RATES_FILE, lines, "--status", 0, b"", "")
+
+
+def frames_are_skipped(rows):
+    """The first frames are made, counted and told, and not written."""
+    wanted = played(rows, RATES_FILE, " ".join(LINES))
+    lines = "\n".join(LINES).encode()
+    for skip in (0, 1, 28, 69, 70, 71, 4294967295):
+        live(rows, RATES_FILE, lines, f"--skip {skip} --status", 0, wanted[96 * skip:], STATUS)
+
+
+def a_plan_ends(rows):
+    """The end is told once, in the frame in which it is run."""
+    for options, told in (("", "frame 0 count 0 end\n"), ("--count 4999", "frame 0 count 4999 end\n")):
+        wanted = played(rows, NOTHING_FILE, "frames 3", options)
+        live(rows, NOTHING_FILE, b"frames 1\nframes 2\n", f"{options} --status", 0, wanted, told)
+
+
+def bad_lines_do_nothing(rows):
+    """Each is told with its number and column, and the next one is read."""
+    wanted = played(rows, RATES_FILE, "frames 3")
+    for line, fault in (
+        (b"frames 0", "8: Number"), (b"frames 3600001", "8: Number"), (b"frames", "7: Expected"),
+        (b"frames 1 contact 16 open", "18: Number"), (b"contact 3 shut", "11: Expected"), (b"frame 1", "1: Expected"),
+        (b"frames 1 {", "10: Expected"), (b"frames 1 frames 1 \x00", "19: Byte"), (b"frames 1 \xc3\xa9", "10: Byte"),
+        (b"frames 1 # \xff", "Byte"), (b"\xff" * 65537, "Limit"), (b" " * 65529 + b"frames 1", "Limit"),
+    ):
+        live(rows, RATES_FILE, b"frames 1\n\n" + line + b"\nframes 2\n", "", 0, wanted, f"line 3: {fault}\n")
+        live(rows, RATES_FILE, b"frames 1\nframes 2\n" + line, "", 0, wanted, f"line 3: {fault}\n")
+    live(rows, RATES_FILE, b" " * 65528 + b"frames 3\n", "", 0, wanted, "")
+
+
+def it_does_not_begin(rows):
+    """The faults of `play`, in its order and words; no line is read."""
+    for code, options, told in (
+        ("44 41 42 50", "", "code: Truncated"), (RATES_FILE.replace("44 41", "45 41", 1), "", "code: Magic"),
+        (REFUSED_FILE, "--count 5000", "refused at 0 line 1: JoinIdle"),
+        (RATES_FILE, "--count 5000 --day 3600000", "start: Count"), (RATES_FILE, "--day 3600000", "start: Day"),
+    ):
+        live(rows, code, b"frames 1\nframe\n", options, 1, b"", told + "\n")
+    ended = rows.run("live absent.code", {}, b"frames 1\n")
+    rows.tally.same("no code", (1, b"", b"cannot read absent.code\n"), (*ended.lines(), ended.messages))
+
+
+def the_output_fails(rows):
+    """The frames that went out are told, without those that were skipped; no further line is read."""
+    for options, told in (("", ""), ("--skip 3 --status", "")):
+        rows.run("", {"x.code": hexadecimal(RATES_FILE)})
+        with open("/dev/full", "wb") as full:
+            ended = subprocess.run([rows.program, "live", "x.code", *options.split()], cwd=rows.folder, stdout=full,
+                                   input=b"frames 5\nframe\n", stderr=subprocess.PIPE, check=False)
+        rows.tally.same(f"live into /dev/full {options}", (1, f"{told}write failed after 0 frames and 0 bytes\n".encode()),
+                        (ended.returncode, ended.stderr))
+
+
+def each_line_comes_out(rows):
+    """The frames of a line are there before the next line is given, and the end of the input is waited for."""
+    wanted = played(rows, RATES_FILE, "frames 4")
+    rows.run("", {"x.code": hexadecimal(RATES_FILE)})
+    with subprocess.Popen([rows.program, "live", "x.code"], cwd=rows.folder, stdin=subprocess.PIPE, stdout=subprocess.PIPE,
+                          stderr=subprocess.PIPE, bufsize=0) as job:
+        found = b""
+        for line, frames in ((b"frames 1\n", 1), (b"frame 2\nframes 2\n", 2), (b"\n# \nframes 1\n", 1)):
+            job.stdin.write(line)
+            while len(found) < len(wanted) and frames > 0:
+                found += job.stdout.read(96)
+                frames -= 1
+        rows.tally.same("line by line", wanted, found)
+        rows.tally.same("it waits", None, job.poll())
+        job.stdin.close()
+        rows.tally.same("and ends", 0, job.wait())
+        rows.tally.same("and told", b"line 2: 1: Expected\n", job.stderr.read())
+
+
+def until(day):
+    """A code that waits until this frame of the day, then for a frame, and ends: the instructions 0, 1 and 2."""
+    head = NOTHING_FILE.replace("00 01 00 01 00 01\n", "00 01 00 01 00 03\n")
+    return head.replace("00 01 07", f"00 01 02 {day:08X} 00 02 01 00 01 00 03 07")
+
+
+def a_time_is_a_day_frame(rows):
+    """`--time` is the first frame at that time or after it; three seconds have 125 frames."""
+    for time, day in (("00:00:00", 0), ("00:00:01", 42), ("00:00:02", 84), ("00:00:03", 125), ("12:00:00", 1800000),
+                      ("11:59:59", 1799959), ("23:59:59", 3599959)):
+        files = {"x.code": hexadecimal(until(day + 10)), "x.commands": "next next", "x.events": "frames 20"}
+        ended = rows.run(f"debug x.code x.commands --time {time}", files)
+        wanted = "frames 1 steps 1 pc 1 line 2 count 1 remaining none\nframes 10 steps 1 pc 2 line 3 count 11 remaining none\n"
+        rows.tally.same(f"debug --time {time}", (0, wanted.encode()), ended.lines())
+        ended = rows.run(f"live x.code --status --time {time}", files, b"frames 20\n")
+        rows.tally.same(f"live --time {time}", (0, b"frame 11 count 11 end\n"), (ended.status, ended.messages))
+        ended = rows.run(f"play x.code x.events x.fib --time {time}", files)
+        rows.tally.same(f"play --time {time}", (0, b"played 20 frames\n"), ended.lines())
+
+
+def wrong_command_lines(rows):
+    """They are told on standard error, and nothing goes to standard output; help does."""
+    for options in ("--time 24:00:00", "--time 12:60:00", "--time 12:00", "--time 1:00:00", "--time=", "--day 0 --time 00:00:00",
+                    "--skip -1", "--skip 4294967296", "--skip x", "--status --status", "--page 1", "x", "--contacts 00g0"):
+        ended = rows.run(f"live x.code {options}", {"x.code": hexadecimal(RATES_FILE)}, b"frames 1\n")
+        rows.tally.same(f"live {options}", (2, b"", b"error: ", 1),
+                        (ended.status, ended.printed, ended.messages[:7], ended.messages.count(b"\n")))
+    for command in ("play x.code x.events x.fib", "debug x.code x.commands"):
+        for options in ("--time 24:00:00", "--time 00:00:00 --day 0"):
+            ended = rows.run(f"{command} {options}")
+            rows.tally.same(f"{command} {options}", (2, b"error: ", b""), (ended.status, ended.printed[:7], ended.messages))
+    ended = rows.run("live")
+    rows.tally.same("live", (2, b"", b"error: the following required arguments were not provided: <CODE>\n"),
+                    (*ended.lines(), ended.messages))
+    for line in ("live --help", "live -h", "help live"):
+        ended = rows.run(line)
+        rows.tally.same(line, (0, True, b""), (ended.status, b"dabplan live <CODE>" in ended.printed, ended.messages))
+
+
+if __name__ == "__main__":
+    rows.main([lines_are_played, frames_are_skipped, a_plan_ends, bad_lines_do_nothing, it_does_not_begin, the_output_fails,
+               each_line_comes_out, a_time_is_a_day_frame, wrong_command_lines])
