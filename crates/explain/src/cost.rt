@@ -150,6 +150,8 @@ pub(crate) struct Costs {
     line: u16,
     /// The budget of the script.
     budget: u8,
+    /// Whether the script is so short that only a loop can have more than 255 instructions in one frame.
+    is_short: bool,
 }
 
 /// What is to be said of a script that is refused in this line for its costs.
@@ -158,6 +160,7 @@ pub(crate) fn costs_of(
     text: &str,
     script: &Script,
     line: u16,
+    is_short: bool,
 ) -> Result<Costs, AllocError> {
     let budget = script.header().budget;
     Ok(Costs {
@@ -165,6 +168,7 @@ pub(crate) fn costs_of(
         loop_end: loop_of(script, line),
         line,
         budget,
+        is_short,
     })
 }
 
@@ -181,15 +185,27 @@ pub(crate) fn explain_costs<W: Write>(costs: &Costs, out: &mut W) -> io::Result<
             "hint: a budget of {longest}, or a 'wait 1' between the instructions that follow this line"
         );
     }
+    explain_unbounded(costs, out)
+}
+
+/// Explains costs that no budget allows.
+fn explain_unbounded<W: Write>(costs: &Costs, out: &mut W) -> io::Result<()> {
+    let budget = costs.budget;
     let first = costs.line;
-    match costs.loop_end {
-        Some(last) => writeln!(
-            out,
-            "the loop of lines {first} to {last} can go round without a wait, so that its instructions in one frame have no bound\nhint: a 'wait 1' in the loop, on each way through it"
-        ),
-        None => writeln!(
+    let Some(last) = costs.loop_end else {
+        return writeln!(
             out,
             "from here more than 255 instructions run in one frame; the budget is {budget}\nhint: a 'wait 1' between them"
-        ),
+        );
+    };
+    if costs.is_short {
+        return writeln!(
+            out,
+            "the loop of lines {first} to {last} can go round without a wait, so that its instructions in one frame have no bound\nhint: a 'wait 1' in the loop, on each way through it"
+        );
     }
+    writeln!(
+        out,
+        "the loop of lines {first} to {last} can go round without a wait, or more than 255 instructions run in one frame from here; the budget is {budget}\nhint: a 'wait 1' in the loop, on each way through it, or between them"
+    )
 }

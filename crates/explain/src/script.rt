@@ -205,7 +205,9 @@ fn costs_at(
     if cause != Cause::Cost {
         return Ok(None);
     }
-    Ok(Some(costs_of(alloc, text, script, line)?))
+    let way = way_of(alloc, script)?;
+    let is_short = way.walk.is_short();
+    Ok(Some(costs_of(alloc, text, script, line, is_short)?))
 }
 
 /// Explains the cause of a refusal in a line.

@@ -105,6 +105,12 @@ pub(crate) fn instr_of(act: Act) -> Instr {
 }
 
 impl Walk {
+    /// Whether it has gone through so few statements that no path without a loop has more than 255 instructions: a statement
+    /// has two at most.
+    pub(crate) fn is_short(&self) -> bool {
+        self.left >= MOST - 120
+    }
+
     /// The beginning of a way, at this opening.
     pub(crate) fn new(alloc: Global, opening: &Config, deeds: Vec<Deed>) -> Walk {
         Walk {

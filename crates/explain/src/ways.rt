@@ -73,7 +73,12 @@ fn put_configs<W: Write>(
     } else {
         &here.next
     };
-    if put_pair(known, current, "the current configuration", sides, out)? {
+    let name = if is_idle(here.pending) == is_idle(there.pending) {
+        "the current configuration"
+    } else {
+        "the configuration behind the swap"
+    };
+    if put_pair(known, current, name, sides, out)? {
         return Ok(true);
     }
     put_pair(
