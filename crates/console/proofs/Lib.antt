@@ -1,2 +1,3 @@
 mod Filling
+mod LineLaws
 mod LineReading

@@ -1,7 +1,31 @@
 -- The lines that bytes are cut into.
-use Rattle.std.specs.Prelude.{◌≡◌, ℕ, ◌==◌, if◌then◌else◌, List, [], ◌∷◌, ◌++◌, Option, None, Some}
+use Rattle.std.specs.Prelude.{◌≡◌, ◌≢◌, ◌⊎◌, ◌↔◌, ℕ, ◌==◌, if◌then◌else◌, List, [], ◌∷◌, ◌++◌, flat_map, Option, None, Some}
+use Rattle.std.specs.List.{AllByRecursion}
 
--- each line ends at a line feed, which is not part of it, and the last one at the end, if it has a byte
+-- ---- what the lines of bytes are
+
+-- a line has no line feed
+abbrev pub HasNoFeed : List ℕ → Type 0
+HasNoFeed line = AllByRecursion (λ b. b ≢ 10) line
+
+-- lines, each with its feed
+abbrev pub with_feeds : List (List ℕ) → List ℕ
+with_feeds lines = flat_map (λ line. line ++ 10 ∷ []) lines
+
+-- the last line ends with the bytes, without a feed: then it has some
+pub record LacksLastFeed (bytes : List ℕ) (lines : List (List ℕ)) : Type 0 where
+  pub front : List (List ℕ)
+  pub last : List ℕ
+  pub lines_are : lines ≡ front ++ last ∷ []
+  pub some : last ≢ []
+  pub bytes_are : bytes ≡ with_feeds front ++ last
+
+pub record AreLinesOf (bytes : List ℕ) (lines : List (List ℕ)) : Type 0 where
+  pub no_feed : AllByRecursion HasNoFeed lines
+  pub whole : (bytes ≡ with_feeds lines) ⊎ LacksLastFeed bytes lines
+
+-- ---- the same byte by byte
+
 abbrev pub with_byte : ℕ → List (List ℕ) → List (List ℕ)
 with_byte b [] = (b ∷ []) ∷ []
 with_byte b (line ∷ lines) = (b ∷ line) ∷ lines
@@ -9,6 +33,12 @@ with_byte b (line ∷ lines) = (b ∷ line) ∷ lines
 abbrev pub lines_of : List ℕ → List (List ℕ)
 lines_of [] = []
 lines_of (b ∷ bs) = if b == 10 then [] ∷ lines_of bs else with_byte b (lines_of bs)
+
+-- all bytes have lines, and these are the only ones
+abbrev pub BytesHaveLines : Type 0
+BytesHaveLines = (bytes : List ℕ) (lines : List (List ℕ)) → AreLinesOf bytes lines ↔ (lines_of bytes ≡ lines)
+
+-- ---- what reading them takes
 
 -- an input that had some bytes left gave these lines, and has others left; where it doesn't tell them nothing is said
 abbrev pub GivesLines : Option (List ℕ) → List (List ℕ) → Option (List ℕ) → Type 0

@@ -6,6 +6,7 @@ pub mod exit;
 pub mod files;
 pub mod hexadecimal;
 pub mod known;
+pub mod laws;
 pub mod lines;
 pub mod output;
 pub mod pieces;
