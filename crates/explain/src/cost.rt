@@ -2,14 +2,23 @@
 
 use plan_flow::Cause;
 use script_compiler::{CompileFault, compile};
-use script_front::{Script, Statement, lex, parse};
+use script_front::{Script, ScriptFault, Statement, lex, parse};
 use std::alloc::{AllocError, Global};
 use std::io::{self, Write};
 
+/// Want of memory, where that is the fault; and else what a text that is no script gives.
+fn if_memory<T: Drop>(fault: ScriptFault, otherwise: T) -> Result<T, AllocError> {
+    if fault == ScriptFault::Memory {
+        return Err(AllocError);
+    }
+    Ok(otherwise)
+}
+
 /// The text of a script with another budget, if its header has one.
 fn with_budget(alloc: Global, text: &str, budget: u16) -> Result<Option<String>, AllocError> {
-    let Ok(tokens) = lex(alloc, text) else {
-        return Ok(None);
+    let tokens = match lex(alloc, text) {
+        Ok(tokens) => tokens,
+        Err(fault) => return if_memory(fault, None),
     };
     let mut is_budget = false;
     for token in tokens.as_slice() {
@@ -34,8 +43,9 @@ fn costs_more(alloc: Global, text: &str, budget: u16) -> Result<bool, AllocError
     let Some(changed) = with_budget(alloc, text, budget)? else {
         return Ok(true);
     };
-    let Ok(script) = parse(alloc, changed.as_str()) else {
-        return Ok(true);
+    let script = match parse(alloc, changed.as_str()) {
+        Ok(script) => script,
+        Err(fault) => return if_memory(fault, true),
     };
     match compile(alloc, &script) {
         Ok(_code) => Ok(false),

@@ -1,7 +1,7 @@
 //! What may stand at a place of a script, in words.
 
 use crate::probe::{Answer, Front};
-use script_front::lex;
+use script_front::{ScriptFault, lex};
 use std::alloc::{AllocError, Global};
 use std::io::{self, Write};
 
@@ -170,8 +170,10 @@ impl Expected {
 /// What a decimal at a place is, by the word before it.
 fn number_word(alloc: Global, front: &Front, high: u32) -> Result<&'static str, AllocError> {
     let text = front.text();
-    let Ok(tokens) = lex(alloc, text) else {
-        return Ok("a number");
+    let tokens = match lex(alloc, text) {
+        Ok(tokens) => tokens,
+        Err(ScriptFault::Memory) => return Err(AllocError),
+        Err(_fault) => return Ok("a number"),
     };
     let Some(last) = tokens.as_slice().last() else {
         return Ok("a number");
