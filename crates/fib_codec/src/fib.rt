@@ -9,6 +9,7 @@ ghost use Rattle.fib_codec.specs.Grammar.{HoldsFigsOf, IsValidOf};
 
 use crate::data::Data;
 use crate::entry_writer::{entry_len, put_entry};
+use crate::extension::Extension;
 use crate::head::{self, Head};
 use crate::{fig0_1, fig0_2, fig0_3};
 use mux_entries::{ComponentEntry, Entry, PacketEntry, SubEntry};
@@ -36,15 +37,15 @@ impl Model for Fib {
 fn is_under(head: Head, entry: &Entry) -> bool
     ensures { IsTrue result ↔ IsUnder head entry.now }
 {
+    if head.ext != Extension::of(entry).number() {
+        return false;
+    }
     match entry {
-        Entry::Ensemble(_) => head.ext == 0,
-        Entry::Sub(_) => head.ext == 1,
-        Entry::Short(_) => head.ext == 1,
         Entry::Service(service) => match service.sid {
-            Sid::Short(_) => head.ext == 2 && !head.long,
-            Sid::Long(_) => head.ext == 2 && head.long,
+            Sid::Short(_) => !head.long,
+            Sid::Long(_) => head.long,
         },
-        Entry::Packet(_) => head.ext == 3,
+        Entry::Ensemble(_) | Entry::Sub(_) | Entry::Short(_) | Entry::Packet(_) => true,
     }
 }
 
@@ -66,7 +67,7 @@ fn is_formed(head: Head, entries: &[Entry]) -> bool
     if entries.is_empty() {
         return false;
     }
-    if head.ext == 0 {
+    if head.ext == Extension::Ensemble.number() {
         if entries.len() > 1 {
             return false;
         }

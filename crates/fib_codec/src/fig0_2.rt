@@ -223,11 +223,12 @@ fn decode_component(high: u8, low: u8) -> ComponentEntry
         TM_ID_OTHER => ComponentEntry::Other {
             bits: Bits::new(word & OTHER_MASK).unwrap(),
         },
-        _ => ComponentEntry::Packet {
+        TM_ID_PACKET => ComponentEntry::Packet {
             scid: ScId::new((word & OTHER_MASK) >> FIELD_SHIFT).unwrap(),
             primary,
             ca,
         },
+        _ => unreachable!(),
     }
 }
 

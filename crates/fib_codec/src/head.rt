@@ -1,9 +1,12 @@
 //! The head that the entries of one FIG share (EN 300 401 clause 5.2.2.1): the layout of the second byte of a FIG of
 //! type 0, C/N 1, OE 1, P/D 1, extension 5.
 
-ghost use Rattle.std.specs.Prelude.{◌≡◌, ◌<◌, ◌%◌};
+ghost use Rattle.std.specs.Prelude.{◌≡◌, ◌<◌, ◌%◌, true, false, IfSome, IfNone};
+ghost use Rattle.fib_codec.specs.Extensions.{number_of};
 ghost use Rattle.fib_codec.specs.Grammar.{is_next, is_open, is_long};
 ghost use Rattle.fib_codec.specs.Spelling.{head_byte};
+
+use crate::extension::Extension;
 
 const NEXT_SHIFT: u32 = 7;
 
@@ -12,9 +15,6 @@ const OE_SHIFT: u32 = 6;
 const LONG_SHIFT: u32 = 5;
 
 const EXT_MASK: u8 = 0x1f;
-
-/// The extensions that are looked into are those below this one: FIG 0/0 to 0/3.
-const FIRST_OTHER_EXT: u8 = 4;
 
 /// The second byte of a FIG of type 0 (EN 300 401 clause 5.2.2.1): what holds of all entries in it.
 #[derive(Clone, Copy, Debug, PartialEq, Eq)]
@@ -46,14 +46,16 @@ pub fn next_of(second: u8) -> bool
     second >> NEXT_SHIFT == 1
 }
 
-/// Whether this second byte says OE 0 and an extension from 0 to 3.
-pub fn is_open_of(second: u8) -> bool
-    ensures { result ≡ is_open second }
+/// The extension of this second byte, where the FIG is looked into: with OE 0 and an extension from 0 to 3.
+pub fn extension_of(second: u8) -> Option<Extension>
+    ensures open { IfSome result (λ e. is_open second ≡ true) }
+    ensures value { IfSome result (λ e. number_of e ≡ second % 32) }
+    ensures other { IfNone result (is_open second ≡ false) }
 {
     if (second >> OE_SHIFT) & 1 == 1 {
-        return false;
+        return None;
     }
-    second & EXT_MASK < FIRST_OTHER_EXT
+    Extension::from_number(second & EXT_MASK)
 }
 
 /// The P/D flag of this second byte.
@@ -61,11 +63,4 @@ pub fn is_long_of(second: u8) -> bool
     ensures { result ≡ is_long second }
 {
     (second >> LONG_SHIFT) & 1 == 1
-}
-
-/// The extension of this second byte, 0 to 31.
-pub fn ext_of(second: u8) -> u8
-    ensures { result ≡ second % 32 }
-{
-    second & EXT_MASK
 }

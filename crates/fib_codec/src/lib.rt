@@ -14,6 +14,7 @@ pub mod crc;
 mod crc_tables;
 mod data;
 pub mod entry_writer;
+pub mod extension;
 pub mod fib;
 pub mod fib_frame;
 pub mod fig0_0;
@@ -26,6 +27,7 @@ pub mod modes;
 
 pub use crc::{crc16, crc16_by_bits, is_checked};
 pub use entry_writer::entry_len;
+pub use extension::Extension;
 pub use fib::Fib;
 pub use fib_frame::FibFrame;
 pub use head::Head;
