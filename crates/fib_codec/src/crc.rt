@@ -19,13 +19,13 @@ fn step(register: u16, bit: u8) -> u16
 fn byte_step_by_bits(mut register: u16, byte: u8) -> u16
     ensures { result ≡ after 8 byte register }
 {
-    for place in 0u8..8 {
-        register = step(register, (byte >> (7 - place)) & 1);
+    for index in 0u8..8 {
+        register = step(register, (byte >> (7 - index)) & 1);
     }
     register
 }
 
-/// The CRC of these bytes as it is sent, complemented: the same word as `crc16`, computed bit by bit.
+/// The CRC of these bytes as it is sent, complemented: the same number as `crc16`, computed bit by bit.
 pub fn crc16_by_bits(bytes: &[u8]) -> u16
     ensures { low_bits 16 result ≡ check_bits bytes.now }
 {
@@ -86,6 +86,6 @@ pub fn crc16(bytes: &[u8]) -> u16
 pub fn is_checked(fib: &[u8; 32]) -> bool
     ensures { IsTrue result ↔ IsChecked fib.now }
 {
-    let word = crc16(&fib[..30]);
-    word == u16::from(fib[30]) * 256 + u16::from(fib[31])
+    let crc = crc16(&fib[..30]);
+    crc == u16::from(fib[30]) * 256 + u16::from(fib[31])
 }

@@ -8,8 +8,8 @@ use crate::crc::crc16;
 use byteorder::{BigEndian, ByteOrder};
 use std::marker::Model;
 
-/// The data bytes of a FIB as far as they are written, at most 30. Contracts see the list of them. They stand in the
-/// 32 bytes of the FIB, with the end marker and zeros behind them.
+/// The data bytes of a FIB as far as they are written, at most 30. Contracts see the list of them. They are kept in
+/// the 32 bytes of the FIB, with the end marker and zeros behind them.
 #[derive(Drop)]
 pub(crate) struct Data {
     bytes: [u8; 32],
@@ -32,8 +32,8 @@ fn with_crc(mut bytes: [u8; 32]) -> [u8; 32]
     requires { length bytes ≡ 32 }
     ensures { result ≡ checked (take 30 bytes) }
 {
-    let word = crc16(&bytes[..30]);
-    BigEndian::write_u16(&mut bytes[30..], word);
+    let crc = crc16(&bytes[..30]);
+    BigEndian::write_u16(&mut bytes[30..], crc);
     bytes
 }
 
@@ -47,7 +47,7 @@ impl Data {
         Data { bytes, len: 0 }
     }
 
-    /// How many there are.
+    /// The number of data bytes.
     pub(crate) fn len(&self) -> usize
         ensures value { result ≡ length self.now }
         ensures bound { result ≤ 30 }
@@ -107,13 +107,14 @@ impl Data {
         self.push_two(bytes[2], bytes[3]);
     }
 
-    /// Adds to the byte at a place.
-    pub(crate) fn add_at(&mut self, place: usize, more: u8)
-        requires place { place < length self.old }
-        requires fits { slice_index_or self.old place 0 + more ≤ 255 }
-        ensures { self.new ≡ slice_set self.old place (slice_index_or self.old place 0 + more) }
+    /// Adds to the byte at an offset.
+    pub(crate) fn add_at(&mut self, offset: usize, more: u8)
+        requires offset { offset < length self.old }
+        requires fits { slice_index_or self.old offset 0 + more ≤ 255 }
+        ensures { self.new
+            ≡ slice_set self.old offset (slice_index_or self.old offset 0 + more) }
     {
-        self.bytes[place] += more;
+        self.bytes[offset] += more;
     }
 
     /// The 32 bytes of the FIB, of which the last two aren't its CRC yet.

@@ -1,4 +1,4 @@
-//! Any entry of FIG 0/0 to 0/3 as bytes; its layout stands in the file of its FIG.
+//! Any entry of FIG 0/0 to 0/3 as bytes; its layout is in the file of its FIG.
 
 ghost use Rattle.std.specs.Prelude.{◌≡◌, ◌+◌, ◌≤◌, ◌++◌, length};
 ghost use Rattle.fib_codec.specs.Ranges.{IsWithin};

@@ -33,7 +33,7 @@ impl Model for Fib {
     ghost invariant = { λ f. length f.bytes ≤ 30 };
 }
 
-/// Whether an entry can stand under this head.
+/// Whether an entry can be sent under this head.
 fn is_under(head: Head, entry: &Entry) -> bool
     ensures { IsTrue result ↔ IsUnder head entry.now }
 {
@@ -109,7 +109,7 @@ impl Fib {
         Fib { bytes: Data::new() }
     }
 
-    /// Appends a FIG of type 0 with this head and these entries, and says whether it did. It answers
+    /// Appends a FIG of type 0 with this head and these entries, and returns whether it did. It returns
     /// false, and the FIB stays as it was, exactly where `entries` is empty, an entry is of another
     /// extension than the head's, a service's SId isn't as long as the head's P/D flag says, FIG 0/0 is
     /// given more than one entry, or the FIG doesn't fit in what is left of the 30 data bytes.
@@ -148,8 +148,8 @@ impl Fib {
         self.bytes.push_two(1 + len as u8, head::encode(head));
     }
 
-    /// Makes the FIG that begins at a place of the data bytes this many bytes longer: those of an entry that the caller
-    /// appends next. It is for the last FIG that was begun, where there is room for the entry.
+    /// Makes the FIG whose header is at this offset of the data bytes this many bytes longer: those of an entry that
+    /// the caller appends next. It is for the last FIG that was begun, where there is room for the entry.
     pub fn lengthen_fig(&mut self, place: usize, more: u8)
         requires place { place < length self.old }
         requires fits { slice_index_or self.old place 0 + more ≤ 255 }

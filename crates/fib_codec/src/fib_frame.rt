@@ -60,10 +60,10 @@ fn write_sealed(bytes: &mut [u8], offset: usize, row: &[u8; 32])
     ensures { bytes.new ≡
         take offset bytes.old ++ (checked (take 30 row.now) ++ drop (offset + 32) bytes.old) }
 {
-    let word = crc16(&row[..30]);
+    let crc = crc16(&row[..30]);
     let fib = &mut bytes[offset..offset + 32];
     fib.copy_from_slice(row);
-    BigEndian::write_u16(&mut fib[30..], word);
+    BigEndian::write_u16(&mut fib[30..], crc);
 }
 
 /// Writes bytes over the front of a FIB, one by one: as many at once would have to wait for each of them to be stored.
@@ -71,8 +71,8 @@ fn write_front<const LEN: usize>(fib: &mut [u8], fig: &[u8; LEN])
     requires { LEN ≤ length fib.old }
     ensures { fib.new ≡ fig.now ++ drop (length fig.now) fib.old }
 {
-    for place in 0..LEN {
-        fib[place] = fig[place];
+    for index in 0..LEN {
+        fib[index] = fig[index];
     }
 }
 
@@ -91,8 +91,8 @@ fn seal(fib: &mut [u8])
     requires { length fib.old ≡ 32 }
     ensures { fib.new ≡ checked (take 30 fib.old) }
 {
-    let word = crc16(&fib[..30]);
-    BigEndian::write_u16(&mut fib[30..], word);
+    let crc = crc16(&fib[..30]);
+    BigEndian::write_u16(&mut fib[30..], crc);
 }
 
 /// Writes a FIB of a FIG and of what there is room for of another FIB over the 32 bytes from an offset on.

@@ -106,11 +106,11 @@ pub fn decode_long(bytes: &[u8]) -> SubEntry
     ensures within { IsSubEntry result }
     ensures only { (e : Long) → IsSubEntry e → bytes.now ≡ sub_bytes e → result ≡ e }
 {
-    let place = u16_of(bytes[0], bytes[1]);
+    let front = u16_of(bytes[0], bytes[1]);
     let size = u16_of(bytes[2], bytes[3]);
     SubEntry {
-        id: SubId::new((place >> SUB_ID_SHIFT) as u8).unwrap(),
-        start: Bits::new(place & START_MASK).unwrap(),
+        id: SubId::new((front >> SUB_ID_SHIFT) as u8).unwrap(),
+        start: Bits::new(front & START_MASK).unwrap(),
         option: Bits::new((size >> OPTION_SHIFT) & OPTION_MASK).unwrap(),
         level: Bits::new((size >> LEVEL_SHIFT) & LEVEL_MASK).unwrap(),
         size: Bits::new(size & SIZE_MASK).unwrap(),
@@ -125,11 +125,11 @@ pub fn decode_short(bytes: &[u8]) -> ShortEntry
     ensures within { IsShortEntry result }
     ensures only { (e : Short) → IsShortEntry e → bytes.now ≡ short_bytes e → result ≡ e }
 {
-    let place = u16_of(bytes[0], bytes[1]);
+    let front = u16_of(bytes[0], bytes[1]);
     let table = bytes[2];
     ShortEntry {
-        id: SubId::new((place >> SUB_ID_SHIFT) as u8).unwrap(),
-        start: Bits::new(place & START_MASK).unwrap(),
+        id: SubId::new((front >> SUB_ID_SHIFT) as u8).unwrap(),
+        start: Bits::new(front & START_MASK).unwrap(),
         switch: table >> SWITCH_SHIFT == 1,
         table: Bits::new(u16::from(table & TABLE_MASK)).unwrap(),
     }

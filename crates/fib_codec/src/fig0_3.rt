@@ -92,7 +92,7 @@ pub fn decode(bytes: &[u8]) -> PacketEntry
 {
     let front = u16_of(bytes[0], bytes[1]);
     let flags = bytes[2];
-    let place = u16_of(bytes[3], bytes[4]);
+    let location = u16_of(bytes[3], bytes[4]);
     let ca_org = if front & u16::from(CA_ORG_FLAG) == 1 {
         Some(u16_of(bytes[5], bytes[6]))
     } else {
@@ -104,8 +104,8 @@ pub fn decode(bytes: &[u8]) -> PacketEntry
         dg: flags >> DG_SHIFT == 1,
         rfu: (flags >> RFU_SHIFT) & RFU_MASK == 1,
         ty: ScTy::new(flags & TY_MASK).unwrap(),
-        sub: SubId::new((place >> SUB_ID_SHIFT) as u8).unwrap(),
-        address: Bits::new(place & ADDRESS_MASK).unwrap(),
+        sub: SubId::new((location >> SUB_ID_SHIFT) as u8).unwrap(),
+        address: Bits::new(location & ADDRESS_MASK).unwrap(),
         ca_org,
     }
 }

@@ -18,8 +18,8 @@ pub fn fib_length()
 {}
 
 /// The law of spellings: an entry that is written is an entry in the grammar, bytes that are an entry in the
-/// grammar are those of an entry that can be written, and entries of one extension and one P/D flag are told
-/// apart by their bytes.
+/// grammar are those of an entry that can be written, and entries of one extension and one P/D flag are
+/// distinguished by their bytes.
 pub fn spelling()
     ensures is_entry { SpellingIsEntry }
     ensures is_spelled { EntryIsSpelled }
@@ -33,7 +33,7 @@ pub fn written()
     ensures valid { WrittenIsValid }
 {}
 
-/// The law of hearing: in bytes that hold written FIGs stand exactly the entries of those FIGs, each with
+/// The law of decoding: bytes that hold written FIGs have exactly the entries of those FIGs, each with
 /// the C/N flag of its head, and none of another ensemble.
 pub fn heard()
     ensures { HeardIsWritten }

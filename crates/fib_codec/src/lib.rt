@@ -4,9 +4,9 @@
 //! Each FIG's entries have their layout in one file, `fig0_0` to `fig0_3`: their length, how they are encoded
 //! and decoded, and as the contract of `decode` the law that these agree. Readers call the same functions.
 //!
-//! The definitions that contracts cite stand in `specs/`: `Spelling` says how entries and FIGs are
+//! The definitions that contracts cite are in `specs/`: `Spelling` says how entries and FIGs are
 //! written, `Grammar` which FIGs 32 bytes hold, `Crc` what the CRC is, apart from any table, and
-//! `Heard` which entries a receiver hears in a FIB.
+//! `Heard` which entries a receiver decodes from a FIB.
 #![tactic(auto)]
 
 pub mod bytes;

@@ -1,20 +1,20 @@
-//! What it rests on that a receiver is told nothing new.
+//! What a receiver has to know for FIGs to say nothing new to it.
 
 ghost use Rattle.std.specs.Prelude.{◌≡◌, true};
 ghost use Rattle.fib_reader.specs.Listening.{Listening, hear_figs};
 ghost use Rattle.fib_reader.specs.Remembering.{KeepsCurrent};
 
 use crate::figs::Figs;
-use fib_codec::Head;
+use fib_codec::{Extension, Head};
 
-/// What it rests on that FIGs tell a receiver nothing new, beside whether it has heard a FIG 0/0 yet.
+/// What a receiver has to know for FIGs to say nothing new to it, beside whether it has heard a FIG 0/0 yet.
 #[derive(Clone, Copy, Debug, PartialEq, Eq)]
 pub(crate) enum Basis {
-    /// On what it has heard of the current configuration.
+    /// What it has heard of the current configuration.
     Current,
-    /// On what it has heard of the current and of the next configuration.
+    /// What it has heard of the current and of the next configuration.
     Pictures,
-    /// On all that it knows.
+    /// All that it knows.
     All,
 }
 
@@ -23,11 +23,11 @@ impl Basis {
     ghost use Rattle.fib_reader.specs.Listening.{Listening};
     ghost use Rattle.fib_reader.specs.Remembering.{Agrees, basis_of};
 
-    /// What FIGs of this head rest on: FIG 0/0 on all, entries with C/N 1 on both pictures.
+    /// The basis of FIGs of this head: all for FIG 0/0, both pictures for entries with C/N 1.
     pub(crate) fn of(head: Head) -> Basis
         ensures { result ≡ basis_of head.next head.ext }
     {
-        if head.ext == 0 {
+        if head.ext == Extension::Ensemble.number() {
             return Basis::All;
         }
         if head.next {
@@ -37,7 +37,7 @@ impl Basis {
         }
     }
 
-    /// What two things rest on together.
+    /// The basis of two things together.
     pub(crate) fn and(self, other: Basis) -> Basis
         ensures one { (old l : Listening) → Agrees result old l → Agrees self old l }
         ensures other { (old l : Listening) → Agrees result old l → Agrees other old l }

@@ -1,6 +1,7 @@
 //! The test of a FIB: its CRC, and then its FIGs and entries from the front.
 
 ghost use Rattle.std.specs.Prelude.{◌≡◌, ◌+◌, ◌<◌, ◌≤◌, List, length, Ok, IfOk, IfErr};
+ghost use Rattle.fib_codec.specs.Extensions.{number_of};
 ghost use Rattle.fib_codec.specs.Grammar.{Fig, IsFib};
 ghost use Rattle.fib_reader.specs.Faults.{IsFibFault};
 ghost use Rattle.fib_reader.specs.FirstFault.{entries_fault, ensemble_fault, body_fault, fig_fault, figs_fault};
@@ -9,18 +10,19 @@ use crate::bytes::entry_len_of;
 use crate::fault::FibFault;
 use crate::figs::Figs;
 use fib_codec::bytes::byte_at;
-use fib_codec::head::{ext_of, is_long_of, is_open_of};
-use fib_codec::is_checked;
+use fib_codec::head::{extension_of, is_long_of};
+use fib_codec::{Extension, is_checked};
 
-/// The place of the first entry that isn't whole.
-fn entries_fault_of(ext: u8, long: bool, place: usize, bytes: &[u8]) -> Option<usize>
-    requires { place + length bytes.now ≤ 32 }
-    ensures { result ≡ entries_fault (length bytes.now) ext long place bytes.now }
+/// The offset of the first entry that isn't whole.
+fn entries_fault_of(extension: Extension, long: bool, offset: usize, bytes: &[u8]) -> Option<usize>
+    requires { offset + length bytes.now ≤ 32 }
+    ensures { result
+        ≡ entries_fault (length bytes.now) (number_of extension) long offset bytes.now }
 {
-    let mut at = place;
+    let mut at = offset;
     let mut rest = bytes;
     while !rest.is_empty() {
-        let len = entry_len_of(ext, long, rest);
+        let len = entry_len_of(extension, long, rest);
         if rest.len() < len {
             return Some(at);
         }
@@ -31,60 +33,61 @@ fn entries_fault_of(ext: u8, long: bool, place: usize, bytes: &[u8]) -> Option<u
     None
 }
 
-/// The place of the fault in the bytes after FIG 0/0's extension byte, which are to be one entry.
-fn ensemble_fault_of(place: usize, bytes: &[u8]) -> Option<usize>
-    requires { place + length bytes.now ≤ 32 }
-    ensures { result ≡ ensemble_fault place bytes.now }
+/// The offset of the fault in the bytes after FIG 0/0's second byte, which are to be one entry.
+fn ensemble_fault_of(offset: usize, bytes: &[u8]) -> Option<usize>
+    requires { offset + length bytes.now ≤ 32 }
+    ensures { result ≡ ensemble_fault offset bytes.now }
 {
-    let len = entry_len_of(0, false, bytes);
+    let len = entry_len_of(Extension::Ensemble, false, bytes);
     if bytes.len() < len {
-        return Some(place);
+        return Some(offset);
     }
     if byte_at(bytes, 2) % 32 > 19 {
-        return Some(place);
+        return Some(offset);
     }
     if byte_at(bytes, 3) > 249 {
-        return Some(place);
+        return Some(offset);
     }
     if bytes.len() > len {
-        return Some(place + len);
+        return Some(offset + len);
     }
     None
 }
 
-/// The place of the first entry at fault.
-fn body_fault_of(ext: u8, long: bool, place: usize, bytes: &[u8]) -> Option<usize>
-    requires { place + length bytes.now ≤ 32 }
-    ensures { result ≡ body_fault ext long place bytes.now }
+/// The offset of the first entry at fault.
+fn body_fault_of(extension: Extension, long: bool, offset: usize, bytes: &[u8]) -> Option<usize>
+    requires { offset + length bytes.now ≤ 32 }
+    ensures { result ≡ body_fault (number_of extension) long offset bytes.now }
 {
-    if ext == 0 {
-        ensemble_fault_of(place, bytes)
-    } else {
-        entries_fault_of(ext, long, place, bytes)
+    match extension {
+        Extension::Ensemble => ensemble_fault_of(offset, bytes),
+        Extension::SubChannels | Extension::Services | Extension::Packets => {
+            entries_fault_of(extension, long, offset, bytes)
+        }
     }
 }
 
-/// The fault of one FIG, whose header stands at `place` and before `bytes`.
-fn fig_fault_of(place: usize, header: u8, bytes: &[u8]) -> Option<FibFault>
-    requires { place + 1 + length bytes.now ≤ 32 }
-    ensures { result ≡ fig_fault place header bytes.now }
+/// The fault of one FIG, whose header is at `offset` and before `bytes`.
+fn fig_fault_of(offset: usize, header: u8, bytes: &[u8]) -> Option<FibFault>
+    requires { offset + 1 + length bytes.now ≤ 32 }
+    ensures { result ≡ fig_fault offset header bytes.now }
 {
     if bytes.len() < usize::from(header % 32) {
-        return Some(FibFault::Overrun(place));
+        return Some(FibFault::Overrun(offset));
     }
     if header > 31 {
         return None;
     }
     if header == 0 {
-        return Some(FibFault::Entry(place));
+        return Some(FibFault::Entry(offset));
     }
     let second = byte_at(bytes, 0);
-    if !is_open_of(second) {
+    let Some(extension) = extension_of(second) else {
         return None;
-    }
+    };
     let (fig, _) = bytes.split_at(usize::from(header));
     let (_, body) = fig.split_at(1);
-    match body_fault_of(ext_of(second), is_long_of(second), place + 2, body) {
+    match body_fault_of(extension, is_long_of(second), offset + 2, body) {
         Some(at) => Some(FibFault::Entry(at)),
         None => None,
     }
@@ -115,12 +118,12 @@ fn figs_fault_of(bytes: &[u8]) -> Option<FibFault>
 }
 
 /// Checks a FIB: its CRC, and then its FIGs from the front to the end of the data bytes or to an
-/// end marker in a header's place (EN 300 401 clauses 5.2.1 and 5.2.2). Where all is well, the FIGs are
+/// end marker instead of a header (EN 300 401 clauses 5.2.1 and 5.2.2). Where all is well, the FIGs are
 /// lent in order.
 ///
 /// FIGs of types 1 to 7, of extensions above 3 and of other ensembles aren't looked into. Those of
 /// extensions 0 to 3 must be whole entries, and FIG 0/0 exactly one with a CIF count in range; besides
-/// that every value of a field is good. Of several faults the first is told:
+/// that every value of a field is good. Of several faults the first is reported:
 /// - `Crc`: the last two bytes aren't the CRC of the others;
 /// - `Overrun`, at the header of a FIG that is longer than the data bytes that are left;
 /// - `Entry`, at the first byte of an entry at fault, or at the header of a FIG of type 0 without a second byte.

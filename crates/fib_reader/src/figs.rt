@@ -1,13 +1,14 @@
 //! The FIGs of a FIB, lent from its bytes.
 
 ghost use Rattle.std.specs.Prelude.{◌≡◌, ◌≤◌, ◌%◌, [], ◌∷◌, length, drop, MatchOption, IfSome, IfNone, OnSome};
+ghost use Rattle.fib_codec.specs.Extensions.{number_of};
 ghost use Rattle.fib_codec.specs.Grammar.{Open, Other, is_long};
 ghost use Rattle.fib_reader.specs.Walk.{fig_of_bytes, entries_of, pieces_of};
 
 use crate::entries::Entries;
-use fib_codec::Head;
 use fib_codec::bytes::byte_at;
-use fib_codec::head::{ext_of, is_long_of, is_open_of, next_of};
+use fib_codec::head::{extension_of, is_long_of, next_of};
+use fib_codec::{Extension, Head};
 use std::marker::Model;
 
 /// A FIG, which lends its bytes. Contracts see it as the grammar does: of extension 0 to 3 and of this
@@ -33,7 +34,7 @@ impl<'a> Fig<'a> {
     ghost use Rattle.fib_codec.specs.Grammar.{fig_spelled};
     ghost use Rattle.fib_reader.specs.Raw.{head_in, entries_in};
 
-    /// Its bytes, as they stand in the FIB.
+    /// Its bytes, as they are in the FIB.
     pub fn bytes(&self) -> &'a [u8]
         ensures { result.now ≡ fig_spelled self.now }
     {
@@ -45,12 +46,12 @@ impl<'a> Fig<'a> {
     pub fn head(&self) -> Option<Head>
         ensures { result ≡ head_in self.now }
     {
-        let second = second_of(self.bytes)?;
+        let (second, extension) = second_of(self.bytes)?;
         Some(Head {
             next: next_of(second),
             oe: false,
             long: is_long_of(second),
-            ext: ext_of(second),
+            ext: extension.number(),
         })
     }
 
@@ -59,20 +60,21 @@ impl<'a> Fig<'a> {
         ensures { result ≡ entries_in self.now }
     {
         match second_of(self.bytes) {
-            Some(second) => {
+            Some((second, extension)) => {
                 let (_, body) = self.bytes.split_at(2);
-                Entries::under(second, body)
+                Entries::under(extension, is_long_of(second), body)
             }
             None => Entries::none(),
         }
     }
 }
 
-/// The second byte of a FIG that is looked into; None for another one.
-fn second_of(bytes: &[u8]) -> Option<u8>
-    ensures looked_into { IfSome result (λ second.
+/// The second byte of a FIG that is looked into, and its extension; None for another one.
+fn second_of(bytes: &[u8]) -> Option<(u8, Extension)>
+    ensures looked_into { IfSome result (λ x.
         fig_of_bytes bytes.now
-        ≡ Open second (entries_of (second % 32) (is_long second) (drop 2 bytes.now))) }
+        ≡ Open x.0 (entries_of (x.0 % 32) (is_long x.0) (drop 2 bytes.now))) }
+    ensures extension { IfSome result (λ x. number_of x.1 ≡ x.0 % 32) }
     ensures long_enough { OnSome result (2 ≤ length bytes.now) }
     ensures other { IfNone result (fig_of_bytes bytes.now ≡ Other bytes.now) }
 {
@@ -83,10 +85,8 @@ fn second_of(bytes: &[u8]) -> Option<u8>
     if byte_at(bytes, 0) >= 32 {
         return None;
     }
-    if !is_open_of(second) {
-        return None;
-    }
-    Some(second)
+    let extension = extension_of(second)?;
+    Some((second, extension))
 }
 
 /// The bytes of the FIG that comes first, and what follows it; None at the end and at an end marker.

@@ -105,8 +105,8 @@ fn component_from_entry(primary: bool, entry: &ComponentEntry) -> Option<Compone
     Some(component)
 }
 
-/// The components that their entries say; None where one says none, or one of a P/S flag that a component in
-/// its place doesn't have, or two have one carrier.
+/// The components that their entries say; None where one says none, or one of a P/S flag that a component at
+/// its index doesn't have, or two have one carrier.
 fn components_from_entry(entries: &[ComponentEntry]) -> Option<BoundedVec<Component, 12>>
     requires within { AllByRecursion IsComponentEntry entries.now }
     requires few { length entries.now ≤ 12 }
@@ -117,8 +117,8 @@ fn components_from_entry(entries: &[ComponentEntry]) -> Option<BoundedVec<Compon
         → component_entries cs ≡ entries.now → ⊥) }
 {
     let mut components = BoundedVec::new();
-    for place in 0..entries.len() {
-        let Some(component) = component_from_entry(place == 0, &entries[place]) else {
+    for index in 0..entries.len() {
+        let Some(component) = component_from_entry(index == 0, &entries[index]) else {
             return None;
         };
         if component.carrier().is_named_by(components.as_slice()) {

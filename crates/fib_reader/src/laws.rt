@@ -10,8 +10,8 @@ pub fn reading()
     ensures one_fault { OneFault }
 {}
 
-/// The law of places: the FIGs of a FIB, spelled one after another, are the front of its thirty data bytes. So each
-/// FIG that is lent stands where those before it end.
+/// The law of offsets: the FIGs of a FIB, spelled one after another, are the front of its thirty data bytes. So each
+/// FIG that is lent is at the offset where those before it end.
 pub fn places()
     ensures { FigsAreTheFront }
 {}

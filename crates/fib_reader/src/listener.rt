@@ -1,4 +1,4 @@
-//! A receiver that hears FIBs.
+//! A listener: a receiver that hears FIBs.
 
 use crate::basis::are_of_next;
 use crate::checking::check;
@@ -13,7 +13,7 @@ use std::marker::Model;
 #[derive(Drop)]
 pub struct Listener {
     receiver: Receiver,
-    /// FIBs that would tell it nothing new. Most FIBs of a multiplex come over and over.
+    /// FIBs that would say nothing new to it. Most FIBs of a multiplex are repeated many times.
     memory: Memory,
 }
 

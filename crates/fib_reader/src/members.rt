@@ -50,7 +50,7 @@ impl FromEntry for Sub {
     fn from_entry(entry: &Entry) -> Option<Sub> {
         match entry {
             Entry::Sub(entry) => sub_from_entry(entry),
-            _ => None,
+            Entry::Ensemble(_) | Entry::Short(_) | Entry::Service(_) | Entry::Packet(_) => None,
         }
     }
 
@@ -68,7 +68,7 @@ impl FromEntry for Service {
     fn from_entry(entry: &Entry) -> Option<Service> {
         match entry {
             Entry::Service(entry) => service_from_entry(entry),
-            _ => None,
+            Entry::Ensemble(_) | Entry::Sub(_) | Entry::Short(_) | Entry::Packet(_) => None,
         }
     }
 
@@ -86,14 +86,14 @@ impl FromEntry for Packet {
     fn from_entry(entry: &Entry) -> Option<Packet> {
         match entry {
             Entry::Packet(entry) => packet_from_entry(entry),
-            _ => None,
+            Entry::Ensemble(_) | Entry::Sub(_) | Entry::Short(_) | Entry::Service(_) => None,
         }
     }
 
     fn laws() {}
 }
 
-/// The set of members that entries say, which stand in ascending order; None where one of them says none.
+/// The set of members that entries say, which are in ascending order; None where one of them says none.
 pub(crate) fn members<T: FromEntry>(kept: &[OwnedEntry]) -> Option<SortedTable<T, 64>>
     requires ascending { IsAscending identifier_of kept.now }
     requires few { length kept.now ≤ 64 }

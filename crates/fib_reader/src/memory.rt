@@ -1,4 +1,4 @@
-//! FIBs that told nothing new, by which they are known when they come again.
+//! FIBs that said nothing new, kept so that they are recognised when they are repeated.
 
 ghost use Rattle.std.specs.Prelude.{◌<◌};
 
@@ -7,13 +7,13 @@ use crate::basis::Basis;
 /// How many FIBs are remembered at most.
 const FIBS: usize = 1024;
 
-/// FIBs that told a receiver nothing new, each in the place that its CRC names, where a later one replaces it.
+/// FIBs that said nothing new to a receiver, each in the slot that its CRC selects, where a later one replaces it.
 #[derive(Drop)]
 pub(crate) struct Memory {
     fibs: [[u8; 32]; FIBS],
-    /// Which of them rest on the current picture alone.
+    /// Those whose basis is the current picture alone.
     of_current: [bool; FIBS],
-    /// Which of them rest on both pictures.
+    /// Those whose basis is both pictures.
     of_pictures: [bool; FIBS],
 }
 
@@ -46,17 +46,17 @@ impl Memory {
     pub(crate) fn has(&self, bytes: &[u8; 32]) -> bool
         ensures { result ≡ true → (basis : Basis) × Remembers self.now bytes.now basis }
     {
-        let place = place_of(bytes);
-        if self.fibs[place] != *bytes {
+        let slot = slot_of(bytes);
+        if self.fibs[slot] != *bytes {
             return false;
         }
-        if self.of_current[place] {
+        if self.of_current[slot] {
             return true;
         }
-        self.of_pictures[place]
+        self.of_pictures[slot]
     }
 
-    /// Remembers a FIB that rests on this, in place of the one that was in its place; not one that rests on all.
+    /// Remembers a FIB of this basis in its slot, over the one that was there; not one whose basis is all.
     pub(crate) fn keep(&mut self, bytes: &[u8; 32], basis: Basis)
         ensures { (other : List ℕ) (of : Basis) → Remembers self.new other of
             → Remembers self.old other of ⊎ ((other ≡ bytes.now) × (of ≡ basis)) }
@@ -64,13 +64,13 @@ impl Memory {
         if basis == Basis::All {
             return;
         }
-        let place = place_of(bytes);
-        self.fibs[place] = *bytes;
-        self.of_current[place] = basis == Basis::Current;
-        self.of_pictures[place] = basis == Basis::Pictures;
+        let slot = slot_of(bytes);
+        self.fibs[slot] = *bytes;
+        self.of_current[slot] = basis == Basis::Current;
+        self.of_pictures[slot] = basis == Basis::Pictures;
     }
 
-    /// Forgets the FIBs that rest on what was heard of the next configuration.
+    /// Forgets the FIBs whose basis has what was heard of the next configuration.
     pub(crate) fn forget_next(&mut self)
         ensures { (bytes : List ℕ) (basis : Basis) → Remembers self.new bytes basis
             → Remembers self.old bytes basis × (basis ≡ Current) }
@@ -87,8 +87,8 @@ impl Memory {
     }
 }
 
-/// The place of a FIB, below 1,024: the lowest ten bits of its CRC.
-fn place_of(bytes: &[u8; 32]) -> usize
+/// The slot of a FIB, below 1,024: the lowest ten bits of its CRC.
+fn slot_of(bytes: &[u8; 32]) -> usize
     ensures { result < 1024 }
 {
     usize::from(u16::from_be_bytes([bytes[30], bytes[31]]) % 1024)

@@ -3,6 +3,7 @@
 ghost use Rattle.std.specs.Prelude.{◌≡◌, ◌↔◌, IsTrue};
 
 use crate::entries::RawEntry;
+use fib_codec::Extension;
 use mux_config::Keyed;
 use std::marker::Model;
 
@@ -16,23 +17,24 @@ pub struct OwnedEntry {
     identifier: u64,
     bytes: [u8; LONGEST],
     len: u8,
-    ext: u8,
+    extension: Extension,
     long: bool,
 }
 
 impl Model for OwnedEntry {
     ghost use Rattle.std.specs.Prelude.{take, ◌≡◌, ◌≤◌};
+    ghost use Rattle.fib_codec.specs.Extensions.{number_of};
     ghost use Rattle.fib_reader.specs.Raw.{Raw, IsRaw};
     ghost use Rattle.fib_reader.specs.Listening.{identifier_of};
 
     ghost Value = { Raw };
 
-    ghost view = { λ k. record { ext = k.ext; long = k.long; bytes = take k.len k.bytes } };
+    ghost view = { λ k.
+        record { ext = number_of k.extension; long = k.long; bytes = take k.len k.bytes } };
 
-    ghost invariant = { λ k. (k.len ≤ 35)
-        × IsRaw (record { ext = k.ext; long = k.long; bytes = take k.len k.bytes })
-        × (k.identifier
-        ≡ identifier_of (record { ext = k.ext; long = k.long; bytes = take k.len k.bytes })) };
+    ghost invariant = { λ k. let raw : Raw =
+        record { ext = number_of k.extension; long = k.long; bytes = take k.len k.bytes } in
+        (k.len ≤ 35) × IsRaw raw × (k.identifier ≡ identifier_of raw) };
 }
 
 impl OwnedEntry {
@@ -47,7 +49,7 @@ impl OwnedEntry {
             identifier: entry.identifier(),
             bytes,
             len: given.len() as u8,
-            ext: entry.ext(),
+            extension: entry.extension(),
             long: entry.long(),
         }
     }
@@ -58,7 +60,7 @@ impl OwnedEntry {
     {
         let given = entry.bytes();
         if usize::from(self.len) != given.len()
-            || self.ext != entry.ext()
+            || self.extension != entry.extension()
             || self.long != entry.long()
         {
             return false;
@@ -70,18 +72,22 @@ impl OwnedEntry {
     pub fn lent(&self) -> RawEntry<'_>
         ensures { result ≡ self.now }
     {
-        RawEntry::of(self.ext, self.long, &self.bytes[..usize::from(self.len)])
+        RawEntry::of(
+            self.extension,
+            self.long,
+            &self.bytes[..usize::from(self.len)],
+        )
     }
 }
 
 impl Default for OwnedEntry {
-    /// A sub-channel in the short form, all zeros. It fills the unused places of a table.
+    /// A sub-channel in the short form, all zeros. It fills the unused slots of a table.
     fn default() -> OwnedEntry {
         OwnedEntry {
             identifier: 0,
             bytes: [0; LONGEST],
             len: 3,
-            ext: 1,
+            extension: Extension::SubChannels,
             long: false,
         }
     }
@@ -101,7 +107,7 @@ impl Keyed for OwnedEntry {
             identifier: self.identifier,
             bytes: self.bytes,
             len: self.len,
-            ext: self.ext,
+            extension: self.extension,
             long: self.long,
         }
     }

@@ -6,10 +6,11 @@ use crate::entries::RawEntry;
 use crate::entry_table::EntryTable;
 use crate::members::members;
 use crate::owned_entry::OwnedEntry;
+use fib_codec::Extension;
 use mux_config::{Config, Packet, Service, Sub};
 use std::marker::Model;
 
-/// What a receiver has heard of one configuration: entries of FIG 0/1 to 0/3, told from one another by
+/// What a receiver has heard of one configuration: entries of FIG 0/1 to 0/3, distinguished by
 /// their identifiers. Contracts see it as three lists of entries as they were sent, each in ascending order.
 #[derive(Drop)]
 pub struct Picture {
@@ -67,10 +68,11 @@ impl Picture {
         ensures unchanged { result ≡ false → self.new ≡ self.old }
     {
         let identifier = entry.identifier();
-        match entry.ext() {
-            1 => self.subs.keep(identifier, entry),
-            2 => self.services.keep(identifier, entry),
-            _ => self.packets.keep(identifier, entry),
+        match entry.extension() {
+            Extension::Ensemble => unreachable!(),
+            Extension::SubChannels => self.subs.keep(identifier, entry),
+            Extension::Services => self.services.keep(identifier, entry),
+            Extension::Packets => self.packets.keep(identifier, entry),
         }
     }
 
@@ -80,10 +82,11 @@ impl Picture {
         requires { entry.now.ext ≢ 0 }
         ensures { result ≡ true → pictured entry.now self.now ≡ Some self.now }
     {
-        match entry.ext() {
-            1 => self.subs.has(entry),
-            2 => self.services.has(entry),
-            _ => self.packets.has(entry),
+        match entry.extension() {
+            Extension::Ensemble => unreachable!(),
+            Extension::SubChannels => self.subs.has(entry),
+            Extension::Services => self.services.has(entry),
+            Extension::Packets => self.packets.has(entry),
         }
     }
 
@@ -96,10 +99,11 @@ impl Picture {
             → (q : Pictured) × (pictured entry.now p ≡ Some q) × HasGrownBy all self.now q
             × (others ≤ all)) }
     {
-        match entry.ext() {
-            1 => Some(others),
-            2 => self.services.new_members(others, entry),
-            _ => self.packets.new_members(others, entry),
+        match entry.extension() {
+            Extension::Ensemble => unreachable!(),
+            Extension::SubChannels => Some(others),
+            Extension::Services => self.services.new_members(others, entry),
+            Extension::Packets => self.packets.new_members(others, entry),
         }
     }
 

@@ -105,7 +105,7 @@ impl Receiver {
         ensures heard { result ≡ true → hear_entry next entry.now self.old ≡ Some self.new }
         ensures full { result ≡ false → hear_entry next entry.now self.old ≡ None }
     {
-        if entry.ext() == 0 {
+        if entry.is_ensemble() {
             self.hear_ensemble(&entry.ensemble());
             return true;
         }
@@ -168,7 +168,7 @@ impl Receiver {
     fn knows_entry(&self, next: bool, entry: &RawEntry<'_>) -> bool
         ensures { result ≡ true → hear_entry next entry.now self.now ≡ Some self.now }
     {
-        if entry.ext() == 0 {
+        if entry.is_ensemble() {
             return self.knows_ensemble(&entry.ensemble());
         }
         if !self.is_tuned() {
@@ -194,8 +194,8 @@ impl Receiver {
         true
     }
 
-    /// What its knowledge of all that FIGs say rests on, where it knows it, so that nothing changes where they are heard;
-    /// None where it may not know it.
+    /// What its knowledge of all that FIGs say rests on, where it knows it, so that nothing changes where they are
+    /// heard; None where it may not know it.
     pub(crate) fn knows(&self, mut figs: Figs<'_>) -> Option<Basis>
         ensures { IfSome result (λ basis. IsKnownBy basis self.now (hear_figs figs.entry)) }
     {
@@ -217,7 +217,7 @@ impl Receiver {
         ensures { IfSome result (λ all.
             LeavesRoom self.now others all (hear_entry next entry.now)) }
     {
-        if entry.ext() == 0 {
+        if entry.is_ensemble() {
             return if self.knows_ensemble(&entry.ensemble()) {
                 Some(others)
             } else {

@@ -2,5 +2,5 @@ use Rattle.std.proofs.Common.{◌≡◌, ◌-◌}
 use Rattle.fib_codec.specs.Register.{after}
 use Rattle.fib_codec.proofs.crc.byte_step_by_bits.Given as goal
 
-abbrev pub invariant-loop-place : goal.invariant-loop-place
-invariant-loop-place l = after (8 - l.place) l.byte l.register ≡ after 8 l.byte l.fn.register
+abbrev pub invariant-loop-index : goal.invariant-loop-index
+invariant-loop-index l = after (8 - l.index) l.byte l.register ≡ after 8 l.byte l.fn.register

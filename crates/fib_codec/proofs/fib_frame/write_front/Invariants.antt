@@ -1,9 +1,9 @@
 use Rattle.std.proofs.Common.{◌≡◌, length, take, drop}
 use Rattle.fib_codec.proofs.fib_frame.write_front.Given as goal
 
-abbrev pub invariant-loop-place : goal.invariant-loop-place
-invariant-loop-place g l = record {
+abbrev pub invariant-loop-index : goal.invariant-loop-index
+invariant-loop-index g l = record {
   whole : length l.fib ≡ length l.initial.fib;
-  front : take l.place l.fib ≡ take l.place l.fig;
-  behind : drop l.place l.fib ≡ drop l.place l.initial.fib;
+  front : take l.index l.fib ≡ take l.index l.fig;
+  behind : drop l.index l.fib ≡ drop l.index l.initial.fib;
 }

@@ -1,4 +1,5 @@
 use Rattle.std.proofs.Common.{◌<◌, length, arith}
+use Rattle.fib_codec.specs.Extensions.{number_of}
 use Rattle.fib_reader.proofs.FaultSteps.{next_entry, missing_bytes, no_entries, some_left, none_left}
 use Rattle.fib_reader.proofs.Lengths.{some_bytes}
 use Rattle.fib_reader.proofs.checking.entries_fault_of.Goals as goal
@@ -19,7 +20,7 @@ loop-rest-preserved c =
 pub loop-rest-smaller : goal.loop-rest-smaller
 loop-rest-smaller c =
     let some : 0 < length c.loop-rest.rest.now = some_left _ _ c.is_empty.ensures c.loop-rest-test.true in
-    omega (arith, some_bytes c.args.ext c.args.long c.loop-rest.rest.now)
+    omega (arith, some_bytes (number_of c.args.extension) c.args.long c.loop-rest.rest.now)
 
 pub returns : goal.returns
 returns c = no_entries _ _ _ _ _ c.loop-rest.invariant.same (none_left _ _ c.is_empty.ensures c.loop-rest-test.false)

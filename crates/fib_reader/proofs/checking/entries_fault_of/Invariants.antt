@@ -1,12 +1,14 @@
 use Rattle.std.proofs.Common.{◌≡◌, ◌+◌, length}
+use Rattle.fib_codec.specs.Extensions.{number_of}
 use Rattle.fib_reader.proofs.FaultSteps.{LeadsTo}
 use Rattle.fib_reader.specs.FirstFault.{entries_fault}
 use Rattle.fib_reader.proofs.checking.entries_fault_of.Given as goal
 
 abbrev pub invariant-loop-rest : goal.invariant-loop-rest
 invariant-loop-rest l = record {
-  place : l.at + length l.rest ≡ l.place + length l.bytes;
-  same : LeadsTo l.ext l.long l.at l.rest (entries_fault (length l.bytes) l.ext l.long l.place l.bytes);
+  place : l.at + length l.rest ≡ l.offset + length l.bytes;
+  same : LeadsTo (number_of l.extension) l.long l.at l.rest
+      (entries_fault (length l.bytes) (number_of l.extension) l.long l.offset l.bytes);
 }
 
 abbrev pub decreases-loop-rest : goal.decreases-loop-rest

@@ -1,5 +1,6 @@
 use Rattle.std.proofs.Common.{◌≡◌, ◌<◌, length, take, drop, min, ◌∙◌, ap}
 use Rattle.std.proofs.lemmas.List.{take_min, drop_min}
+use Rattle.fib_codec.specs.Extensions.{number_of}
 use Rattle.fib_codec.specs.Grammar.{entry_len}
 use Rattle.fib_reader.proofs.EntryLists.{first_of_entries, no_entries_of}
 use Rattle.fib_reader.proofs.FaultSteps.{some_left, none_left}
@@ -11,10 +12,10 @@ returns-then-is_empty c = no_entries_of _ _ _ (none_left _ _ c.is_empty.ensures 
 pub returns : goal.returns
 returns c =
     let some : 0 < length c.args.bytes.now = some_left _ _ c.is_empty.ensures c.if-is_empty.false in
-    let len : c.min-len.result ≡ min (entry_len c.args.ext c.args.long c.args.bytes.now) (length c.args.bytes.now) =
+    let len : c.min-len.result ≡ min (entry_len (number_of c.args.extension) c.args.long c.args.bytes.now) (length c.args.bytes.now) =
     c.min-len.ensures ∙ ap (λ n. min n (length c.args.bytes.now)) c.entry_len_of.ensures in
-    let front : c.split_at.result.0.now ≡ take (entry_len c.args.ext c.args.long c.args.bytes.now) c.args.bytes.now =
-    c.split_at.ensures.front ∙ ap (λ n. take n c.args.bytes.now) len ∙ take_min (entry_len c.args.ext c.args.long c.args.bytes.now) c.args.bytes.now in
-    let back : c.split_at.result.1.now ≡ drop (entry_len c.args.ext c.args.long c.args.bytes.now) c.args.bytes.now =
-    c.split_at.ensures.back ∙ ap (λ n. drop n c.args.bytes.now) len ∙ drop_min (entry_len c.args.ext c.args.long c.args.bytes.now) c.args.bytes.now in
-    rw (front, back) (first_of_entries c.args.ext c.args.long c.args.bytes.now some)
+    let front : c.split_at.result.0.now ≡ take (entry_len (number_of c.args.extension) c.args.long c.args.bytes.now) c.args.bytes.now =
+    c.split_at.ensures.front ∙ ap (λ n. take n c.args.bytes.now) len ∙ take_min (entry_len (number_of c.args.extension) c.args.long c.args.bytes.now) c.args.bytes.now in
+    let back : c.split_at.result.1.now ≡ drop (entry_len (number_of c.args.extension) c.args.long c.args.bytes.now) c.args.bytes.now =
+    c.split_at.ensures.back ∙ ap (λ n. drop n c.args.bytes.now) len ∙ drop_min (entry_len (number_of c.args.extension) c.args.long c.args.bytes.now) c.args.bytes.now in
+    rw (front, back) (first_of_entries (number_of c.args.extension) c.args.long c.args.bytes.now some)

@@ -1,4 +1,5 @@
-use Rattle.std.proofs.Common.{◌≡◌, ◌<◌, ◌∙◌, sym, subst, true, false, arith}
+use Rattle.std.proofs.Common.{◌≡◌, ◌<◌, ◌∙◌, sym, subst, ap, true, false}
+use Rattle.fib_codec.specs.Extensions.{number_of}
 use Rattle.fib_reader.specs.Listening.{identifier_of, has_room}
 use Rattle.fib_reader.specs.Picture.{IsSubOf}
 use Rattle.fib_reader.proofs.Keeping.{each_after, room_for_subs}
@@ -6,7 +7,7 @@ use Rattle.fib_reader.proofs.picture.Picture.take_in.Goals as goal
 
 pub invariant_of-self : goal.invariant_of-self
 invariant_of-self c =
-    let is_sub : c.args.entry.now.ext ≡ 1 = sym c.ext.ensures.value ∙ c.in-1.is in
+    let is_sub : c.args.entry.now.ext ≡ 1 = sym c.extension.ensures.value ∙ ap number_of c.in-SubChannels.is in
     let low : identifier_of c.args.entry.now < 64 =
     subst (λ n. n < 64) c.identifier-identifier.ensures.value (c.identifier-identifier.ensures.sub is_sub) in
     record {
@@ -15,28 +16,28 @@ invariant_of-self c =
       packets = c.self.invariant.packets;
     }
 
-pub invariant_of-self-in-2 : goal.invariant_of-self-in-2
-invariant_of-self-in-2 c =
+pub invariant_of-self-in-Services : goal.invariant_of-self-in-Services
+invariant_of-self-in-Services c =
     record {
       subs = c.self.invariant.subs;
-      services = each_after (λ raw. raw.ext ≡ 2) c.args.entry.now _ _ c.keep-in-2.result (sym c.ext.ensures.value ∙ c.in-2.is)
-          c.self.invariant.services c.keep-in-2.ensures.kept c.keep-in-2.ensures.unchanged;
+      services = each_after (λ raw. raw.ext ≡ 2) c.args.entry.now _ _ c.keep-in-Services.result (sym c.extension.ensures.value ∙ ap number_of c.in-Services.is)
+          c.self.invariant.services c.keep-in-Services.ensures.kept c.keep-in-Services.ensures.unchanged;
       packets = c.self.invariant.packets;
     }
 
-pub invariant_of-self-in_default : goal.invariant_of-self-in_default
-invariant_of-self-in_default c =
-    let is_packet : c.args.entry.now.ext ≡ 3 = omega arith in
+pub invariant_of-self-in-Packets : goal.invariant_of-self-in-Packets
+invariant_of-self-in-Packets c =
+    let is_packet : c.args.entry.now.ext ≡ 3 = sym c.extension.ensures.value ∙ ap number_of c.in-Packets.is in
     record {
       subs = c.self.invariant.subs;
       services = c.self.invariant.services;
-      packets = each_after (λ raw. raw.ext ≡ 3) c.args.entry.now _ _ c.keep-in_default.result is_packet
-          c.self.invariant.packets c.keep-in_default.ensures.kept c.keep-in_default.ensures.unchanged;
+      packets = each_after (λ raw. raw.ext ≡ 3) c.args.entry.now _ _ c.keep-in-Packets.result is_packet
+          c.self.invariant.packets c.keep-in-Packets.ensures.kept c.keep-in-Packets.ensures.unchanged;
     }
 
-pub returns-in-1-clause-full : goal.returns-in-1-clause-full
-returns-in-1-clause-full c = λ no.
-    let is_sub : c.args.entry.now.ext ≡ 1 = sym c.ext.ensures.value ∙ c.in-1.is in
+pub returns-in-SubChannels-clause-full : goal.returns-in-SubChannels-clause-full
+returns-in-SubChannels-clause-full c = λ no.
+    let is_sub : c.args.entry.now.ext ≡ 1 = sym c.extension.ensures.value ∙ ap number_of c.in-SubChannels.is in
     let low : identifier_of c.args.entry.now < 64 =
     subst (λ n. n < 64) c.identifier-identifier.ensures.value (c.identifier-identifier.ensures.sub is_sub) in
     let room : has_room c.args.entry.now c.self.inside.subs ≡ true =

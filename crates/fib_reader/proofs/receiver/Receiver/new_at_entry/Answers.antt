@@ -1,4 +1,5 @@
-use Rattle.std.proofs.Common.{◌≢◌, ◌∙◌, ap, true, false, sym, subst, Bool, ℕ, IfSome, arith}
+use Rattle.std.proofs.Common.{◌≢◌, ◌∙◌, ap, true, false, sym, subst, Bool, ℕ, IfSome}
+use Rattle.std.proofs.lemmas.Bool.{false≢true, eq-eqb}
 use Rattle.fib_reader.specs.Listening.{Listening, hear_entry}
 use Rattle.fib_reader.specs.Forecast.{LeavesRoom}
 use Rattle.fib_reader.proofs.Forecast.{leaves_if_next, leaves_if_current}
@@ -6,7 +7,8 @@ use Rattle.fib_reader.proofs.receiver.Receiver.new_at_entry.Goals as goal
 
 pub returns-then-next : goal.returns-then-next
 returns-then-next c =
-    let other : c.args.entry.now.ext ≢ 0 = λ e. omega arith in
+    let other : c.args.entry.now.ext ≢ 0 =
+    λ e. false≢true (sym (sym c.is_ensemble.ensures.value ∙ c.if-is_ensemble.false) ∙ eq-eqb c.args.entry.now.ext 0 e) in
     subst (λ (b : Bool). IfSome c.new_members.result (λ (all : ℕ). LeavesRoom c.args.self.now c.args.others all (hear_entry b c.args.entry.now)))
     (sym c.if-next.true)
     (subst (λ (l : Listening). IfSome c.new_members.result (λ (all : ℕ). LeavesRoom l c.args.others all (hear_entry true c.args.entry.now)))
@@ -15,7 +17,8 @@ returns-then-next c =
 
 pub returns-else-next : goal.returns-else-next
 returns-else-next c =
-    let other : c.args.entry.now.ext ≢ 0 = λ e. omega arith in
+    let other : c.args.entry.now.ext ≢ 0 =
+    λ e. false≢true (sym (sym c.is_ensemble.ensures.value ∙ c.if-is_ensemble.false) ∙ eq-eqb c.args.entry.now.ext 0 e) in
     subst (λ (b : Bool). IfSome c.new_members-else-next.result (λ (all : ℕ). LeavesRoom c.args.self.now c.args.others all (hear_entry b c.args.entry.now)))
     (sym c.if-next.false)
     (subst (λ (l : Listening). IfSome c.new_members-else-next.result (λ (all : ℕ). LeavesRoom l c.args.others all (hear_entry false c.args.entry.now)))
