@@ -8,13 +8,16 @@ ghost use Rattle.fib_carousel.specs.Packing.{figs_size};
 ghost use Rattle.fib_carousel.specs.Pages.{fib_entries, first_fib, rounds};
 ghost use Rattle.fib_carousel.specs.Bytes.{figs_of, ensemble_figs, page_bytes};
 ghost use Rattle.fib_carousel.specs.Filling.{Begins, Grows, TakesEntry};
-ghost use Rattle.fib_carousel.specs.Walk.{StandsBefore, HasPassed};
+ghost use Rattle.fib_carousel.specs.Walk.{StandsBefore, HasPassed, GoesPast};
 ghost use Rattle.fib_carousel.specs.Carried.{AreSendable, IsPageable};
 
 use crate::entry_list::EntryList;
 use crate::pack_state::{EntryShape, PackState, Position, room, same_head};
 use fib_codec::{Fib, FibFrame, Head, Mode, entry_len};
 use mux_config::{Ensemble, Entry};
+
+/// The bytes of the shortest entry, that of a service without components.
+const SHORTEST: u8 = 3;
 
 /// The last FIG of a FIB, to which entries of its head are appended.
 #[derive(Clone, Copy, Debug, PartialEq, Eq)]
@@ -70,6 +73,7 @@ fn put_figs<L: EntryList>(
     fib: &mut Fib,
 )
     requires count { len ≡ length (L.entries list.now) }
+    requires sendable { AreSendable (L.entries list.now) }
     requires stands { StandsBefore mode (L.entries list.now) number position.old }
     requires room { let here = fib_entries mode number (L.entries list.now) in
         length fib.old + figs_size None here ≤ 30 }
@@ -77,6 +81,7 @@ fn put_figs<L: EntryList>(
         fib.new ≡ fib.old ++ figs_bytes (figs_of here) }
     ensures next { StandsBefore mode (L.entries list.now) (number + 1) position.new }
     ensures passed { HasPassed mode (L.entries list.now) number position.new }
+    ensures past { GoesPast mode (L.entries list.now) number position.new }
 {
     let known = room(mode, number);
     let mut last = None;
@@ -98,6 +103,9 @@ fn put_figs<L: EntryList>(
                 used: state.used + more,
                 ..state
             };
+            if left - more < SHORTEST {
+                return;
+            }
         } else {
             position.index += 1;
             position.state = state;
@@ -162,6 +170,7 @@ fn write_fib<L: EntryList>(
     let mut fib = Fib::new();
     put_ensemble(&mut fib, ensemble);
     put_figs(list, len, mode, position, place.number, &mut fib);
+    position.close();
     frame.finish_fib(place.index, &fib);
 }
 
