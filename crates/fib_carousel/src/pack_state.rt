@@ -155,14 +155,14 @@ impl PackState {
     }
 
     /// The state with the next entry placed, as [`PackState::then`] gives it; None where that is behind the FIB of this
-    /// number, in which or before which the state stands.
+    /// number.
     #[inline(never)]
-    fn then_from_before(self, mode: Mode, shape: EntryShape, number: usize) -> Option<PackState>
+    fn then_from_before(&self, mode: Mode, shape: EntryShape, number: usize) -> Option<PackState>
         requires small { shape.size ≤ 28 }
-        requires used { self.used ≤ 30 }
-        requires fib { self.fib < 2 ^ 32 }
-        ensures within { IfSome result (λ q. IsThenWithin mode shape number self q) }
-        ensures behind { result ≡ None → GoesBehind mode shape number self }
+        requires used { self.now.used ≤ 30 }
+        requires fib { self.now.fib < 2 ^ 32 }
+        ensures within { IfSome result (λ q. IsThenWithin mode shape number self.now q) }
+        ensures behind { result ≡ None → GoesBehind mode shape number self.now }
     {
         let state = self.then(mode, shape);
         if state.fib > number {
@@ -176,7 +176,7 @@ impl PackState {
     /// the FIB before it was closed.
     #[inline(always)]
     pub(crate) fn then_within(
-        self,
+        &self,
         mode: Mode,
         shape: EntryShape,
         number: usize,
@@ -184,11 +184,11 @@ impl PackState {
     ) -> Option<PackState>
         requires some { 1 ≤ shape.size }
         requires small { shape.size ≤ 28 }
-        requires used { self.used ≤ 30 }
-        requires fib { self.fib < 2 ^ 32 }
+        requires used { self.now.used ≤ 30 }
+        requires fib { self.now.fib < 2 ^ 32 }
         requires known { known ≡ room mode number }
-        ensures within { IfSome result (λ q. IsThenWithin mode shape number self q) }
-        ensures behind { result ≡ None → GoesBehind mode shape number self }
+        ensures within { IfSome result (λ q. IsThenWithin mode shape number self.now q) }
+        ensures behind { result ≡ None → GoesBehind mode shape number self.now }
     {
         if self.fib == number {
             return state_within(number, self.used + self.cost(shape), shape.head, known);
