@@ -10,7 +10,10 @@ ghost use Rattle.fib_carousel.specs.Runs.{shape_cost, step, steps, closed, IsThe
 use fib_codec::{Head, Mode};
 
 /// The bytes that FIGs may take in a FIB at most.
-const MOST_USED: u8 = 30;
+pub(crate) const MOST_USED: u8 = 30;
+
+/// The bytes that the FIGs of entries may take in the first FIB of a page.
+pub(crate) const FIRST_ROOM: u8 = 23;
 
 /// What the packing needs to know of an entry: the head of the FIG that it goes into, and its bytes.
 #[derive(Clone, Copy, Debug, PartialEq, Eq)]
@@ -44,7 +47,7 @@ pub(crate) struct Position {
 
 /// The bytes that the FIGs of entries may take in a FIB of the row. The first FIB of a page leaves 7 bytes
 /// to FIG 0/0, also where none is sent.
-pub(crate) fn room(mode: Mode, fib: usize) -> u8
+fn room(mode: Mode, fib: usize) -> u8
     ensures value { result ≡ room mode fib }
     ensures bound { result ≤ 30 }
 {
@@ -54,7 +57,7 @@ pub(crate) fn room(mode: Mode, fib: usize) -> u8
         Mode::III => fib % 4 == 0,
         Mode::IV => fib % 3 == 0,
     };
-    if is_first { 23 } else { 30 }
+    if is_first { FIRST_ROOM } else { MOST_USED }
 }
 
 /// Whether two entries can share a FIG.
