@@ -10,6 +10,7 @@ pub mod Sent
 pub mod Filling
 pub mod Rows
 pub mod Turning
+pub mod Closing
 pub mod Headed
 pub mod Hearing
 pub mod Sides

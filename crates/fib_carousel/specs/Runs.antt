@@ -38,6 +38,10 @@ abbrev pub steps : Mode → EntryShape → ℕ → PackState → PackState
 steps mode s zero p = p
 steps mode s (suc n) p = steps mode s n (step mode s p)
 
+-- a state whose FIB is closed: every entry goes behind it
+abbrev pub closed : PackState → PackState
+closed p = record { fib = p.fib; used = 30; head = None }
+
 -- the entries of a list placed
 abbrev pub all_placed : Mode → List Marked → PackState → PackState
 all_placed mode [] p = p

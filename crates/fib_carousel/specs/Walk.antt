@@ -1,6 +1,6 @@
 -- How far the list of entries was walked, and where a cursor stands. No public contract needs the record Position
 -- to be believed: a cursor stands at page 0 when it is new, and each page moves it to the page after it.
-use Rattle.std.specs.Prelude.{◌≡◌, ℕ, ◌*◌, ◌<◌, ◌≤◌, ◌⊎◌, List, drop, length, slice_get, Some}
+use Rattle.std.specs.Prelude.{◌≡◌, ℕ, ◌*◌, ◌<◌, ◌≤◌, ◌⊎◌, List, ◌∷◌, drop, length, slice_get, Some}
 use Rattle.mux_entries.specs.Facts.{Marked}
 use Rattle.fib_codec.specs.Spelling.{head_of}
 use Rattle.fib_codec.specs.declared.modes.Mode.{Mode}
@@ -8,7 +8,7 @@ use Rattle.fib_carousel.specs.declared.pack_state.EntryShape.{EntryShape}
 use Rattle.fib_carousel.specs.declared.pack_state.Position.{Position}
 use Rattle.fib_carousel.specs.declared.page_cursor.Cursor.{Cursor}
 use Rattle.fib_carousel.specs.Packing.{size_of, entries_in_fib, last_number}
-use Rattle.fib_carousel.specs.Greedy.{numbers_from, packing}
+use Rattle.fib_carousel.specs.Greedy.{placed, numbers_from, packing}
 use Rattle.fib_carousel.specs.Pages.{fib_entries, first_fib, rounds}
 
 -- the entry at an index has this head and this size
@@ -31,6 +31,11 @@ pub record StandsBefore (mode : Mode) (ms : List Marked) (n : ℕ) (p : Position
 pub record HasPassed (mode : Mode) (ms : List Marked) (n : ℕ) (p : Position) : Type 0 where
   pub fib : p.state.fib ≤ n
   pub left : (p.index ≡ length ms) ⊎ (n < last_number 0 (packing mode ms))
+
+-- the next entry that is left goes past FIB n
+abbrev pub GoesPast : Mode → List Marked → ℕ → Position → Type 0
+GoesPast mode ms n p =
+    (m : Marked) (rest : List Marked) → drop p.index ms ≡ m ∷ rest → n < (placed mode m p.state).fib
 
 -- the page at which a cursor stands
 abbrev pub cursor_page : Cursor → ℕ

@@ -1,13 +1,19 @@
 //! How far the packing has come.
 
-ghost use Rattle.std.specs.Prelude.{◌≡◌, ◌↔◌, ◌+◌, ◌*◌, ◌<◌, ◌≤◌, ◌^◌, IsTrue, IfSome, None};
+ghost use Rattle.std.specs.Prelude.{◌≡◌, ◌↔◌, ◌+◌, ◌*◌, ◌<◌, ◌≤◌, ◌^◌, IsTrue, IfSome, Some, None};
 ghost use Rattle.mux_entries.specs.Facts.{Marked};
 ghost use Rattle.fib_codec.specs.Spelling.{head_of};
 ghost use Rattle.fib_carousel.specs.Packing.{cost, room, same_head, size_of};
 ghost use Rattle.fib_carousel.specs.Greedy.{start, placed};
-ghost use Rattle.fib_carousel.specs.Runs.{shape_cost, step, steps, IsThenWithin, GoesBehind};
+ghost use Rattle.fib_carousel.specs.Runs.{shape_cost, step, steps, closed, IsThenWithin, GoesBehind};
 
 use fib_codec::{Head, Mode};
+
+/// The bytes that FIGs may take in a FIB at most.
+pub(crate) const MOST_USED: u8 = 30;
+
+/// The bytes that the FIGs of entries may take in the first FIB of a page.
+pub(crate) const FIRST_ROOM: u8 = 23;
 
 /// What the packing needs to know of an entry: the head of the FIG that it goes into, and its bytes.
 #[derive(Clone, Copy, Debug, PartialEq, Eq)]
@@ -41,7 +47,7 @@ pub(crate) struct Position {
 
 /// The bytes that the FIGs of entries may take in a FIB of the row. The first FIB of a page leaves 7 bytes
 /// to FIG 0/0, also where none is sent.
-pub(crate) fn room(mode: Mode, fib: usize) -> u8
+fn room(mode: Mode, fib: usize) -> u8
     ensures value { result ≡ room mode fib }
     ensures bound { result ≤ 30 }
 {
@@ -51,7 +57,7 @@ pub(crate) fn room(mode: Mode, fib: usize) -> u8
         Mode::III => fib % 4 == 0,
         Mode::IV => fib % 3 == 0,
     };
-    if is_first { 23 } else { 30 }
+    if is_first { FIRST_ROOM } else { MOST_USED }
 }
 
 /// Whether two entries can share a FIG.
@@ -66,6 +72,25 @@ pub(crate) fn is_same_shape(one: EntryShape, other: EntryShape) -> bool
     ensures { IsTrue result ↔ (one ≡ other) }
 {
     same_head(one.head, other.head) && one.size == other.size
+}
+
+/// The state in the FIB of this number with so many bytes taken, and this head of its last FIG; None where the room of
+/// that FIB, which is known, is too small for them.
+#[inline(always)]
+fn state_within(number: usize, used: u8, head: Head, known: u8) -> Option<PackState>
+    ensures within { IfSome result (λ q. (used ≤ known)
+        × (q ≡ record { fib = number; used = used; head = Some head })) }
+    ensures over { result ≡ None → known < used }
+{
+    if used > known {
+        return None;
+    }
+    let head = Some(head);
+    Some(PackState {
+        fib: number,
+        used,
+        head,
+    })
 }
 
 impl PackState {
@@ -133,37 +158,62 @@ impl PackState {
     }
 
     /// The state with the next entry placed, as [`PackState::then`] gives it; None where that is behind the FIB of this
-    /// number. The room of that FIB is known, so that it is not computed anew for each of its entries.
-    pub(crate) fn then_within(
-        self,
-        mode: Mode,
-        shape: EntryShape,
-        number: usize,
-        known: u8,
-    ) -> Option<PackState>
+    /// number.
+    #[inline(never)]
+    fn then_from_before(&self, mode: Mode, shape: EntryShape, number: usize) -> Option<PackState>
         requires small { shape.size ≤ 28 }
-        requires used { self.used ≤ 30 }
-        requires fib { self.fib < 2 ^ 32 }
-        requires known { known ≡ room mode number }
-        ensures within { IfSome result (λ q. IsThenWithin mode shape number self q) }
-        ensures behind { result ≡ None → GoesBehind mode shape number self }
+        requires used { self.now.used ≤ 30 }
+        requires fib { self.now.fib < 2 ^ 32 }
+        ensures within { IfSome result (λ q. IsThenWithin mode shape number self.now q) }
+        ensures behind { result ≡ None → GoesBehind mode shape number self.now }
     {
-        if self.fib == number {
-            let used = self.used + self.cost(shape);
-            if used > known {
-                return None;
-            }
-            return Some(PackState {
-                fib: number,
-                used,
-                head: Some(shape.head),
-            });
-        }
         let state = self.then(mode, shape);
         if state.fib > number {
             return None;
         }
         Some(state)
+    }
+
+    /// The state with the next entry placed, as [`PackState::then`] gives it; None where that is behind the FIB of this
+    /// number. The room of that FIB is known: it is not computed anew for each of its entries, and no other one is where
+    /// the FIB before it was closed.
+    #[inline(always)]
+    pub(crate) fn then_within(
+        &self,
+        mode: Mode,
+        shape: EntryShape,
+        number: usize,
+        known: u8,
+    ) -> Option<PackState>
+        requires some { 1 ≤ shape.size }
+        requires small { shape.size ≤ 28 }
+        requires used { self.now.used ≤ 30 }
+        requires fib { self.now.fib < 2 ^ 32 }
+        requires known { known ≡ room mode number }
+        ensures within { IfSome result (λ q. IsThenWithin mode shape number self.now q) }
+        ensures behind { result ≡ None → GoesBehind mode shape number self.now }
+    {
+        if self.fib == number {
+            return state_within(number, self.used + self.cost(shape), shape.head, known);
+        }
+        if self.used == MOST_USED {
+            if self.fib + 1 == number {
+                return state_within(number, 2 + shape.size, shape.head, known);
+            }
+        }
+        self.then_from_before(mode, shape, number)
+    }
+
+    /// The state with its FIB closed, so that the next entry begins a FIB behind it: as it does where that FIB has no
+    /// room for it.
+    fn closed(self) -> PackState
+        ensures { result ≡ closed self }
+    {
+        PackState {
+            fib: self.fib,
+            used: MOST_USED,
+            head: None,
+        }
     }
 
     /// The state with this many entries of one shape placed, of which each FIB takes as many as fit. Such an
@@ -209,5 +259,12 @@ impl Position {
             index: 0,
             state: PackState::start(),
         }
+    }
+
+    /// Closes the FIB of the entry before it.
+    pub(crate) fn close(&mut self)
+        ensures { self.new ≡ record { index = self.old.index; state = closed self.old.state } }
+    {
+        self.state = self.state.closed();
     }
 }

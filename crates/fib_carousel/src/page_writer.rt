@@ -4,17 +4,20 @@ ghost use Rattle.std.specs.Prelude.{◌≡◌, [], take, ◌+◌, ◌-◌, ◌*�
 ghost use Rattle.fib_codec.specs.Modes.{fib_count};
 ghost use Rattle.fib_codec.specs.Spelling.{figs_bytes, fib_bytes};
 ghost use Rattle.fib_codec.specs.Ranges.{IsEnsembleInformation};
-ghost use Rattle.fib_carousel.specs.Packing.{figs_size};
+ghost use Rattle.fib_carousel.specs.Packing.{figs_size, room};
 ghost use Rattle.fib_carousel.specs.Pages.{fib_entries, first_fib, rounds};
 ghost use Rattle.fib_carousel.specs.Bytes.{figs_of, ensemble_figs, page_bytes};
 ghost use Rattle.fib_carousel.specs.Filling.{Begins, Grows, TakesEntry};
-ghost use Rattle.fib_carousel.specs.Walk.{StandsBefore, HasPassed};
+ghost use Rattle.fib_carousel.specs.Walk.{StandsBefore, HasPassed, GoesPast};
 ghost use Rattle.fib_carousel.specs.Carried.{AreSendable, IsPageable};
 
 use crate::entry_list::EntryList;
-use crate::pack_state::{EntryShape, PackState, Position, room, same_head};
+use crate::pack_state::{EntryShape, FIRST_ROOM, MOST_USED, PackState, Position, same_head};
 use fib_codec::{Fib, FibFrame, Head, Mode, entry_len};
 use mux_config::{Ensemble, Entry};
+
+/// The bytes of the shortest entry, that of a service without components.
+const SHORTEST: u8 = 3;
 
 /// The last FIG of a FIB, to which entries of its head are appended.
 #[derive(Clone, Copy, Debug, PartialEq, Eq)]
@@ -59,26 +62,41 @@ fn fig_for(fib: &mut Fib, last: Option<OpenFig>, shape: EntryShape) -> OpenFig
     }
 }
 
-/// Appends the FIGs of the entries of FIB `number` of the row of pages, which fit in what is left of the FIB. The
-/// position stands before it, and then behind it. The list has `len` entries.
+/// Where a FIB stands.
+#[derive(Clone, Copy, Debug, PartialEq, Eq)]
+struct FibPlace {
+    /// Its number in the row of pages, from 0.
+    number: usize,
+    /// Its index in the frame of its page, from 0.
+    index: usize,
+    /// The bytes that the FIGs of its entries may take.
+    room: u8,
+}
+
+/// Appends the FIGs of the entries of the FIB at a place, which fit in what is left of it. The position stands before
+/// it, and then behind it. The list has `len` entries.
 fn put_figs<L: EntryList>(
     list: &L,
     len: u16,
     mode: Mode,
     position: &mut Position,
-    number: usize,
+    place: FibPlace,
     fib: &mut Fib,
 )
     requires count { len ≡ length (L.entries list.now) }
-    requires stands { StandsBefore mode (L.entries list.now) number position.old }
-    requires room { let here = fib_entries mode number (L.entries list.now) in
+    requires sendable { AreSendable (L.entries list.now) }
+    requires known { place.room ≡ room mode place.number }
+    requires stands { StandsBefore mode (L.entries list.now) place.number position.old }
+    requires room { let here = fib_entries mode place.number (L.entries list.now) in
         length fib.old + figs_size None here ≤ 30 }
-    ensures bytes { let here = fib_entries mode number (L.entries list.now) in
+    ensures bytes { let here = fib_entries mode place.number (L.entries list.now) in
         fib.new ≡ fib.old ++ figs_bytes (figs_of here) }
-    ensures next { StandsBefore mode (L.entries list.now) (number + 1) position.new }
-    ensures passed { HasPassed mode (L.entries list.now) number position.new }
+    ensures next { StandsBefore mode (L.entries list.now) (place.number + 1) position.new }
+    ensures passed { HasPassed mode (L.entries list.now) place.number position.new }
+    ensures past { GoesPast mode (L.entries list.now) place.number position.new }
 {
-    let known = room(mode, number);
+    let number = place.number;
+    let known = place.room;
     let mut last = None;
     'entries: while position.index < len {
         let shape = list.shape(position.index);
@@ -98,6 +116,9 @@ fn put_figs<L: EntryList>(
                 used: state.used + more,
                 ..state
             };
+            if left - more < SHORTEST {
+                return;
+            }
         } else {
             position.index += 1;
             position.state = state;
@@ -126,15 +147,6 @@ fn put_ensemble(fib: &mut Fib, ensemble: Option<Ensemble>)
     }
 }
 
-/// Where a FIB stands.
-#[derive(Clone, Copy, Debug, PartialEq, Eq)]
-struct FibPlace {
-    /// Its number in the row of pages, from 0.
-    number: usize,
-    /// Its index in the frame of its page, from 0.
-    index: usize,
-}
-
 /// Writes the FIB at a place over that of a frame, with FIG 0/0 first where it is given. The position stands before it,
 /// and then behind it. The list has `len` entries.
 fn write_fib<L: EntryList>(
@@ -148,6 +160,7 @@ fn write_fib<L: EntryList>(
 )
     requires count { len ≡ length (L.entries list.now) }
     requires sendable { AreSendable (L.entries list.now) }
+    requires known { place.room ≡ room mode place.number }
     requires stands { StandsBefore mode (L.entries list.now) place.number position.old }
     requires first { IsSome ensemble → place.number % fib_count mode ≡ 0 }
     requires there { 32 * place.index + 32 ≤ length frame.old }
@@ -161,7 +174,8 @@ fn write_fib<L: EntryList>(
 {
     let mut fib = Fib::new();
     put_ensemble(&mut fib, ensemble);
-    put_figs(list, len, mode, position, place.number, &mut fib);
+    put_figs(list, len, mode, position, place, &mut fib);
+    position.close();
     frame.finish_fib(place.index, &fib);
 }
 
@@ -190,12 +204,14 @@ pub(crate) fn write_page<L: EntryList>(
     let place = FibPlace {
         number: first,
         index: 0,
+        room: FIRST_ROOM,
     };
     write_fib(list, len, mode, position, place, ensemble, frame);
     for slot in 1..mode.fibs() {
         let place = FibPlace {
             number: first + slot,
             index: slot,
+            room: MOST_USED,
         };
         write_fib(list, len, mode, position, place, None, frame);
     }

@@ -1,0 +1,192 @@
+-- A FIB that is closed behind its last entry: the next one goes past it either way.
+use Rattle.std.proofs.Common.{◌≡◌, ℕ, zero, suc, ◌+◌, ◌-◌, ◌<◌, ◌≤◌, ◌⊎◌, Option, Some, None, IfSome, is_some, List, [], ◌∷◌, length, take, drop, get_or, refl, sym, ◌∙◌, ap, subst, inl, inr, arith, if◌then◌else◌, nat_le}
+use Rattle.std.specs.List.{AllByRecursion}
+use Rattle.std.proofs.lemmas.List.{drop_all, length-drop}
+use Rattle.std.proofs.lemmas.Bool.{lt-leb, le-leb}
+use Rattle.mux_types.specs.declared.numbers.Sid.{Sid}
+use Rattle.mux_types.specs.declared.numbers.Sid.TheVariants.{Short, Long}
+use Rattle.mux_entries.specs.Facts.{Marked}
+use Rattle.mux_entries.specs.declared.entry.Entry.{Entry}
+use Rattle.mux_entries.specs.declared.entry.Entry.TheVariants.{Ensemble as EnsembleOf, Sub as SubOf, Short as ShortOf, Service as ServiceOf, Packet as PacketOf}
+use Rattle.fib_codec.specs.declared.head.Head.{Head}
+use Rattle.fib_codec.specs.declared.modes.Mode.{Mode}
+use Rattle.fib_codec.specs.Spelling.{sid_size, ext_of, entry_size}
+use Rattle.fib_carousel.specs.declared.pack_state.EntryShape.{EntryShape}
+use Rattle.fib_carousel.specs.declared.pack_state.PackState.{PackState}
+use Rattle.fib_carousel.specs.declared.pack_state.Position.{Position}
+use Rattle.fib_carousel.specs.Packing.{room, size_of, cost, entries_in_fib, last_number}
+use Rattle.fib_carousel.specs.Greedy.{placed, opened, numbers_from, packing}
+use Rattle.fib_carousel.specs.Pages.{fib_entries}
+use Rattle.fib_carousel.specs.Carried.{IsSendable, AreSendable}
+use Rattle.fib_carousel.specs.Runs.{closed, state_at, IsThenWithin}
+use Rattle.fib_carousel.specs.Walk.{StandsBefore, HasPassed, GoesPast}
+use Rattle.fib_carousel.proofs.Steps.{in_fib_other, in_fib_past}
+use Rattle.fib_carousel.proofs.Least.{placed_cases, room_high, cost_low, numbers_rise}
+use Rattle.fib_carousel.proofs.Pieces.{last_rises}
+use Rattle.fib_carousel.proofs.Walk.{Passed, Walked, rest_in, nothing_behind}
+
+-- ---- an entry behind a FIB whose thirty bytes are taken
+full_leaves : (mode : Mode) (m : Marked) (p : PackState) → p.used ≡ 30 → 1 ≤ size_of m
+    → placed mode m p ≡ (if nat_le (2 + size_of m) (room mode (p.fib + 1)) then opened m (p.fib + 1) else opened m (p.fib + 2))
+full_leaves mode m p full some =
+    let over : room mode p.fib < p.used + cost p.head m = omega (arith, room_high mode p.fib, full, cost_low p.head m, some) in
+    rw (lt-leb (p.used + cost p.head m) (room mode p.fib) over) refl
+
+pub full_opens : (mode : Mode) (m : Marked) (p : PackState) (number : ℕ) → p.used ≡ 30 → 1 ≤ size_of m → p.fib + 1 ≡ number → 2 + size_of m ≤ room mode number
+    → placed mode m p ≡ opened m number
+full_opens mode m p number full some next fits =
+    let here : 2 + size_of m ≤ room mode (p.fib + 1) = subst (λ k. 2 + size_of m ≤ room mode k) (sym next) fits in
+    full_leaves mode m p full some
+    ∙ ap (λ b. if b then opened m (p.fib + 1) else opened m (p.fib + 2)) (le-leb (2 + size_of m) (room mode (p.fib + 1)) here)
+    ∙ ap (opened m) next
+
+pub full_passes : (mode : Mode) (m : Marked) (p : PackState) (number : ℕ) → p.used ≡ 30 → 1 ≤ size_of m → p.fib + 1 ≡ number → room mode number < 2 + size_of m
+    → number < (placed mode m p).fib
+full_passes mode m p number full some next tight =
+    let there : room mode (p.fib + 1) < 2 + size_of m = subst (λ k. room mode k < 2 + size_of m) (sym next) tight in
+    let is : placed mode m p ≡ opened m (p.fib + 2) =
+    full_leaves mode m p full some
+    ∙ ap (λ b. if b then opened m (p.fib + 1) else opened m (p.fib + 2)) (lt-leb (2 + size_of m) (room mode (p.fib + 1)) there) in
+    omega (arith, ap (λ (q : PackState). q.fib) is, next)
+
+-- the state there, where the room is known
+pub closed_within : (mode : Mode) (s : EntryShape) (number known : ℕ) (p : PackState) (r : Option PackState) → p.used ≡ 30 → 1 ≤ s.size → p.fib + 1 ≡ number → known ≡ room mode number
+    → IfSome r (λ (q : PackState). (2 + s.size ≤ known) × (q ≡ state_at s number (2 + s.size))) → IfSome r (λ (q : PackState). IsThenWithin mode s number p q)
+closed_within mode s number known p None full some next is h = tt
+closed_within mode s number known p (Some q) full some next is h =
+    let fib : q.fib ≡ number = ap (λ (r : PackState). r.fib) h.1 in
+    let used : q.used ≡ 2 + s.size = ap (λ (r : PackState). r.used) h.1 in
+    record {
+      is = λ m head size.
+          let some' : 1 ≤ size_of m = omega (arith, some, size) in
+          let fits : 2 + size_of m ≤ room mode number = omega (arith, h.0, is, size) in
+          h.1
+          ∙ ap (λ k. state_at s number (2 + k)) size
+          ∙ ap (λ (g : Head). let t : PackState = record { fib = number; used = 2 + size_of m; head = Some g } in t) head
+          ∙ sym (full_opens mode m p number full some' next fits);
+      used = omega (arith, used, h.0, is, room_high mode number);
+      low = omega (arith, fib);
+      near = omega (arith, fib, next);
+    }
+
+-- ---- what is left goes past a FIB
+head_is : (m e : Marked) (xs ys rest : List Marked) → xs ≡ e ∷ ys → xs ≡ m ∷ rest → e ≡ m
+head_is m e xs ys rest h k = ap (λ zs. get_or zs 0 m) (sym h ∙ k)
+
+-- the entry there does
+pub past_entry : (mode : Mode) (ms : List Marked) (n : ℕ) (c : Position) (q : PackState) → Passed mode ms c.index c.state q → n < q.fib → GoesPast mode ms n c
+past_entry mode ms n c q s over m rest h =
+    let same : s.entry ≡ m = head_is m s.entry (drop c.index ms) (drop (c.index + 1) ms) rest s.row h in
+    subst (λ (e : Marked). n < (placed mode e c.state).fib) same (subst (λ (r : PackState). n < r.fib) s.next over)
+
+-- none is left
+pub past_end : (mode : Mode) (ms : List Marked) (n : ℕ) (c : Position) → length ms ≤ c.index → GoesPast mode ms n c
+past_end mode ms n c end m rest h =
+    let none : 0 ≡ suc (length rest) = ap length (sym (drop_all c.index ms end) ∙ h) in
+    absurd (omega (arith, none))
+
+-- the room is too small for the shortest entry
+pub shortest : (m : Marked) → IsSendable m → 3 ≤ size_of m
+shortest m s = by m.entry s.organization
+  where
+    sid_low : (sid : Sid) → 2 ≤ sid_size sid
+    sid_low (Short n) = omega arith
+    sid_low (Long n) = omega arith
+
+    org_low : (org : Option ℕ) → 3 ≤ (if is_some org then 7 else 5)
+    org_low None = omega arith
+    org_low (Some n) = omega arith
+
+    by : (e : Entry) → 1 ≤ ext_of e → 3 ≤ entry_size e
+    by (EnsembleOf e) h = absurd (omega (arith, h))
+    by (SubOf s) h = omega arith
+    by (ShortOf s) h = omega arith
+    by (ServiceOf s) h = omega (arith, sid_low s.sid)
+    by (PacketOf p) h = org_low p.ca_org
+
+each_left : (P : Marked → Type 0) (ms : List Marked) (i : ℕ) → AllByRecursion P ms → AllByRecursion P (drop i ms)
+each_left P [] zero h = tt
+each_left P [] (suc i) h = tt
+each_left P (m ∷ ms) zero h = h
+each_left P (m ∷ ms) (suc i) h = each_left P ms i h.1
+
+pub past_full : (mode : Mode) (ms : List Marked) (n : ℕ) (c : Position) → AreSendable ms → c.state.fib ≡ n → room mode n < c.state.used + 3 → GoesPast mode ms n c
+past_full mode ms n c sendable here full m rest h =
+    let left : AreSendable (m ∷ rest) = subst (λ (xs : List Marked). AreSendable xs) h (each_left IsSendable ms c.index sendable) in
+    let long : 3 ≤ size_of m = shortest m left.0 in
+    let tight : room mode c.state.fib < c.state.used + 3 = subst (λ k. room mode k < c.state.used + 3) (sym here) full in
+    elim (placed_cases mode m c.state) [
+      | inl s ↦ absurd (omega (arith, s.fits, tight, long, cost_low c.state.head m))
+      | inr s ↦ omega (arith, ap (λ (q : PackState). q.fib) s.is, s.above, here)
+    ]
+
+-- ---- a closed state places them alike
+placed_closed : (mode : Mode) (m : Marked) (p : PackState) (n : ℕ) → p.fib ≤ n → n < (placed mode m p).fib → placed mode m (closed p) ≡ placed mode m p
+placed_closed mode m p n low past =
+    elim (placed_cases mode m p) [
+      | inl s ↦ absurd (omega (arith, ap (λ (q : PackState). q.fib) s.is, low, past))
+      | inr s ↦
+          let over : room mode p.fib < 30 + (2 + size_of m) = omega (arith, room_high mode p.fib) in
+          rw (lt-leb (30 + (2 + size_of m)) (room mode p.fib) over, lt-leb (p.used + cost p.head m) (room mode p.fib) s.full) refl
+    ]
+
+numbers_closed : (mode : Mode) (p : PackState) (n : ℕ) (es : List Marked) → p.fib ≤ n → ((m : Marked) (rest : List Marked) → es ≡ m ∷ rest → n < (placed mode m p).fib)
+    → numbers_from mode (closed p) es ≡ numbers_from mode p es
+numbers_closed mode p n [] low past = refl
+numbers_closed mode p n (e ∷ es) low past = ap (λ (q : PackState). q.fib ∷ numbers_from mode q es) (placed_closed mode e p n low (past e es refl))
+
+pub closed_stands : (mode : Mode) (ms : List Marked) (n : ℕ) (c d : Position) → d ≡ record { index = c.index; state = closed c.state } → StandsBefore mode ms (n + 1) c → HasPassed mode ms n c → GoesPast mode ms n c
+    → StandsBefore mode ms (n + 1) d
+closed_stands mode ms n c d is s passed past =
+    let same = numbers_closed mode c.state n (drop c.index ms) passed.fib past in
+    let e : Position = record { index = c.index; state = closed c.state } in
+    let stands : StandsBefore mode ms (n + 1) e = record {
+      index = s.index;
+      used = omega arith;
+      fib = s.fib;
+      below = s.below;
+      rest = λ m le. ap (λ ns. entries_in_fib m (drop c.index ms) ns) same ∙ s.rest m le;
+      last = ap (last_number c.state.fib) same ∙ s.last;
+    } in
+    subst (λ (p : Position). StandsBefore mode ms (n + 1) p) (sym is) stands
+
+pub closed_passed : (mode : Mode) (ms : List Marked) (n : ℕ) (c d : Position) → d ≡ record { index = c.index; state = closed c.state } → HasPassed mode ms n c → HasPassed mode ms n d
+closed_passed mode ms n c d is h =
+    let e : Position = record { index = c.index; state = closed c.state } in
+    let passed : HasPassed mode ms n e = record { fib = h.fib; left = h.left } in
+    subst (λ (p : Position). HasPassed mode ms n p) (sym is) passed
+
+-- ---- what is left, where it goes past a FIB
+none_past : (mode : Mode) (n : ℕ) (p : PackState) (es : List Marked) → ((m : Marked) (rest : List Marked) → es ≡ m ∷ rest → n < (placed mode m p).fib) → entries_in_fib n es (numbers_from mode p es) ≡ []
+none_past mode n p [] past = refl
+none_past mode n p (e ∷ es) past =
+    let q : PackState = placed mode e p in
+    let over : n < q.fib = past e es refl in
+    in_fib_other n q.fib e es (numbers_from mode q es) (λ h. omega (arith, h, over))
+    ∙ in_fib_past n q.fib es (numbers_from mode q es) over (numbers_rise mode q es q.fib (omega arith))
+
+some_left : (mode : Mode) (n : ℕ) (p : PackState) (es : List Marked) (top : ℕ) → ((m : Marked) (rest : List Marked) → es ≡ m ∷ rest → n < (placed mode m p).fib) → last_number p.fib (numbers_from mode p es) ≡ top
+    → (es ≡ []) ⊎ (n < top)
+some_left mode n p [] top past last = inl refl
+some_left mode n p (e ∷ es) top past last =
+    let q : PackState = placed mode e p in
+    let over : n < q.fib = past e es refl in
+    let is : last_number q.fib (numbers_from mode q es) ≡ top = last in
+    let above : q.fib ≤ last_number q.fib (numbers_from mode q es) = last_rises q.fib (numbers_from mode q es) (numbers_rise mode q es q.fib (omega arith)) in
+    inr (omega (arith, above, over, is))
+
+pub walked_past : (mode : Mode) (ms : List Marked) (n from : ℕ) (c : Position) → GoesPast mode ms n c → Walked mode ms n from c → take (c.index - from) (drop from ms) ≡ fib_entries mode n ms
+walked_past mode ms n from c past w =
+    nothing_behind (take (c.index - from) (drop from ms)) (rest_in mode n ms c.index c.state) (fib_entries mode n ms) (none_past mode n c.state (drop c.index ms) past) w.here
+
+pub passed_past : (mode : Mode) (ms : List Marked) (n from : ℕ) (c : Position) → GoesPast mode ms n c → Walked mode ms n from c → HasPassed mode ms n c
+passed_past mode ms n from c past w = record {
+  fib = w.low;
+  left =
+      elim (some_left mode n c.state (drop c.index ms) (last_number 0 (packing mode ms)) past w.later.last) [
+        | inl e ↦
+            let none : length (drop c.index ms) ≡ 0 = ap length e in
+            inl (omega (arith, none, length-drop c.index ms, w.later.index))
+        | inr lt ↦ inr lt
+      ];
+}
