@@ -16,3 +16,7 @@ mod CountedOn
 mod Together
 mod Stretches
 mod VectorsOfStretches
+mod CountTables
+mod Recounting
+mod Alike
+mod Turns

@@ -31,7 +31,7 @@ use Rattle.plan_player.proofs.CountedOn.{apart, left_on, count_on, on_more, fram
 
 -- ---- FIG 0/0
 
-noticed_later : (notice n k : ℕ) (left : Option ℕ) → SwapIsAway notice left n → k < n → is_noticed notice (left_later k left) ≡ is_noticed notice left
+pub noticed_later : (notice n k : ℕ) (left : Option ℕ) → SwapIsAway notice left n → k < n → is_noticed notice (left_later k left) ≡ is_noticed notice left
 noticed_later notice n k None away lt = refl
 noticed_later notice n k (Some l) away lt =
     elim (split_le l notice) [
@@ -73,7 +73,7 @@ ensemble_is_by : (plan : Plan) (s : State) (b : Bool)
 ensemble_is_by plan s true = refl
 ensemble_is_by plan s false = refl
 
-ensemble_is : (plan : Plan) (s : State) → ensemble_of plan s ≡ ensemble_at (header_of plan s) s.count
+pub ensemble_is : (plan : Plan) (s : State) → ensemble_of plan s ≡ ensemble_at (header_of plan s) s.count
 ensemble_is plan s = ensemble_is_by plan s (is_noticed plan.notice s.left)
 
 pub headed_later : (plan : Plan) (n k : ℕ) (s : State) → SwapIsAway plan.notice s.left n → k < n
@@ -110,7 +110,7 @@ frame_size plan n k s pages h lt =
 
 -- ---- the bytes
 
-concat_join : (xs ys : List (List ℕ)) → concat (xs ++ ys) ≡ concat xs ++ concat ys
+pub concat_join : (xs ys : List (List ℕ)) → concat (xs ++ ys) ≡ concat xs ++ concat ys
 concat_join [] ys = refl
 concat_join (x ∷ xs) ys = ap (λ (l : List ℕ). x ++ l) (concat_join xs ys) ∙ sym (append_assoc x (concat xs) (concat ys))
 

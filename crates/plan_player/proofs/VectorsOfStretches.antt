@@ -1,12 +1,17 @@
 -- Quiet frames that go to a sink together: each definition where it holds, and where it fails.
-use Rattle.std.proofs.Common.{◌≡◌, ℕ, zero, suc, ◌<◌, false, true, List, [], take, Option, Some, None, refl, arith}
+use Rattle.std.proofs.Common.{◌≡◌, ℕ, zero, suc, ◌<◌, false, true, List, [], length, take, Option, Some, None, refl, ap, ◌∙◌, arith}
+use Rattle.std.specs.List.{concat}
+use Rattle.fib_carousel.specs.Carried.{IsPageable}
 use Rattle.fib_codec.specs.declared.modes.Mode.TheVariants.{I}
 use Rattle.plan_code.specs.declared.hold.Hold.TheVariants.{Waits, Ended}
 use Rattle.plan_code.specs.Machine.{State}
-use Rattle.plan_runs.specs.Frames.{shown, shown_bytes}
+use Rattle.plan_runs.specs.Frames.{shown, ensemble_sent, shown_bytes, sent_entries}
+use Rattle.plan_runs.specs.Announced.{notice_frames}
 use Rattle.plan_player.specs.declared.machine.sending.Header.{Header}
 use Rattle.plan_player.specs.Quiet.{counted_on}
-use Rattle.plan_player.specs.Stretch.{header_of, ensemble_at, headed_at, IsPageReady, IsStretch, IsCut, left_later, hold_later, HasRounds}
+use Rattle.plan_player.specs.Stretch.{header_of, ensemble_at, headed_at, IsPageReady, IsStretch, IsCut, IsAlike, AreAlike, AreRecounted, left_later, hold_later, HasRounds}
+use Rattle.plan_player.proofs.Together.{stretch_page}
+use Rattle.plan_player.proofs.Turns.{bytes_long}
 use Rattle.plan_player.proofs.VectorsOfPhases.{plan, waits, second, fresh, kept, ready_for_the_second}
 
 -- ---- the counts
@@ -98,3 +103,33 @@ five_bytes = record { few = omega arith; part = omega arith; state = refl; out =
 -- there is no frame after it
 no_second_frame : (before after : Option (List ℕ)) → IsCut plan 1 at (counted_on plan 2 at) before after 1 5 → ⊥
 no_second_frame before after h = let e : 1 < 1 = h.few in omega (arith, e)
+
+-- ---- frames that differ in the count alone
+
+pageable : IsPageable (ensemble_sent plan at) (sent_entries plan at)
+pageable = record { entries = (stretch_page plan 1 0 at kept one_frame (omega arith)).kept.sendable; ensemble_within = page_ready.sent.ensemble }
+
+as_itself : IsAlike plan (header_of plan at) at at
+as_itself = record { turn = refl; entries = refl; first = refl; second = refl; on_step = refl; pageable = pageable }
+
+-- another page is in turn
+no_other_page : IsAlike plan (header_of plan at) (record at { turn = 1 }) at → ⊥
+no_other_page h = let e : 1 ≡ 0 = h.turn in omega (arith, e)
+
+one_alike : AreAlike plan (header_of plan at) 1 at at
+one_alike zero lt = as_itself
+one_alike (suc k) lt = absurd (omega (arith, lt))
+
+not_alike : AreAlike plan (header_of plan at) 1 (record at { turn = 1 }) at → ⊥
+not_alike h = no_other_page (h 0 (omega arith))
+
+-- no frame became none
+none_recounted : AreRecounted plan (header_of plan at) 0 0 [] []
+none_recounted s t alike counts old = refl
+
+-- one frame did not
+one_not_gone : AreRecounted plan (header_of plan at) at.count 1 (concat (notice_frames plan 1 at)) [] → ⊥
+one_not_gone h =
+    let gone : [] ≡ concat (notice_frames plan 1 at) = h at at one_alike refl refl in
+    let e : 0 ≡ 96 = ap (λ (l : List ℕ). length l) gone ∙ bytes_long plan 1 1 at kept one_frame (omega arith) in
+    omega (arith, e)

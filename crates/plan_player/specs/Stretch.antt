@@ -6,11 +6,12 @@ use Rattle.mux_config.specs.Change.{change_of, bits_of}
 use Rattle.mux_entries.specs.Entries.{EnsembleInformation}
 use Rattle.fib_codec.specs.Modes.{count_step}
 use Rattle.fib_codec.specs.declared.modes.Mode.{Mode}
+use Rattle.fib_carousel.specs.Carried.{IsPageable}
 use Rattle.plan_code.specs.declared.hold.Hold.{Hold}
 use Rattle.plan_code.specs.declared.hold.Hold.TheVariants.{Waits, WaitsDay, WaitsContact, WaitsSwap, Ended}
 use Rattle.plan_code.specs.declared.plan.Plan.{Plan}
 use Rattle.plan_code.specs.Machine.{State}
-use Rattle.plan_runs.specs.Frames.{is_noticed, low_of_swap, shown_bytes, sent_entries, sent_rounds}
+use Rattle.plan_runs.specs.Frames.{is_noticed, low_of_swap, ensemble_sent, shown_bytes, sent_entries, sent_rounds}
 use Rattle.plan_runs.specs.TypedRuns.{CanBeSent}
 use Rattle.plan_runs.specs.Announced.{notice_frames}
 use Rattle.plan_player.specs.declared.phase_pages.PhasePages.{PhasePages}
@@ -56,6 +57,26 @@ pub record IsCut (plan : Plan) (n : ℕ) (s t : State) (before after : Option (L
   pub part : bytes < length (shown_bytes plan (counted_on plan frames s))
   pub state : t ≡ counted_on plan (suc frames) s
   pub out : Appends before after (concat (notice_frames plan frames s) ++ take bytes (shown_bytes plan (counted_on plan frames s)))
+
+-- ---- frames that differ in the count alone
+
+-- two frames have the same page, and FIG 0/0 with this header, or both none; the second one can be sent
+pub record IsAlike (plan : Plan) (header : Header) (s t : State) : Type 0 where
+  pub turn : s.turn ≡ t.turn
+  pub entries : sent_entries plan s ≡ sent_entries plan t
+  pub first : header_of plan s ≡ header
+  pub second : header_of plan t ≡ header
+  pub on_step : (s.count % count_step plan.mode == 0) ≡ (t.count % count_step plan.mode == 0)
+  pub pageable : IsPageable (ensemble_sent plan t) (sent_entries plan t)
+
+abbrev pub AreAlike : Plan → Header → ℕ → State → State → Type 0
+AreAlike plan header n s t = (k : ℕ) → k < n → IsAlike plan header (counted_on plan k s) (counted_on plan k t)
+
+-- whatever n frames these bytes are, they became those of as many frames from this count on that are alike
+abbrev pub AreRecounted : Plan → Header → ℕ → ℕ → List ℕ → List ℕ → Type 0
+AreRecounted plan header count n old new =
+    (s t : State) → AreAlike plan header n s t → t.count ≡ count
+    → old ≡ concat (notice_frames plan n s) → new ≡ concat (notice_frames plan n t)
 
 -- ---- the counts
 

@@ -1,16 +1,22 @@
 //! Bytes of frames that go to a sink together.
 
-ghost use Rattle.std.specs.Prelude.{◌≡◌, ◌+◌, ◌≤◌, [], ◌++◌, length, take, drop};
+ghost use Rattle.std.specs.Prelude.{◌≡◌, ℕ, List, ◌+◌, ◌*◌, ◌<◌, ◌≤◌, [], ◌++◌, length, take, drop};
+ghost use Rattle.fib_codec.specs.Modes.{fib_count};
+ghost use Rattle.plan_player.specs.Stretch.{AreRecounted};
 
+use crate::machine::Header;
+use crate::recount::recount_frames;
+use plan_code::Plan;
+use plan_code::limits::COUNTS;
 use std::marker::Model;
 
 /// How many bytes a batch has room for.
-const SIZE: usize = 4096;
+const SIZE: usize = 16_384;
 
 /// The most frames of a batch, for which there is room in every mode.
-pub(crate) const MOST_FRAMES: u16 = 32;
+pub(crate) const MOST_FRAMES: u16 = 128;
 
-/// The bytes of up to 32 frames, one after another. It is emptied by its length; no byte is written for it.
+/// The bytes of up to 128 frames, one after another. It is emptied by its length; no byte is written for it.
 #[derive(Drop)]
 pub(crate) struct Batch {
     bytes: [u8; SIZE],
@@ -24,7 +30,7 @@ impl Model for Batch {
 
     ghost view = { λ b. take b.len b.bytes };
 
-    ghost invariant = { λ b. (b.len ≤ 4096) × (length b.bytes ≡ 4096) };
+    ghost invariant = { λ b. (b.len ≤ 16384) × (length b.bytes ≡ 16384) };
 }
 
 /// Writes a piece over the bytes from an offset on.
@@ -34,6 +40,15 @@ fn write_at(bytes: &mut [u8], offset: usize, piece: &[u8])
         ++ (piece.now ++ drop (offset + length piece.now) bytes.old) }
 {
     bytes[offset..offset + piece.len()].copy_from_slice(piece);
+}
+
+/// Copies this many bytes from the front over those from an offset on.
+fn copy_front(bytes: &mut [u8], len: usize, offset: usize)
+    requires { offset + len ≤ length bytes.old }
+    ensures { bytes.new ≡ take offset bytes.old
+        ++ (take len bytes.old ++ drop (offset + len) bytes.old) }
+{
+    bytes.copy_within(..len, offset);
 }
 
 impl Batch {
@@ -56,11 +71,31 @@ impl Batch {
 
     /// Takes these bytes, for which there has to be room.
     pub(crate) fn append(&mut self, bytes: &[u8])
-        requires { length self.old + length bytes.now ≤ 4096 }
+        requires { length self.old + length bytes.now ≤ 16384 }
         ensures { self.new ≡ self.old ++ bytes.now }
     {
         write_at(&mut self.bytes, self.len, bytes);
         self.len += bytes.len();
+    }
+
+    /// Takes as many frames as given, from one of this count on, for which there has to be room: those that are alike
+    /// to the first ones that it has.
+    pub(crate) fn repeat(&mut self, plan: &Plan, header: Header, count: u16, frames: u16)
+        requires count { count < COUNTS }
+        requires change { header.change < 4 }
+        requires few { frames ≤ 128 }
+        requires there { frames * (32 * fib_count plan.now.mode) ≤ length self.old }
+        requires room { length self.old + frames * (32 * fib_count plan.now.mode) ≤ 16384 }
+        ensures { (text : List ℕ) × (self.new ≡ self.old ++ text)
+            × AreRecounted plan.now header count frames
+            (take (frames * (32 * fib_count plan.now.mode)) self.old) text }
+    {
+        let offset = self.len;
+        let len = usize::from(frames) * (32 * plan.mode.fibs());
+        copy_front(&mut self.bytes, len, offset);
+        let copy = &mut self.bytes[offset..offset + len];
+        recount_frames(plan, header, count, frames, copy);
+        self.len += len;
     }
 
     /// Lets all bytes go.

@@ -8,6 +8,7 @@
 #![tactic(auto)]
 
 mod batch;
+mod count_tables;
 pub mod delivery;
 pub mod fault;
 mod frame_step;
@@ -16,6 +17,7 @@ pub mod laws;
 mod machine;
 mod phase_pages;
 pub mod player;
+mod recount;
 pub mod sink;
 mod stretch;
 

@@ -15,7 +15,7 @@ ghost use Rattle.plan_runs.specs.declared.event.Event.TheVariants.{Contact};
 ghost use Rattle.plan_player.specs.Positions.{state_of};
 
 pub(crate) use burst::run;
-pub(crate) use counts::{count_after, page_after, pass, pass_many};
+pub(crate) use counts::{count_after, count_later, page_after, pass, pass_many};
 use mux_config::Store;
 pub(crate) use opening::begin;
 use plan_code::{ContactId, Contacts, Hold};

@@ -11,12 +11,12 @@ ghost use Rattle.fib_carousel.specs.Kept.{IsKept};
 ghost use Rattle.plan_runs.specs.Announced.{notice_frames};
 ghost use Rattle.plan_player.specs.Positions.{state_of};
 ghost use Rattle.plan_player.specs.Quiet.{counted_on};
-ghost use Rattle.plan_player.specs.Stretch.{ensemble_at, headed_at, IsStretch, IsCut};
+ghost use Rattle.plan_player.specs.Stretch.{header_of, ensemble_at, headed_at, IsStretch, IsCut};
 
 use crate::batch::Batch;
 use crate::fault::Cut;
 use crate::machine::{
-    Header, Machine, count_after, is_on_step, make_header, page_after, pass_many,
+    Header, Machine, count_after, count_later, is_on_step, make_header, page_after, pass_many,
 };
 use crate::phase_pages::{PhasePages, held};
 use crate::sink::{Sink, put_all};
@@ -36,7 +36,7 @@ fn push(
 )
     requires within { (count % count_step mode == 0) ≡ true
         → IsEnsembleInformation (ensemble_at header count) }
-    requires room { length batch.old + 128 ≤ 4096 }
+    requires room { length batch.old + 128 ≤ 16384 }
     ensures bytes { (ms : List Marked) (k : ℕ) → IsKept mode ms k page.now
         → batch.new ≡ batch.old ++ page_bytes mode (headed_at mode header count) k ms }
     ensures size { length batch.new ≤ length batch.old + 128 }
@@ -49,23 +49,41 @@ fn push(
     }
 }
 
-/// Fills a batch with this many quiet frames, from the next one on.
-#[inline(never)]
-fn fill<S: Store>(
+/// In how many frames the same pages come with and without FIG 0/0 as before: whole turns of this many pages, and whole
+/// steps of the counts.
+fn whole_turns(pages: u8, step: u16) -> u16
+    requires pages { (1 ≤ pages) × (pages ≤ 60) }
+    requires step { (1 ≤ step) × (step ≤ 4) }
+    ensures turns { result % pages ≡ 0 }
+    ensures steps { result % step ≡ 0 }
+    ensures some { 1 ≤ result }
+{
+    let pages = u16::from(pages);
+    if pages % step == 0 {
+        return pages;
+    }
+    if 2 * pages % step == 0 {
+        return 2 * pages;
+    }
+    step * pages
+}
+
+/// Fills a batch with this many quiet frames, from the next one on, one by one.
+fn begin<S: Store>(
     plan: &Plan,
     machine: &Machine<S>,
     pages: &PhasePages,
+    header: Header,
     count: u16,
     batch: &mut Batch,
 )
-    requires one { 1 ≤ count }
-    requires few { count ≤ 32 }
+    requires few { count ≤ 128 }
     requires stretch { IsStretch plan.now count (state_of S.content machine.now) pages.now }
+    requires header { header ≡ header_of plan.now (state_of S.content machine.now) }
     ensures { batch.new ≡
         concat (notice_frames plan.now count (state_of S.content machine.now)) }
 {
     batch.clear();
-    let header = make_header(plan, machine, pages.change);
     let rounds = usize::from(pages.made);
     let mut headed = FibFrame::new(plan.mode);
     let mut turn = machine.turn();
@@ -80,8 +98,64 @@ fn fill<S: Store>(
     }
 }
 
-/// Makes this many quiet frames, and puts them into the sink together; how many is the result. `Err`: it failed in one of them, which has been
-/// made, and later ones have not.
+/// Appends the quiet frames up to this many to a batch that has whole turns of them: those that it has, with other
+/// counts.
+fn repeat<S: Store>(
+    plan: &Plan,
+    machine: &Machine<S>,
+    pages: &PhasePages,
+    header: Header,
+    turns: u16,
+    count: u16,
+    batch: &mut Batch,
+)
+    requires few { count ≤ 128 }
+    requires within { (1 ≤ turns) × (turns ≤ count) }
+    requires pages { turns % pages.now.made ≡ 0 }
+    requires steps { turns % count_step plan.now.mode ≡ 0 }
+    requires stretch { IsStretch plan.now count (state_of S.content machine.now) pages.now }
+    requires header { header ≡ header_of plan.now (state_of S.content machine.now) }
+    requires begun { batch.old ≡
+        concat (notice_frames plan.now turns (state_of S.content machine.now)) }
+    ensures { batch.new ≡
+        concat (notice_frames plan.now count (state_of S.content machine.now)) }
+{
+    let _made = pages.made;
+    let mut done = turns;
+    while done < count {
+        let more = done.min(count - done);
+        batch.repeat(plan, header, count_later(machine.count(), done), more);
+        done += more;
+    }
+}
+
+/// Fills a batch with this many quiet frames, from the next one on.
+#[inline(never)]
+fn fill<S: Store>(
+    plan: &Plan,
+    machine: &Machine<S>,
+    pages: &PhasePages,
+    count: u16,
+    batch: &mut Batch,
+)
+    requires one { 1 ≤ count }
+    requires few { count ≤ 128 }
+    requires stretch { IsStretch plan.now count (state_of S.content machine.now) pages.now }
+    ensures { batch.new ≡
+        concat (notice_frames plan.now count (state_of S.content machine.now)) }
+{
+    let header = make_header(plan, machine, pages.change);
+    let turns = whole_turns(pages.made, plan.mode.step());
+    if count <= turns {
+        begin(plan, machine, pages, header, count, batch);
+        return;
+    }
+    begin(plan, machine, pages, header, turns, batch);
+    repeat(plan, machine, pages, header, turns, count, batch);
+}
+
+/// Makes this many quiet frames, and puts them into the sink together; how many is the result. `Err`: it failed in one
+/// of them, which has been made, and later ones have not.
 pub(crate) fn put_stretch<S: Store, K: Sink>(
     plan: &Plan,
     machine: &mut Machine<S>,
@@ -92,7 +166,7 @@ pub(crate) fn put_stretch<S: Store, K: Sink>(
 ) -> Result<u32, Cut>
     requires working { K.has_failed sink.old ≡ false }
     requires one { 1 ≤ count }
-    requires few { count ≤ 32 }
+    requires few { count ≤ 128 }
     requires stretch { IsStretch plan.now count (state_of S.content machine.old) pages.now }
     ensures all { IfOk result (λ n. n ≡ count) }
     ensures counted { (k : ℕ) × (k ≤ count) × (state_of S.content machine.new ≡

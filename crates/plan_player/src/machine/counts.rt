@@ -46,6 +46,20 @@ pub(crate) fn count_after(count: u16) -> u16
     ((u32::from(count) + 1) % u32::from(COUNTS)) as u16
 }
 
+/// The CIF count this many frames after this one.
+pub(crate) fn count_later(count: u16, frames: u16) -> u16
+    requires count { count < COUNTS }
+    requires frames { frames ≤ COUNTS }
+    ensures { result ≡ (count + frames) % COUNTS }
+{
+    let later = count + frames;
+    if later < COUNTS {
+        later
+    } else {
+        later - COUNTS
+    }
+}
+
 /// The frame of the day after this one: 0 again after 3,599,999.
 fn day_after(day: u32) -> u32
     ensures { result ≡ (day + 1) % FRAMES_A_DAY }

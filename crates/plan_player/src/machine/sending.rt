@@ -1,6 +1,6 @@
 //! What a frame says of its notice, and its FIG 0/0.
 
-ghost use Rattle.std.specs.Prelude.{◌≡◌, ◌≤◌, ◌%◌, ◌==◌, IfSome, true};
+ghost use Rattle.std.specs.Prelude.{◌≡◌, ◌+◌, ◌*◌, ◌/◌, ◌<◌, ◌≤◌, ◌%◌, ◌==◌, IfSome, true};
 ghost use Rattle.std.specs.Option.{option_map, option_copied};
 ghost use Rattle.mux_config.specs.Change.{change_of, bits_of};
 ghost use Rattle.fib_codec.specs.Modes.{count_step};
@@ -98,6 +98,17 @@ impl Header {
         ensures { result ≡ ensemble_at self count }
     {
         Ensemble::new(self.eid, self.change, false, count, self.swap).unwrap()
+    }
+
+    /// The third byte of that FIG 0/0: the change flags, and the high part of the count, 0 to 4999.
+    pub(crate) fn high(self, count: u16) -> u8
+        requires change { self.change < 4 }
+        requires count { count < COUNTS }
+        ensures { result ≡ self.change * 64 + count / 250 }
+    {
+        let _eid = self.eid;
+        let _swap = self.swap;
+        self.change * 64 + (count / 250) as u8
     }
 }
 

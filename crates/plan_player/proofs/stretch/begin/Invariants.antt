@@ -4,7 +4,7 @@ use Rattle.plan_code.specs.Machine.{State}
 use Rattle.plan_runs.specs.Announced.{notice_frames}
 use Rattle.plan_player.specs.Positions.{state_of}
 use Rattle.plan_player.specs.Quiet.{counted_on}
-use Rattle.plan_player.proofs.stretch.fill.Given as goal
+use Rattle.plan_player.proofs.stretch.begin.Given as goal
 
 abbrev pub invariant-loop-done : goal.invariant-loop-done
 invariant-loop-done g l =

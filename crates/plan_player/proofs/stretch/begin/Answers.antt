@@ -9,7 +9,7 @@ use Rattle.plan_player.specs.Positions.{state_of}
 use Rattle.plan_player.specs.Quiet.{counted_on}
 use Rattle.plan_player.specs.Phase.{HasPage}
 use Rattle.plan_player.proofs.Together.{stretch_page, headed_within, page_kept, batch_more, turn_more, count_more}
-use Rattle.plan_player.proofs.stretch.fill.Goals as goal
+use Rattle.plan_player.proofs.stretch.begin.Goals as goal
 
 pub held-page-requires : goal.held-page-requires
 held-page-requires g c =
@@ -25,8 +25,8 @@ held-page-requires g c =
 pub push-requires-clause-within : goal.push-requires-clause-within
 push-requires-clause-within g c =
     let s : State = state_of g.S.Store.content c.args.machine.now in
-    headed_within c.args.plan.now c.args.count c.loop-done.done s c.args.pages.now c.make_header-header.result c.loop-done.number c.requires.stretch c.loop-done-test.true
-    c.make_header-header.ensures c.loop-done.invariant.number
+    headed_within c.args.plan.now c.args.count c.loop-done.done s c.args.pages.now c.args.header c.loop-done.number c.requires.stretch c.loop-done-test.true
+    c.requires.header c.loop-done.invariant.number
 
 pub loop-done-preserved : goal.loop-done-preserved
 loop-done-preserved g c =
@@ -41,7 +41,7 @@ loop-done-preserved g c =
     let before = c.loop-done.invariant in
     let next : suc k ≡ k + 1 = omega arith in
     let kept = page_kept plan n k s pages c.loop-done.turn c.held-page.result.now h lt before.turn c.held-page.ensures in
-    let more = batch_more plan n k s pages c.make_header-header.result c.loop-done.number c.loop-done.batch c.push.new.batch h lt c.make_header-header.ensures before.number before.bytes
+    let more = batch_more plan n k s pages c.args.header c.loop-done.number c.loop-done.batch c.push.new.batch h lt c.requires.header before.number before.bytes
     (c.push.ensures.bytes (sent_entries plan t) t.turn kept) in
     let turn : c.page_after-turn.result ≡ (counted_on plan (suc k) s).turn =
     c.page_after-turn.ensures ∙ ap (λ (r : ℕ). page_after r c.loop-done.turn) c.from-rounds.ensures ∙ ap (λ (x : ℕ). page_after pages.made x) before.turn ∙ sym (turn_more plan n k s pages h lt) in

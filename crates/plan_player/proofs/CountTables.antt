@@ -1,0 +1,38 @@
+-- What the tables of the count's bytes hold.
+use Rattle.std.proofs.Common.{◌≡◌, ℕ, zero, suc, ◌+◌, ◌<◌, Bool, true, ◌==◌, ◌&&◌, List, [], ◌∷◌, length, get_or, refl, sym, ◌∙◌, ap, arith}
+use Rattle.std.proofs.lemmas.Bool.{and_parts, eqb-true}
+use Rattle.fib_codec.specs.Register.{after, later}
+use Rattle.plan_player.specs.declared.count_tables.TheConstants.{LOWS, HIGHS}
+
+-- a table of what each byte and then this many bytes of zeros make of an empty register, from the byte at hand on
+abbrev is_late_table : ℕ → List ℕ → ℕ → Bool
+is_late_table n [] byte = true
+is_late_table n (entry ∷ entries) byte = entry == later n (after 8 byte 0) && is_late_table n entries (suc byte)
+
+-- ---- the tables, computed
+low_table : is_late_table 24 LOWS 0 ≡ true
+unfolding after
+low_table = refl
+
+high_table : is_late_table 25 HIGHS 0 ≡ true
+unfolding after
+high_table = refl
+
+at_late_place : (n : ℕ) (ts : List ℕ) (k i : ℕ) → is_late_table n ts k ≡ true → i < length ts → get_or ts i 0 ≡ later n (after 8 (k + i) 0)
+at_late_place n [] k i h lt = absurd (omega arith)
+at_late_place n (t ∷ ts) k zero h lt =
+    let here : k + 0 ≡ k = omega arith in
+    eqb-true _ _ (and_parts _ _ h).0 ∙ ap (λ b. later n (after 8 b 0)) (sym here)
+at_late_place n (t ∷ ts) k (suc i) h lt =
+    let there : suc k + i ≡ k + suc i = omega arith in
+    at_late_place n ts (suc k) i (and_parts _ _ h).1 (omega arith) ∙ ap (λ b. later n (after 8 b 0)) there
+
+pub in_lows : (k : ℕ) → k < 256 → get_or LOWS k 0 ≡ later 24 (after 8 k 0)
+in_lows k h =
+    let start : 0 + k ≡ k = omega arith in
+    at_late_place 24 LOWS 0 k low_table h ∙ ap (λ b. later 24 (after 8 b 0)) start
+
+pub in_highs : (k : ℕ) → k < 256 → get_or HIGHS k 0 ≡ later 25 (after 8 k 0)
+in_highs k h =
+    let start : 0 + k ≡ k = omega arith in
+    at_late_place 25 HIGHS 0 k high_table h ∙ ap (λ b. later 25 (after 8 b 0)) start

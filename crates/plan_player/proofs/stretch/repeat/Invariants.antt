@@ -1,0 +1,21 @@
+use Rattle.std.proofs.Common.{◌≡◌, ◌-◌, ◌%◌, ◌<◌, ◌≤◌}
+use Rattle.std.specs.List.{concat}
+use Rattle.fib_codec.specs.Modes.{count_step}
+use Rattle.plan_code.specs.Machine.{State}
+use Rattle.plan_runs.specs.Announced.{notice_frames}
+use Rattle.plan_player.specs.Positions.{state_of}
+use Rattle.plan_player.proofs.stretch.repeat.Given as goal
+
+abbrev pub invariant-loop-done : goal.invariant-loop-done
+invariant-loop-done g l =
+    let s : State = state_of g.S.Store.content l.machine in
+    record {
+      some : 1 ≤ l.done;
+      within : l.done ≤ l.count;
+      pages : l.done < l.count → l.done % l.pages.made ≡ 0;
+      steps : l.done < l.count → l.done % count_step l.plan.mode ≡ 0;
+      bytes : l.batch ≡ concat (notice_frames l.plan l.done s);
+    }
+
+abbrev pub decreases-loop-done : goal.decreases-loop-done
+decreases-loop-done g l = l.count - l.done

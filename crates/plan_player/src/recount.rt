@@ -1,0 +1,59 @@
+//! Frames whose FIG 0/0 gets another count.
+
+ghost use Rattle.std.specs.Prelude.{◌≡◌, ℕ, ◌*◌, ◌-◌, ◌%◌, ◌<◌, ◌≤◌, List, ◌∷◌, length};
+ghost use Rattle.fib_codec.specs.Modes.{fib_count};
+ghost use Rattle.fib_codec.specs.Spelling.{checked};
+ghost use Rattle.plan_player.specs.Stretch.{AreRecounted};
+
+use crate::count_tables::{high_turned, low_turned};
+use crate::machine::{Header, count_later};
+use plan_code::Plan;
+use plan_code::limits::COUNTS;
+
+/// Writes another count over that of FIG 0/0, which begins this FIB: its third and its fourth byte, and of the CRC what
+/// these two turn.
+pub(crate) fn recount(fib: &mut [u8], high: u8, low: u8)
+    requires { length fib.old ≡ 32 }
+    ensures bytes { (a b c d x y : ℕ) (rest : List ℕ) → length rest ≡ 24
+        → fib.old ≡ checked (a ∷ b ∷ c ∷ d ∷ x ∷ y ∷ rest)
+        → fib.new ≡ checked (a ∷ b ∷ c ∷ d ∷ high ∷ low ∷ rest) }
+    ensures size { length fib.new ≡ length fib.old }
+{
+    let turned = high_turned(fib[4] ^ high) ^ low_turned(fib[5] ^ low);
+    let word = (u16::from(fib[30]) * 256 + u16::from(fib[31])) ^ turned;
+    fib[4] = high;
+    fib[5] = low;
+    fib[30] = (word / 256) as u8;
+    fib[31] = (word % 256) as u8;
+}
+
+/// How many frames come before the first whose count is a multiple of the step, from one of this count on.
+fn before_step(step: u16, count: u16) -> u16
+    requires { 1 ≤ step }
+    ensures { result ≡ (step - count % step) % step }
+{
+    (step - count % step) % step
+}
+
+/// Makes these frames, one after another, those that are alike but begin with this count: in each frame in which the
+/// mode sends FIG 0/0 its count becomes another.
+pub(crate) fn recount_frames(plan: &Plan, header: Header, count: u16, frames: u16, bytes: &mut [u8])
+    requires count { count < COUNTS }
+    requires change { header.change < 4 }
+    requires few { frames ≤ 128 }
+    requires size { length bytes.old ≡ frames * (32 * fib_count plan.now.mode) }
+    ensures frames { AreRecounted plan.now header count frames bytes.old bytes.new }
+    ensures size { length bytes.new ≡ length bytes.old }
+{
+    let size = 32 * plan.mode.fibs();
+    let step = plan.mode.step();
+    let mut at = before_step(step, count);
+    let mut number = count_later(count, at);
+    while at < frames {
+        let offset = usize::from(at) * size;
+        let fib = &mut bytes[offset..offset + 32];
+        recount(fib, header.high(number), (number % 250) as u8);
+        at += step;
+        number = count_later(number, step);
+    }
+}
