@@ -1,4 +1,4 @@
--- The place of a field that is at fault is one of the bytes that a reading was given.
+-- The offset of a field that is at fault is that of one of the bytes that are read.
 use Rattle.std.proofs.Common.{ℕ, zero, suc, ◌<◌, ◌≤◌, Bool, true, false, cond, ltb, List, [], ◌∷◌, length, take, drop, Ok, Err, arith}
 use Rattle.std.specs.Int.{Width, w16, w32, byte_len, from_be_bytes}
 use Rattle.std.proofs.lemmas.List.{length-drop}

@@ -1,4 +1,4 @@
--- Reading fields from left to right, with the first fault that is met.
+-- Reading fields from left to right, up to the first fault.
 use Rattle.std.specs.Prelude.{◌≡◌, ℕ, zero, suc, ◌-◌, ◌==◌, nat_lt, if◌then◌else◌, Bool, List, [], ◌∷◌, length, take, drop, Result, Ok, Err}
 use Rattle.std.specs.Int.{Width, w16, w32, byte_len, from_be_bytes}
 use Rattle.mux_eep.specs.Sizes.{Profile}
@@ -25,7 +25,7 @@ abbrev pub ◌>>=◌ : {A B : Type 0} → Result A RecordFault → (A → Result
 abbrev pub refuse : Bool → RecordFault → Result (Unit {0}) RecordFault
 refuse test fault = if test then Err fault else Ok tt
 
--- the number, from the first byte of all, of the byte that is next, where `bytes` are left of `total`
+-- the offset of the next byte, from the first byte of all, where `bytes` are left of `total`
 abbrev pub place : (total : ℕ) → (bytes : List ℕ) → ℕ
 place total bytes = total - length bytes
 
@@ -77,7 +77,7 @@ sid_at total bytes = do
   kind ← byte_within total 0 1 bytes
   sid_of_kind kind.0 kind.1
 
--- a component of a TMId, of which `bytes` are left; the TMId itself stands at `at`
+-- a component of a TMId, of which `bytes` are left; the TMId itself is at the offset `at`
 unfoldable pub component_of : (total at tmid : ℕ) → List ℕ → Reads Component
 component_of total at zero bytes = do
   ty ← byte_within total 0 63 bytes
@@ -105,7 +105,7 @@ pub record Unread : Type 0 where
   pub total : ℕ
   pub rest : List ℕ
 
--- a call that reads: it answers what the reading gives, and leaves what the reading leaves
+-- a call that reads: it returns what the reading gives, and leaves what the reading leaves
 abbrev pub Takes : {T : Type 0} → Reads T → Result T RecordFault → Unread → Type 0
 Takes read (Ok x) left = read ≡ Ok (x, left.rest)
 Takes read (Err e) left = read ≡ Err e

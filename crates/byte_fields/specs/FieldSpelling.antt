@@ -29,7 +29,7 @@ abbrev pub sid_field : Sid → List ℕ
 sid_field (Short n) = 0 ∷ to_be_bytes w16 n
 sid_field (Long n) = 1 ∷ to_be_bytes w32 n
 
--- a component: its TMId, and what carries it
+-- a component: its TMId, and its type and carrier
 abbrev pub component_bytes : Component → List ℕ
 component_bytes (Sound ty sub) = 0 ∷ ty ∷ sub ∷ []
 component_bytes (Stream ty sub) = 1 ∷ ty ∷ sub ∷ []

@@ -9,10 +9,9 @@ use mux_eep::{EepSet, Protection};
 use mux_types::{Component, ScId, ScTy, Sid, SubId};
 use std::marker::Model;
 
-/// Reads fields from the front of bytes, one after the other. Each call that reads answers the field, or its
-/// fault: `Short` where its bytes are missing, `Field` with the place of its first byte where it is out of its
-/// range. Places are counted from the first byte that the reader was given. After a fault the reader stands
-/// somewhere within the field.
+/// Reads fields from the front of bytes, one after the other. Each call that reads returns the field, or its fault:
+/// `Short` where its bytes are missing, `Field` with the offset of its first byte where it is out of its range. Offsets
+/// are counted from the first byte that the reader was given. After a fault the reader is somewhere within the field.
 #[derive(Drop)]
 pub struct Reader<'a> {
     total: usize,
@@ -42,7 +41,7 @@ impl<'a> Reader<'a> {
         }
     }
 
-    /// The number of the byte that is next, from 0.
+    /// The offset of the next byte, from 0.
     pub fn place(&self) -> usize
         ensures value { result ≡ place self.now.total self.now.rest }
         ensures within { result + length self.now.rest ≡ self.now.total }
@@ -59,7 +58,7 @@ impl<'a> Reader<'a> {
         self.rest
     }
 
-    /// Passes over bytes, of which this many must be left.
+    /// Skips this many bytes, which must be left.
     pub fn skip(&mut self, count: usize)
         requires { count ≤ length self.old.rest }
         ensures rest { self.new.rest ≡ drop count self.old.rest }

@@ -1,4 +1,4 @@
-//! Writing the fields of a record after the bytes that stand.
+//! Appending the fields of a record to bytes.
 
 ghost use Rattle.std.specs.Prelude.{◌≡◌, ◌++◌, OnOk};
 ghost use Rattle.std.specs.Int.{w32, to_be_bytes};
@@ -54,7 +54,7 @@ pub fn put_sid(out: &mut Vec<u8>, sid: Sid) -> Result<(), AllocError>
     }
 }
 
-/// Writes a component: its TMId, and what carries it.
+/// Writes a component: its TMId, and its type and carrier.
 pub fn put_component(out: &mut Vec<u8>, component: &Component) -> Result<(), AllocError>
     ensures { OnOk result (out.new.items ≡ out.old.items ++ component_bytes component.now) }
 {

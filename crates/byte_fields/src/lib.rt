@@ -1,7 +1,7 @@
 //! The fields of records and files: numbers of one, two and four bytes, flags, protection profiles, SIds and
-//! components, read from the front of bytes and written after bytes that stand.
+//! components, read from the front of bytes and appended to bytes.
 //!
-//! Begin with `Reader`, whose calls answer the field or its fault, a `RecordFault`; the calls that write stand in
+//! Begin with `Reader`, whose calls return the field or its fault, a `RecordFault`; the calls that write are in
 //! `byte_writer`. What is read is defined in `specs/FieldReading.antt`, what is written in `specs/FieldSpelling.antt`.
 #![tactic(auto)]
 

@@ -1,4 +1,4 @@
--- What sets of entries tell: configurations of which the same entries are heard are one.
+-- Sets of entries identify a configuration: configurations with the same set are equal.
 use Rattle.std.proofs.Common.{◌≡◌, Bool, true, false, List, ◌++◌, map, Contains, refl, sym, ap, ◌∙◌, subst, inl, inr}
 use Rattle.std.proofs.lemmas.Bool.{false≢true}
 use Rattle.std.proofs.lemmas.List.Elements.{Contains-append_left, Contains-append_right, Contains-append_cases}

@@ -1,4 +1,5 @@
--- The place of a field that is at fault is one of the bytes that a reading was given, and the bytes before it are short.
+-- The offset of a field that is at fault is that of one of the bytes that are read, and the bytes before it are
+-- short.
 use Rattle.std.proofs.Common.{◌≡◌, ℕ, zero, suc, ◌+◌, ◌<◌, ◌≤◌, ltb, List, [], ◌∷◌, ◌++◌, length, take, Result, Ok, Err, subst, ◌⊎◌, inl, inr, arith}
 use Rattle.std.specs.List.{list_any}
 use Rattle.std.proofs.lemmas.List.{length-take-le}

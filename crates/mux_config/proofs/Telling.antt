@@ -1,4 +1,4 @@
--- Entries tell configurations apart: where the facts are the same, so is what they speak of.
+-- Entries distinguish configurations: where the facts are the same, so are the configurations.
 
 use Rattle.std.proofs.Common.{◌≡◌, ℕ, ◌-◌, Bool, true, false, List, [], ◌∷◌, ◌++◌, map, refl, sym, ap, ◌∙◌, subst, None, arith}
 use Rattle.std.proofs.lemmas.Bool.{false≢true}

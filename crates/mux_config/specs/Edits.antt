@@ -33,7 +33,7 @@ abbrev pub absent_or : {T : Type 0} → Option T → (T → Option EditFault) �
 absent_or None fault = Some IdAbsent
 absent_or (Some x) fault = fault x
 
--- what comes of an edit: its fault, or else the changed configuration
+-- the result of an edit: its fault, or else the changed configuration
 abbrev pub outcome : Option EditFault → Configuration → Result Configuration EditFault
 outcome None c = Ok c
 outcome (Some fault) c = Err fault
@@ -214,8 +214,8 @@ changed (DropPacket scid) c = packet_dropped scid c
 abbrev pub edited : Edit → Configuration → Result Configuration EditFault
 edited e c = outcome (edit_fault e c) (changed e c)
 
--- the answer of a call that edits is that of the edit: at Ok the configuration is the edited one, and at a
--- fault it is as it was
+-- a call that edits returns the result of the edit: at Ok the configuration is the edited one, and at a fault it
+-- is unchanged
 abbrev pub Edits : Configuration → Configuration → Result Configuration EditFault → Result (Unit {0}) EditFault → Type 0
 Edits old new outcome (Ok done) = outcome ≡ Ok new
 Edits old new outcome (Err fault) = (outcome ≡ Err fault) × (new ≡ old)

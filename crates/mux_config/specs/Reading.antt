@@ -1,4 +1,4 @@
--- Reading a configuration record from left to right, with the first fault that is met.
+-- Reading a configuration record from left to right, up to the first fault.
 use Rattle.std.specs.Prelude.{ℕ, zero, suc, ◌+◌, nat_lt, List, [], ◌∷◌, ◌++◌, length, Result, Ok, Err}
 use Rattle.std.specs.List.{list_any}
 use Rattle.std.specs.Int.{w16}
@@ -18,12 +18,13 @@ use Rattle.mux_types.specs.Sameness.{names}
 
 -- ---- sub-channels
 
--- a rate that has no size is at fault where it stands
+-- a rate that has no size is at fault at its own bytes
 abbrev pub size_or_field : ℕ → Result ℕ EepFault → Result ℕ RecordFault
 size_or_field at (Ok size) = Ok size
 size_or_field at (Err e) = Err (Field at)
 
--- a sub-channel whose identifier is `low` or more; its size is judged at its rate, and its end at its start
+-- a sub-channel whose identifier is `low` or more; a missing size is a fault of its rate, and an end past the
+-- multiplex one of its start
 unfoldable pub read_sub : (total low : ℕ) → List ℕ → Reads Sub
 read_sub total low bytes = do
   id ← byte_within total 0 63 bytes
@@ -37,7 +38,7 @@ read_sub total low bytes = do
 
 -- ---- services
 
--- `count` components after those that were read before; a carrier that stands twice is at fault at its component
+-- `count` components after those that were read before; a carrier that occurs twice is at fault at its component
 unfoldable pub components_at : (total : ℕ) → (before : List Component) → (count : ℕ) → List ℕ → Reads (List Component)
 components_at total before zero bytes = Ok (before, bytes)
 components_at total before (suc count) bytes = do
@@ -85,6 +86,6 @@ record_at total bytes = do
   packets ← members_at packet_key (read_packet total) 0 [] packet_count.0 services.1
   Ok (record { subs = subs.0; services = services.0; packets = packets.0 }, packets.1)
 
--- the record at the front of these bytes; places are counted from their first byte
+-- the record at the front of these bytes; offsets are counted from their first byte
 abbrev pub config_at : List ℕ → Reads Configuration
 config_at bytes = record_at (length bytes) bytes

@@ -1,4 +1,4 @@
--- What the fault of bytes that are no record says, in the words of the bytes.
+-- What the fault of bytes that are no record says about the bytes.
 use Rattle.std.specs.Prelude.{◌≡◌, ◌≢◌, ℕ, ◌<◌, ◌⊎◌, List, ◌++◌, length, take, Err}
 use Rattle.byte_fields.specs.declared.record.RecordFault.{RecordFault}
 use Rattle.byte_fields.specs.declared.record.RecordFault.TheVariants.{Short, Field}
@@ -9,7 +9,7 @@ use Rattle.mux_config.specs.Reading.{config_at}
 abbrev pub HasFault : List ℕ → RecordFault → Type 0
 HasFault bytes fault = config_at bytes ≡ Err fault
 
--- no record stands at the front of these bytes
+-- no record is at the front of these bytes
 abbrev pub BeginsWithNone : List ℕ → Type 0
 BeginsWithNone bytes = (c : Configuration) (rest : List ℕ) → IsConfiguration c → bytes ≢ config_bytes c ++ rest
 
@@ -30,8 +30,8 @@ FaultsAreFirst =
     (bytes : List ℕ) (n : ℕ) (fault : RecordFault) → HasFault bytes fault
     → HasFault (take n bytes) Short ⊎ HasFault (take n bytes) fault
 
--- the place of a field that is at fault is the number of one of the bytes, from 0, and the bytes before it are short:
--- none of their fields is at fault
+-- the offset of a field that is at fault is that of one of the bytes, and the bytes before it are short: none of
+-- their fields is at fault
 abbrev pub ShortBeforePlaces : Type 0
 ShortBeforePlaces =
     (bytes : List ℕ) (place : ℕ) → HasFault bytes (Field place) → (place < length bytes) × HasFault (take place bytes) Short

@@ -16,7 +16,7 @@ use Rattle.mux_types.specs.Tables.{has_entry}
 abbrev pub IsUnitOf : Sub → ℕ → Type 0
 IsUnitOf s unit = (s.start ≤ unit) × (unit < s.start + size_of_sub s)
 
--- what a component names as its carrier is there
+-- what a component names as its carrier exists
 abbrev pub IsThere : Configuration → Carrier → Type 0
 IsThere c (BySub id) = (s : Sub) × Contains c.subs s × (s.id ≡ id)
 IsThere c (ByPacket scid) = (p : Packet) × Contains c.packets p × (p.scid ≡ scid)
@@ -94,7 +94,7 @@ other_fault c =
 abbrev pub first_fault : Configuration → Option ConfigFault
 first_fault c = first_of_two (first_overlap c.subs) (other_fault c)
 
--- the answer of a call that tests soundness: the first fault, if there is one
+-- the result of a call that tests soundness: the first fault, if there is one
 abbrev pub sound_unless : Option ConfigFault → Result (Unit {0}) ConfigFault
 sound_unless None = Ok tt
 sound_unless (Some fault) = Err fault

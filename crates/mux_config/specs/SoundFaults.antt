@@ -1,4 +1,4 @@
--- What each fault of an unsound configuration says, in the words of the sets, and which one is told: the first of four
+-- What each fault of an unsound configuration says about its sets, and which one is reported: the first of four
 -- conditions that fails.
 use Rattle.std.specs.Prelude.{◌≡◌, ◌≢◌, ℕ, ◌<◌, ◌≤◌, ◌⊎◌, ◌↔◌, [], Contains, Err}
 use Rattle.mux_types.specs.declared.parts.Sub.{Sub}
@@ -16,7 +16,7 @@ abbrev pub AreApart : Configuration → Type 0
 AreApart c =
     (a b : Sub) (unit : ℕ) → Contains c.subs a → Contains c.subs b → IsUnitOf a unit → IsUnitOf b unit → a.id ≡ b.id
 
--- what each component and each packet component names is there
+-- what each component and each packet component names exists
 pub record AreCarried (c : Configuration) : Type 0 where
   pub components : (s : Service) (m : Component) → Contains c.services s → Contains s.components m → IsThere c (carrier_of m)
   pub packets : (p : Packet) → Contains c.packets p → IsThere c (BySub p.sub)
@@ -54,6 +54,6 @@ IsFault c Orphan = AreApart c × (AreCarried c → ⊥)
 IsFault c AddressUsed = AreApart c × AreCarried c × (AreAddressed c → ⊥)
 IsFault c EmptyService = AreApart c × AreCarried c × AreAddressed c × (AreFilled c → ⊥)
 
--- it is the fault that is told, and no other
+-- it is the fault that is reported, and no other
 abbrev pub FaultsTell : Type 0
 FaultsTell = (c : Configuration) (fault : ConfigFault) → IsConfiguration c → (sound_or_fault c ≡ Err fault) ↔ IsFault c fault

@@ -1,4 +1,4 @@
-//! An edit as a value, carried out.
+//! Applying an edit.
 
 ghost use Rattle.std.specs.Prelude.{◌≡◌, None};
 ghost use Rattle.mux_config.specs.Edits.{Edits, edited, edit_fault, changed};
@@ -8,8 +8,8 @@ use crate::fault::EditFault;
 use crate::store::Store;
 
 impl Edit {
-    /// Carries the edit out. It answers the first of its faults, in the order of the method of [`Store`] that
-    /// does it, and changes nothing then.
+    /// Applies the edit. A refused edit returns the first of its faults, in the order that the method of [`Store`]
+    /// states, and changes nothing.
     pub fn apply<S: Store>(self, store: &mut S) -> Result<(), EditFault>
         ensures { Edits (S.content store.old) (S.content store.new)
             (edited self (S.content store.old)) result }

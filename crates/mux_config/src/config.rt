@@ -27,7 +27,7 @@ impl Model for Config {
 }
 
 impl Config {
-    /// The configuration of nothing.
+    /// The empty configuration.
     pub fn new() -> Config
         ensures value { result ≡ nothing }
         ensures configuration { IsConfiguration result }
@@ -39,7 +39,7 @@ impl Config {
         }
     }
 
-    /// The configuration of these three sets, which must be one.
+    /// The configuration of these three sets, which must form one.
     pub fn of(
         subs: SortedTable<Sub, 64>,
         services: SortedTable<Service, 64>,
@@ -95,7 +95,7 @@ impl Config {
         self.packets.copy_from(&other.packets);
     }
 
-    /// Takes over the services and packet components of another configuration; the sub-channels stay.
+    /// Copies the services and packet components of another configuration; the sub-channels stay.
     pub fn copy_others_from(&mut self, other: &Config)
         ensures value { self.new ≡ record other.now { subs = self.old.subs } }
         ensures configuration { IsConfiguration self.new }

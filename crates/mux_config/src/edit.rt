@@ -47,8 +47,8 @@ impl StartAddress {
     }
 }
 
-/// A sub-channel that is to be added: a [`Sub`] whose start address is at most 1023. Whether it has a size
-/// and room is found by the edit.
+/// A sub-channel that is to be added: a [`Sub`] whose start address is at most 1023. The edit checks whether it has a
+/// size and room.
 #[derive(Clone, Copy, Debug, PartialEq, Eq)]
 pub struct NewSub {
     sub: Sub,
@@ -109,7 +109,7 @@ impl NewSub {
 pub enum Edit {
     /// Adds a sub-channel.
     AddSub(NewSub),
-    /// Takes a sub-channel away.
+    /// Removes a sub-channel.
     DropSub(SubId),
     /// Gives a sub-channel another start address.
     MoveSub { id: SubId, start: StartAddress },
@@ -117,14 +117,14 @@ pub enum Edit {
     RateSub { id: SubId, kbits: u16 },
     /// Adds a service without components.
     AddService(Sid),
-    /// Takes a service away, with its components.
+    /// Removes a service, with its components.
     DropService(Sid),
     /// Adds a component at the end of a service.
     AddComponent { sid: Sid, component: Component },
-    /// Takes the component of this carrier out of a service; the others close up.
+    /// Removes the component of this carrier from a service; the later ones move up.
     DropComponent { sid: Sid, carrier: Carrier },
-    /// Adds a packet component; any address may stand here, and is judged by the edit.
+    /// Adds a packet component; any address is allowed here, and the edit checks it.
     AddPacket(Packet),
-    /// Takes a packet component away.
+    /// Removes a packet component.
     DropPacket(ScId),
 }

@@ -1,13 +1,14 @@
-//! Why an edit of a configuration is refused, whatever holds the configuration: the first of its faults, in the order
-//! in which the edits of [`Store`] name them.
+//! Why an edit of a configuration is refused, over any [`Store`]: the first of its faults, in the order in which the
+//! methods of `Store` state them.
 
-ghost use Rattle.std.specs.Prelude.{◌≡◌, if◌then◌else◌, Some, None, IfSome};
+ghost use Rattle.std.specs.Prelude.{◌≡◌, ◌+◌, ◌≤◌, nat_lt, if◌then◌else◌, Some, None, IfSome};
 ghost use Rattle.mux_types.specs.Configuration.{IsPlaced, sub_key, service_key, packet_key, sid_key};
 ghost use Rattle.mux_types.specs.Tables.{has_entry};
 ghost use Rattle.mux_config.specs.Edits.{sub_at, at_start, placing_fault, component_fault, is_past_end, add_sub_fault, drop_sub_fault, move_sub_fault, rate_sub_fault, add_service_fault, drop_service_fault, add_component_fault, drop_component_fault, add_packet_fault, drop_packet_fault};
 ghost use Rattle.mux_config.specs.declared.fault.EditFault.TheVariants.{PastEnd};
 
 use crate::fault::EditFault;
+use crate::overlap::units;
 use crate::store::Store;
 use mux_eep::{CAPACITY_UNITS, size_of};
 use mux_types::{Carrier, Component, MEMBERS, Packet, ScId, Service, Sid, Sub, SubId};
@@ -37,42 +38,45 @@ fn has_packet<S: Store>(store: &S, scid: ScId) -> bool
     store.packet(scid).is_some()
 }
 
-/// The sub-channel of an identifier, which has a size and stands within the multiplex.
+/// The sub-channel of an identifier, which has a size and lies within the multiplex.
 fn placed_sub<S: Store>(store: &S, id: SubId) -> Option<Sub>
     ensures value { result ≡ sub_at id (S.content store.now) }
     ensures placed { IfSome result (λ s. IsPlaced s) }
 {
-    // (for the prover alone, to whom only a sub-channel in hand says that it is placed: else `store.sub(id)` would do)
+    // Matched for the proof: its goal speaks of the sub-channel found.
     match store.sub(id) {
         Some(found) => Some(found),
         None => None,
     }
 }
 
-/// Why a sub-channel can't stand where it is, if it can't.
+/// Why a sub-channel can't have its start address and rate, if it can't.
 fn placing_fault(sub: &Sub) -> Option<EditFault>
     ensures { result ≡ placing_fault sub.now }
 {
     match size_of(sub.protection, sub.kbits) {
-        Ok(size) => {
-            if u32::from(sub.start) + u32::from(size) > u32::from(CAPACITY_UNITS) {
-                return Some(EditFault::PastEnd);
-            }
-            None
-        }
+        Ok(size) => end_fault(sub.start, u32::from(size)),
         Err(_) => Some(EditFault::BadRate),
     }
 }
 
-/// Why a sub-channel that stands somewhere can't stand at another start address, if it can't.
+/// Why this many capacity units can't begin at a start address, if they can't.
+fn end_fault(start: u16, size: u32) -> Option<EditFault>
+    requires { size ≤ CAPACITY_UNITS }
+    ensures { result ≡ (if nat_lt CAPACITY_UNITS (start + size) then Some PastEnd else None) }
+{
+    if u32::from(start) + size > u32::from(CAPACITY_UNITS) {
+        return Some(EditFault::PastEnd);
+    }
+    None
+}
+
+/// Why a sub-channel of the configuration can't have another start address, if it can't.
 fn start_fault(sub: &Sub, start: u16) -> Option<EditFault>
     requires { IsPlaced sub.now }
     ensures { result ≡ (if is_past_end (at_start start sub.now) then Some PastEnd else None) }
 {
-    match placing_fault(&Sub { start, ..*sub }) {
-        Some(EditFault::PastEnd) => Some(EditFault::PastEnd),
-        _ => None,
-    }
+    end_fault(start, units(sub))
 }
 
 /// Why [`Store::add_sub`] is refused, if it is.

@@ -1,4 +1,4 @@
-//! A configuration in tables holds a configuration: its sets in order, and what an edit without a fault changes.
+//! `Store` for a configuration in tables: its sets in order, and what an edit without a fault changes.
 
 ghost use Rattle.std.specs.Prelude.{◌≡◌, ◌<◌, not, length, filter, IfSome, IfNone, option_copied};
 ghost use Rattle.std.specs.List.{remove};
@@ -49,7 +49,7 @@ fn without_carrier(service: &Service, carrier: &Carrier) -> Service
     rest
 }
 
-/// The place of the component of a carrier.
+/// The index of the component of a carrier.
 fn place_of(components: &[Component], carrier: &Carrier) -> Option<usize>
     requires { AreDifferent components.now }
     ensures in_bounds { IfSome result (λ place. place < length components.now) }

@@ -6,10 +6,10 @@ use thiserror::Error;
 /// Why an edit of a configuration is refused.
 #[derive(Clone, Copy, Debug, PartialEq, Eq, Error)]
 pub enum EditFault {
-    /// What is added has an identifier, or names a carrier, that is there already.
+    /// The identifier or the carrier of what is added is already in use.
     #[error("IdUsed")]
     IdUsed = 1,
-    /// What the edit names is not there.
+    /// What the edit names does not exist.
     #[error("IdAbsent")]
     IdAbsent = 2,
     /// The service has 12 components with a 16-bit SId, or 11 with a 32-bit SId.
@@ -36,8 +36,8 @@ pub enum ConfigFault {
     /// that it shares one with.
     #[error("Overlap {} {}", .0.get(), .1.get())]
     Overlap(SubId, SubId),
-    /// A component in stream mode or a packet component names a sub-channel that is not there, or a
-    /// component in packet mode names a packet component that is not there.
+    /// A component in stream mode or a packet component names a sub-channel that does not exist, or a component in
+    /// packet mode names a packet component that does not exist.
     #[error("Orphan")]
     Orphan,
     /// Two packet components of one sub-channel have one address.

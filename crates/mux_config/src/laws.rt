@@ -1,4 +1,4 @@
-//! What holds of all configurations, whatever holds them.
+//! What holds of all configurations, in any representation.
 
 ghost use Rattle.mux_config.specs.Change.{ChangeTells};
 ghost use Rattle.mux_config.specs.Edits.{EditsKeep, RefusalsChangeNothing};
@@ -8,17 +8,16 @@ ghost use Rattle.mux_config.specs.RecordFaults.{CutsAreShort, FaultsStay, Faults
 
 pub use mux_types::laws::sets;
 
-/// The law of facts: the entries of FIG 0/1 to 0/3 tell configurations apart, so that what is heard of
-/// one names it (EN 300 401 clauses 6.2.1, 6.3.1 and 6.3.2). The function does nothing; its contract is
-/// the law.
+/// The law of facts: the entries of FIG 0/1 to 0/3 distinguish configurations, so that what is received of one
+/// identifies it (EN 300 401 clauses 6.2.1, 6.3.1 and 6.3.2). The function does nothing; its contract is the law.
 pub fn facts()
     ensures { FactsTell }
 {
     mux_eep::laws::sizes();
 }
 
-/// The law of sets of facts: the set of the entries names the configuration, in whatever order and however
-/// often they are heard. The function does nothing; its contract is the law.
+/// The law of sets of facts: the set of the entries identifies the configuration, in whatever order and however often
+/// they are received. The function does nothing; its contract is the law.
 pub fn fact_sets()
     ensures { FactSetsTell }
 {
@@ -51,10 +50,10 @@ pub fn faults()
     ensures { FaultsTell }
 {}
 
-/// The law of records: a record that is cut off is short; any other fault lies in the bytes that were read, so that
-/// it stays whatever follows them and nothing that begins with them is a record; and it is the first one. The place
-/// of a field at fault is that of one of the bytes, and those before it are short. The function does nothing; its
-/// contract is the law.
+/// The law of records: a record that is cut off is short; any other fault lies in the bytes that were read, so that it
+/// stays whatever follows them and nothing that begins with them is a record; and it is the first one. The offset of a
+/// field at fault is that of one of the bytes, and those before it are short. The function does nothing; its contract
+/// is the law.
 pub fn record_faults()
     ensures cuts { CutsAreShort }
     ensures stays { FaultsStay }

@@ -48,7 +48,7 @@ pub(crate) fn overlaps(a: &Sub, b: &Sub) -> bool
 }
 
 /// The size of a sub-channel in capacity units.
-fn units(sub: &Sub) -> u32
+pub(crate) fn units(sub: &Sub) -> u32
     requires { IsPlaced sub.now }
     ensures value { result ≡ size_of_sub sub.now }
     ensures bound { result ≤ CAPACITY_UNITS }

@@ -57,7 +57,7 @@ impl Member for Sub {
     }
 }
 
-/// Reads that many components of one service.
+/// Reads this many components of one service.
 fn components(reader: &mut Reader, count: u8) -> Result<BoundedVec<Component, 12>, RecordFault>
     requires { count ≤ 12 }
     ensures read { Takes (components_at reader.old.total [] count reader.old.rest) result
@@ -114,7 +114,7 @@ impl Member for Packet {
     }
 }
 
-/// Reads that many members of a set, each with an identifier above that of the one before it.
+/// Reads this many members of a set, each with an identifier above that of the one before it.
 fn members<T: Member>(reader: &mut Reader, count: u8) -> Result<SortedTable<T, 64>, RecordFault>
     requires { count ≤ 64 }
     ensures read { let members = members_at T.key (T.member_at reader.old.total) 0 [] count in
@@ -154,14 +154,14 @@ fn record(bytes: &[u8]) -> Result<(Config, usize), RecordFault>
     Ok((config, reader.place()))
 }
 
-/// Reads the configuration record at the front of these bytes: the configuration, and the length of its
-/// record. It takes no memory.
+/// Reads the configuration record at the front of these bytes: the configuration, and the length of its record. It does
+/// not allocate.
 ///
-/// A refusal is the first fault in the order of the bytes: `Short` where a field's bytes are missing; `Field`
-/// with the place of the first byte of a field that is out of its range; `Order` where an identifier is not
-/// above the one before it, as soon as it is read and in range. A bit rate that has no size is at fault where
-/// it stands, and then a sub-channel that ends past the last capacity unit at its start address. A component
-/// whose carrier the service has already is at fault at its first byte.
+/// A refusal is the first fault in the order of the bytes: `Short` where a field's bytes are missing; `Field` with the
+/// offset of the first byte of a field that is out of its range; `Order` where an identifier is not above the one
+/// before it, as soon as it is read and in range. A bit rate that has no size is at fault at its own bytes, and then a
+/// sub-channel that ends past the last capacity unit at its start address. A component whose carrier the service has
+/// already is at fault at its first byte.
 pub fn read_config(bytes: &[u8]) -> Result<(Config, usize), RecordFault>
     ensures configuration { IfOk result (λ found. IsConfiguration found.0) }
     ensures spelled { IfOk result (λ found.

@@ -13,7 +13,7 @@ use mux_eep::EepSet;
 use mux_types::{Component, Packet, Service, Sid, Sub};
 use std::alloc::{AllocError, Global};
 
-/// What has bytes of its own in a record.
+/// A value that is written as bytes of a record.
 trait Spelled {
     ghost use Rattle.std.specs.Prelude.{ℕ, List};
 
@@ -101,7 +101,7 @@ fn put_all<T: Spelled>(out: &mut Vec<u8>, items: &[T]) -> Result<(), AllocError>
     Ok(())
 }
 
-/// Writes the record of a configuration after what stands in `out`.
+/// Appends the record of a configuration to `out`.
 pub fn put_config(out: &mut Vec<u8>, config: &Config) -> Result<(), AllocError>
     ensures spelled { OnOk result (out.new.items ≡ out.old.items ++ config_bytes config.now) }
     ensures configuration { IsConfiguration config.now }

@@ -12,13 +12,13 @@ use crate::overlap::overlaps;
 use crate::store::Store;
 use mux_types::{Carrier, Component, Packet, Sub};
 
-/// Whether a configuration is sound: no two sub-channels share a capacity unit, what each component and each
-/// packet component names is there, no two packet components of a sub-channel have one address, and each
-/// service has a component (EN 300 401 clauses 6.2.1, 6.3.1 and 6.3.2).
+/// Whether a configuration is sound: no two sub-channels share a capacity unit, what each component and each packet
+/// component names exists, no two packet components of a sub-channel have one address, and each service has a component
+/// (EN 300 401 clauses 6.2.1, 6.3.1 and 6.3.2).
 ///
-/// The faults are tested in this order: `Overlap(a, b)` (the least `a` that shares a capacity unit with a
-/// greater sub-channel, and the least such `b`), `Orphan` (what a component or a packet component names is
-/// not there), `AddressUsed` (two packet components of one sub-channel have one address), `EmptyService`.
+/// The faults are tested in this order: `Overlap(a, b)` (the least `a` that shares a capacity unit with a greater
+/// sub-channel, and the least such `b`), `Orphan` (what a component or a packet component names does not exist),
+/// `AddressUsed` (two packet components of one sub-channel have one address), `EmptyService`.
 pub fn soundness<S: Store>(store: &S) -> Result<(), ConfigFault>
     ensures first_fault { result ≡ sound_or_fault (S.content store.now) }
     ensures sound { IsOk result ↔ IsSound (S.content store.now) }
@@ -70,7 +70,7 @@ fn first_overlap<S: Store>(store: &S) -> Option<ConfigFault>
     None
 }
 
-/// The first sub-channel, from a place on, that shares a capacity unit with this one.
+/// The first sub-channel, from an index on, that shares a capacity unit with this one.
 fn overlap_with<S: Store>(store: &S, sub: &Sub, from: usize) -> Option<ConfigFault>
     requires placed { IsPlaced sub.now }
     requires within { let c = S.content store.now in from ≤ length c.subs }
@@ -85,14 +85,14 @@ fn overlap_with<S: Store>(store: &S, sub: &Sub, from: usize) -> Option<ConfigFau
     None
 }
 
-/// Whether a component or a packet component names something that is not there.
+/// Whether a component or a packet component names something that does not exist.
 fn has_orphan<S: Store>(store: &S) -> bool
     ensures { result ≡ has_orphan (S.content store.now) }
 {
     has_orphan_component(store) || has_orphan_packet(store)
 }
 
-/// Whether a component of a service names something that is not there.
+/// Whether a component of a service names something that does not exist.
 fn has_orphan_component<S: Store>(store: &S) -> bool
     ensures { let c = S.content store.now in
         result ≡ list_any (λ s. list_any (λ m. is_missing c (carrier_of m)) s.components)
@@ -106,7 +106,7 @@ fn has_orphan_component<S: Store>(store: &S) -> bool
     false
 }
 
-/// Whether one of these components names something that is not there.
+/// Whether one of these components names something that does not exist.
 fn names_missing<S: Store>(store: &S, components: &[Component]) -> bool
     ensures { result ≡ list_any (λ m.
         is_missing (S.content store.now) (carrier_of m)) components.now }
@@ -119,7 +119,7 @@ fn names_missing<S: Store>(store: &S, components: &[Component]) -> bool
     false
 }
 
-/// Whether a packet component names a sub-channel that is not there.
+/// Whether a packet component names a sub-channel that does not exist.
 fn has_orphan_packet<S: Store>(store: &S) -> bool
     ensures { let c = S.content store.now in
         result ≡ list_any (λ p. is_missing c (BySub p.sub)) c.packets }
@@ -132,7 +132,7 @@ fn has_orphan_packet<S: Store>(store: &S) -> bool
     false
 }
 
-/// Whether a carrier is not there.
+/// Whether a carrier does not exist.
 #[tactic(auto, using(crate::proofs::Sounding::has_found))]
 fn is_missing<S: Store>(store: &S, carrier: Carrier) -> bool
     ensures { result ≡ is_missing (S.content store.now) carrier }
@@ -143,8 +143,8 @@ fn is_missing<S: Store>(store: &S, carrier: Carrier) -> bool
     }
 }
 
-/// Whether two packet components of one sub-channel have one address. They are gone through from the last to the first;
-/// only one whose sub-channel a later one has too is compared with the later ones.
+/// Whether two packet components of one sub-channel have one address. They are compared from the last to the first, and
+/// only where a later one has the same sub-channel.
 fn has_address_twice<S: Store>(store: &S) -> bool
     ensures { let c = S.content store.now in result ≡ has_address_twice c.packets }
 {
@@ -162,7 +162,7 @@ fn has_address_twice<S: Store>(store: &S) -> bool
     false
 }
 
-/// Whether a packet component, from a place on, has the sub-channel and the address of this one.
+/// Whether a packet component, from an index on, has the sub-channel and the address of this one.
 fn has_same_address_from<S: Store>(store: &S, packet: &Packet, from: usize) -> bool
     requires { let c = S.content store.now in from ≤ length c.packets }
     ensures { let c = S.content store.now in

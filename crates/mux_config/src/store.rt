@@ -1,4 +1,4 @@
-//! What holds a configuration, however it holds it.
+//! `Store`: a configuration in any representation.
 
 ghost use Rattle.std.specs.Prelude.{◌≡◌, ◌<◌, ◌↔◌, IsTrue, length, option_copied, slice_get, Some, None};
 ghost use Rattle.mux_types.specs.Configuration.{Configuration, IsConfiguration, nothing};
@@ -13,38 +13,38 @@ use crate::edit_faults::{
 use crate::fault::EditFault;
 use mux_types::{Carrier, Component, Packet, ScId, Service, Sid, Sub, SubId};
 
-/// A holder of one configuration: its three sets, in ascending order, and the ten edits (EN 300 401 clauses
-/// 6.1 to 6.3). All contracts speak of the configuration that it stands for. No call takes memory.
+/// A configuration in any representation: its three sets, in ascending order, and the ten edits (EN 300 401 clauses 6.1
+/// to 6.3). Contracts see the configuration that it represents. No call allocates.
 ///
-/// Each edit answers the first of its faults, in the order in which its documentation names them, and changes
-/// nothing then. Its twin whose name ends in `known` is for a caller who knows that no fault holds.
+/// A refused edit returns the first of its faults, in the order in which its documentation names them, and changes
+/// nothing. The method of the same name with `_known` is for a caller who knows that no fault holds.
 pub trait Store: Drop {
     ghost use Rattle.mux_types.specs.Configuration.{Configuration};
 
-    /// The configuration that it stands for.
+    /// The configuration that it represents.
     ghost content: { Self → Configuration };
 
-    /// The configuration of nothing.
+    /// The empty configuration.
     fn empty() -> Self
         ensures { content result ≡ nothing };
 
-    /// Holds what a configuration in tables does.
+    /// A store with the content of a configuration in tables.
     fn from_config(config: &Config) -> Self
         ensures { content result ≡ config.now };
 
-    /// What it holds, as a configuration in tables.
+    /// Its content, as a configuration in tables.
     fn to_config(&self) -> Config
         ensures { result ≡ content self.now };
 
-    /// Takes over what another holds.
+    /// Becomes a copy of another store.
     fn copy_from(&mut self, other: &Self)
         ensures { content self.new ≡ content other.now };
 
-    /// Takes over what a configuration in tables holds.
+    /// Becomes a copy of a configuration in tables.
     fn copy_from_config(&mut self, config: &Config)
         ensures { content self.new ≡ config.now };
 
-    /// Whether both stand for one configuration.
+    /// Whether both represent the same configuration.
     fn same(&self, other: &Self) -> bool
         ensures { IsTrue result ↔ (content self.now ≡ content other.now) };
 
@@ -53,7 +53,7 @@ pub trait Store: Drop {
         ensures value { let c = content self.now in result ≡ length c.subs }
         ensures configuration { IsConfiguration (content self.now) };
 
-    /// The sub-channel at a place, counted from 0 in ascending order of SubChId. The place must be one.
+    /// The sub-channel at an index, from 0 in ascending order of SubChId. The index must be in range.
     fn sub_at(&self, place: usize) -> Sub
         requires { let c = content self.now in place < length c.subs }
         ensures value { let c = content self.now in slice_get c.subs place ≡ Some result }
@@ -64,8 +64,7 @@ pub trait Store: Drop {
         ensures value { let c = content self.now in result ≡ length c.services }
         ensures configuration { IsConfiguration (content self.now) };
 
-    /// The service at a place, counted from 0 in ascending order of SId, the 16-bit ones first. The place
-    /// must be one.
+    /// The service at an index, from 0 in ascending order of SId, the 16-bit ones first. The index must be in range.
     fn service_at(&self, place: usize) -> &Service
         requires { let c = content self.now in place < length c.services }
         ensures value { let c = content self.now in slice_get c.services place ≡ Some result.now }
@@ -76,7 +75,7 @@ pub trait Store: Drop {
         ensures value { let c = content self.now in result ≡ length c.packets }
         ensures configuration { IsConfiguration (content self.now) };
 
-    /// The packet component at a place, counted from 0 in ascending order of SCId. The place must be one.
+    /// The packet component at an index, from 0 in ascending order of SCId. The index must be in range.
     fn packet_at(&self, place: usize) -> Packet
         requires { let c = content self.now in place < length c.packets }
         ensures value { let c = content self.now in slice_get c.packets place ≡ Some result }
@@ -102,8 +101,8 @@ pub trait Store: Drop {
         ensures value { IsTrue result ↔ IsCrowded (content self.now) }
         ensures configuration { IsConfiguration (content self.now) };
 
-    /// Adds a sub-channel. Faults: `IdUsed` (its identifier is there), `BadRate` (its profile has no size at
-    /// its rate), `PastEnd` (it would end past capacity unit 863).
+    /// Adds a sub-channel. Faults: `IdUsed` (its identifier is in use), `BadRate` (its profile has no size at its
+    /// rate), `PastEnd` (it would end past capacity unit 863).
     final fn add_sub(&mut self, sub: Sub) -> Result<(), EditFault>
         ensures { Edits (content self.old) (content self.new)
             (add_sub sub (content self.old)) result }
@@ -120,7 +119,7 @@ pub trait Store: Drop {
         requires { add_sub_fault sub (content self.old) ≡ None }
         ensures { content self.new ≡ sub_added sub (content self.old) };
 
-    /// Takes a sub-channel away. Fault: `IdAbsent` (it is not there).
+    /// Removes a sub-channel. Fault: `IdAbsent` (it does not exist).
     final fn drop_sub(&mut self, id: SubId) -> Result<(), EditFault>
         ensures { Edits (content self.old) (content self.new)
             (drop_sub id (content self.old)) result }
@@ -137,8 +136,8 @@ pub trait Store: Drop {
         requires { drop_sub_fault id (content self.old) ≡ None }
         ensures { content self.new ≡ sub_dropped id (content self.old) };
 
-    /// Gives a sub-channel another start address. Faults: `IdAbsent` (it is not there), `PastEnd` (it would
-    /// end past capacity unit 863).
+    /// Gives a sub-channel another start address. Faults: `IdAbsent` (it does not exist), `PastEnd` (it would end past
+    /// capacity unit 863).
     final fn move_sub(&mut self, id: SubId, start: u16) -> Result<(), EditFault>
         ensures { Edits (content self.old) (content self.new)
             (move_sub id start (content self.old)) result }
@@ -155,9 +154,8 @@ pub trait Store: Drop {
         requires { move_sub_fault id start (content self.old) ≡ None }
         ensures { content self.new ≡ sub_moved id start (content self.old) };
 
-    /// Gives a sub-channel another bit rate, in kbit/s; its protection profile stays. Faults: `IdAbsent` (it
-    /// is not there), `BadRate` (its profile has no size at that rate), `PastEnd` (it would end past capacity
-    /// unit 863).
+    /// Gives a sub-channel another bit rate, in kbit/s; its protection profile stays. Faults: `IdAbsent` (it does not
+    /// exist), `BadRate` (its profile has no size at that rate), `PastEnd` (it would end past capacity unit 863).
     final fn rate_sub(&mut self, id: SubId, kbits: u16) -> Result<(), EditFault>
         ensures { Edits (content self.old) (content self.new)
             (rate_sub id kbits (content self.old)) result }
@@ -174,8 +172,8 @@ pub trait Store: Drop {
         requires { rate_sub_fault id kbits (content self.old) ≡ None }
         ensures { content self.new ≡ sub_rated id kbits (content self.old) };
 
-    /// Adds a service without components. Faults: `IdUsed` (its identifier is there), `TableFull` (there are
-    /// 64 services).
+    /// Adds a service without components. Faults: `IdUsed` (its identifier is in use), `TableFull` (there are 64
+    /// services).
     final fn add_service(&mut self, sid: Sid) -> Result<(), EditFault>
         ensures { Edits (content self.old) (content self.new)
             (add_service sid (content self.old)) result }
@@ -192,7 +190,7 @@ pub trait Store: Drop {
         requires { add_service_fault sid (content self.old) ≡ None }
         ensures { content self.new ≡ service_added sid (content self.old) };
 
-    /// Takes a service away, with its components. Fault: `IdAbsent` (it is not there).
+    /// Removes a service, with its components. Fault: `IdAbsent` (it does not exist).
     final fn drop_service(&mut self, sid: Sid) -> Result<(), EditFault>
         ensures { Edits (content self.old) (content self.new)
             (drop_service sid (content self.old)) result }
@@ -209,8 +207,8 @@ pub trait Store: Drop {
         requires { drop_service_fault sid (content self.old) ≡ None }
         ensures { content self.new ≡ service_dropped sid (content self.old) };
 
-    /// Adds a component at the end of a service. Faults: `IdAbsent` (the service is not there), `IdUsed` (it
-    /// has a component of that carrier), `TooManyComponents` (it has 12, or 11 with a 32-bit SId).
+    /// Adds a component at the end of a service. Faults: `IdAbsent` (the service does not exist), `IdUsed` (it has a
+    /// component of that carrier), `TooManyComponents` (it has 12, or 11 with a 32-bit SId).
     final fn add_component(&mut self, sid: Sid, component: Component) -> Result<(), EditFault>
         ensures { Edits (content self.old) (content self.new)
             (add_component sid component (content self.old)) result }
@@ -227,8 +225,8 @@ pub trait Store: Drop {
         requires { add_component_fault sid component (content self.old) ≡ None }
         ensures { content self.new ≡ component_added sid component (content self.old) };
 
-    /// Takes the component of a carrier out of a service; the others close up. Fault: `IdAbsent` (the service
-    /// is not there, or has no component of that carrier).
+    /// Removes the component of a carrier from a service; the later ones move up. Fault: `IdAbsent` (the service does
+    /// not exist, or has no component of that carrier).
     final fn drop_component(&mut self, sid: Sid, carrier: Carrier) -> Result<(), EditFault>
         ensures { Edits (content self.old) (content self.new)
             (drop_component sid carrier (content self.old)) result }
@@ -245,8 +243,8 @@ pub trait Store: Drop {
         requires { drop_component_fault sid carrier (content self.old) ≡ None }
         ensures { content self.new ≡ component_dropped sid carrier (content self.old) };
 
-    /// Adds a packet component. Faults: `IdUsed` (its SCId is there), `BadAddress` (its address is 0 or above
-    /// 1023), `TableFull` (there are 64 packet components).
+    /// Adds a packet component. Faults: `IdUsed` (its SCId is in use), `BadAddress` (its address is 0 or above 1023),
+    /// `TableFull` (there are 64 packet components).
     final fn add_packet(&mut self, packet: Packet) -> Result<(), EditFault>
         ensures { Edits (content self.old) (content self.new)
             (add_packet packet (content self.old)) result }
@@ -263,7 +261,7 @@ pub trait Store: Drop {
         requires { add_packet_fault packet (content self.old) ≡ None }
         ensures { content self.new ≡ packet_added packet (content self.old) };
 
-    /// Takes a packet component away. Fault: `IdAbsent` (it is not there).
+    /// Removes a packet component. Fault: `IdAbsent` (it does not exist).
     final fn drop_packet(&mut self, scid: ScId) -> Result<(), EditFault>
         ensures { Edits (content self.old) (content self.new)
             (drop_packet scid (content self.old)) result }

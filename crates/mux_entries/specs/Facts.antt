@@ -13,12 +13,12 @@ use Rattle.mux_entries.specs.declared.entry.ComponentEntry.{ComponentEntry}
 use Rattle.mux_entries.specs.declared.entry.ComponentEntry.TheVariants.{Sound as SoundOf, Stream as StreamOf, Packet as PacketsOf}
 use Rattle.mux_types.specs.Configuration.{Configuration, IsConfiguration, size_of_sub}
 
--- an entry with its C/N flag, which is true where it speaks of the next configuration (clause 5.2.2.1)
+-- an entry with its C/N flag, which is true where it describes the next configuration (clause 5.2.2.1)
 pub record Marked : Type 0 where
   pub next : Bool
   pub entry : Entry
 
--- the option of FIG 0/1 that stands for a set
+-- the option of FIG 0/1 that encodes a set
 abbrev pub option_of : EepSet → ℕ
 option_of A = 0
 option_of B = 1
@@ -70,12 +70,12 @@ service_entries c = map service_entry c.services ++ map packet_entry c.packets
 abbrev pub marked : Bool → Entry → Marked
 marked next e = record { next = next; entry = e }
 
--- the entries of a configuration, each marked alike: FIG 0/1 by SubChId, FIG 0/2 by SId with the short ones
+-- the entries of a configuration, all with one C/N flag: FIG 0/1 by SubChId, FIG 0/2 by SId with the short ones
 -- first, FIG 0/3 by SCId
 abbrev pub facts_of : Configuration → Bool → List Marked
 facts_of c next = map (marked next) (sub_entries c ++ service_entries c)
 
--- facts tell configurations apart
+-- facts distinguish configurations
 abbrev pub FactsTell : Type 0
 FactsTell =
     (c d : Configuration) (next : Bool) → IsConfiguration c → IsConfiguration d
@@ -85,7 +85,7 @@ FactsTell =
 abbrev pub HaveSameMembers : {T : Type 0} → List T → List T → Type 0
 HaveSameMembers {T} xs ys = (x : T) → Contains xs x ↔ Contains ys x
 
--- and so do the sets of facts: what is heard in any order, and any number of times, names the configuration
+-- and so do the sets of facts: entries received in any order, any number of times, identify the configuration
 abbrev pub FactSetsTell : Type 0
 FactSetsTell =
     (c d : Configuration) (next : Bool) → IsConfiguration c → IsConfiguration d

@@ -23,7 +23,7 @@ pub enum Entry {
 }
 
 impl Default for Entry {
-    /// A sub-channel in the short form, with each field 0: what stands in the unused places of a list.
+    /// A sub-channel in the short form with each field 0, which fills the unused slots of a list.
     fn default() -> Self {
         Entry::Short(ShortEntry {
             id: SubId::default(),
@@ -34,9 +34,9 @@ impl Default for Entry {
     }
 }
 
-/// Ensemble information, FIG 0/0 (EN 300 401 clause 6.4): the EId, the change flags 0 to 3 (1 for the
-/// sub-channel organization, 2 for the service organization), the Al flag, the CIF count 0 to 4999, and
-/// the occurrence change, which is there exactly where a flag is set.
+/// Ensemble information, FIG 0/0 (EN 300 401 clause 6.4): the EId, the change flags 0 to 3 (1 for the sub-channel
+/// organization, 2 for the service organization), the Al flag, the CIF count 0 to 4999, and the occurrence change,
+/// which is present exactly where a flag is set.
 #[derive(Clone, Copy, Debug, PartialEq, Eq)]
 pub struct Ensemble {
     eid: u16,
@@ -76,8 +76,8 @@ impl Model for Ensemble {
 impl Ensemble {
     ghost use Rattle.mux_entries.specs.Entries.{EnsembleInformation};
 
-    /// The ensemble information of these fields; None where `change` is above 3, `count` is above 4999,
-    /// or `occurrence` is not there exactly where `change` is not 0.
+    /// The ensemble information of these fields; None where `change` is above 3, `count` is above 4999, or `occurrence`
+    /// is not present exactly where `change` is not 0.
     pub fn new(
         eid: u16,
         change: u8,
@@ -143,8 +143,7 @@ impl Ensemble {
         self.count
     }
 
-    /// The occurrence change: the low part of the CIF count of the swap. It is there exactly where a
-    /// change flag is set.
+    /// The occurrence change: the low part of the CIF count of the swap. Present exactly where a change flag is set.
     pub fn occurrence(&self) -> Option<u8>
         ensures value { result ≡ self.now.occurrence }
         ensures flagged { IsSome result ↔ (0 < self.now.change) }
@@ -212,7 +211,7 @@ pub enum ComponentEntry {
 }
 
 impl Default for ComponentEntry {
-    /// TMId 10 and bits 0: what stands in the unused places of a list.
+    /// TMId 10 and bits 0, which fills the unused slots of a list.
     fn default() -> Self {
         ComponentEntry::Other {
             bits: Bits::default(),
@@ -251,6 +250,6 @@ pub struct PacketEntry {
     pub sub: SubId,
     /// Packet address.
     pub address: Bits<10>,
-    /// CAOrg, which is there exactly where the CAOrg flag is set.
+    /// CAOrg, which is present exactly where the CAOrg flag is set.
     pub ca_org: Option<u16>,
 }

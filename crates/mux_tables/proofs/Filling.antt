@@ -1,4 +1,4 @@
--- Sub-channels are taken in one after another, and out again.
+-- Sub-channels are added one after another, and removed again.
 use Rattle.std.proofs.Common.{◌≡◌, ℕ, zero, suc, ◌+◌, ◌%◌, ◌<◌, ◌==◌, false, ltb, List, [], ◌∷◌, take, Option, Some, None, IfSome, slice_get, refl, sym, ap, ◌∙◌, subst, add-one, arith}
 use Rattle.std.proofs.lemmas.Bool.{le-ltb, ne_eqb}
 use Rattle.mux_types.specs.declared.parts.Sub.{Sub}

@@ -1,4 +1,4 @@
--- The lanes of the unit map: a span is counted in and out, and a lane above 1 is found.
+-- The lanes of the unit map: a span is added and removed, and a lane above 1 is found.
 use Rattle.std.proofs.Common.{◌⊎◌, ◌≡◌, ℕ, zero, suc, ◌+◌, ◌-◌, ◌*◌, ◌%◌, ◌<◌, ◌≤◌, Bool, true, false, cond, ltb, ◌^◌, ◌/◌, inl, inr, subst, add-one, List, [], ◌∷◌, map, length, get_or, set, ◌≢◌, below_more, get_or-set_same, get_or-set_other, refl, sym, ap, ◌∙◌, arith}
 use Rattle.std.specs.List.{range_with_len}
 use Rattle.std.specs.Simd.Lanes.{zip2, top, mask_l}

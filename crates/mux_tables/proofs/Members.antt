@@ -1,4 +1,4 @@
--- A table by keys is a set: what stands at a place is the member of its key, and writing a place edits the set.
+-- A table by keys is a set: the value at an index is the member of that key, and writing it edits the set.
 use Rattle.std.proofs.Common.{◌≡◌, ℕ, zero, suc, ◌+◌, ◌<◌, ◌≤◌, ◌==◌, true, false, not, cond, ltb, Bool, map, List, [], ◌∷◌, length, get_or, set, Option, Some, None, slice_get, refl, sym, ap, ◌∙◌, arith}
 use Rattle.std.specs.List.{find, filter, AllByRecursion}
 use Rattle.std.proofs.lemmas.Bool.{lt-ltb, le-ltb, ne_eqb, eq-eqb, eqb-true}

@@ -1,4 +1,4 @@
--- A finite set as a table in which each member stands at the place of its key.
+-- A finite set as a table in which each member is at the index of its key.
 use Rattle.std.specs.Prelude.{◌≡◌, ℕ, suc, List, [], ◌∷◌, Option, Some, None}
 
 -- the members, in ascending order of their keys
@@ -7,7 +7,7 @@ members [] = []
 members (None ∷ places) = members places
 members (Some x ∷ places) = x ∷ members places
 
--- each stands at the place of its key, the first place being that of key n
+-- each is at the index of its key, the first slot being that of key n
 abbrev pub InPlace : {T : Type 0} → (T → ℕ) → ℕ → List (Option T) → Type 0
 InPlace key n [] = Unit {0}
 InPlace key n (None ∷ places) = InPlace key (suc n) places

@@ -1,4 +1,4 @@
-//! Sub-channels at the places of their identifiers.
+//! Sub-channels, indexed by their identifiers.
 
 ghost use Rattle.std.specs.Prelude.{◌≡◌, ◌<◌, ◌↔◌, [], length, None, Some, IsTrue, replicate, slice_get};
 ghost use Rattle.mux_config.specs.Configuration.{IsAscending, sub_key};
@@ -8,14 +8,14 @@ ghost use Rattle.mux_tables.specs.Members.{members, InPlace};
 use mux_config::{Keyed, SortedTable, Sub, SubId};
 use std::marker::Model;
 
-/// The identifier of a sub-channel that is there.
+/// The identifier of a sub-channel in the table.
 #[derive(Clone, Copy, Debug, PartialEq, Eq)]
 struct ListedId {
     id: SubId,
 }
 
 impl Default for ListedId {
-    /// SubChId 0: what stands in the unused places of a list.
+    /// SubChId 0, which fills the unused slots of a list.
     fn default() -> Self {
         ListedId {
             id: SubId::default(),
@@ -35,8 +35,8 @@ impl Keyed for ListedId {
     }
 }
 
-/// At most 64 sub-channels, each at the place of its SubChId, with their identifiers in ascending order. Contracts
-/// see it as the list of the sub-channels in ascending order of SubChId.
+/// At most 64 sub-channels, each at the index of its SubChId, with their identifiers in ascending order. Contracts see
+/// it as the list of the sub-channels in ascending order of SubChId.
 #[derive(Drop)]
 pub(crate) struct SubTable {
     by_id: [Option<Sub>; 64],
@@ -57,7 +57,7 @@ impl Model for SubTable {
     ghost invariant = { λ t. InPlace sub_key 0 t.by_id × (t.ids ≡ map listed (members t.by_id)) };
 }
 
-/// The places of no sub-channel.
+/// Slots without a sub-channel.
 fn empty_places() -> [Option<Sub>; 64]
     ensures { result ≡ replicate 64 None }
 {
@@ -94,7 +94,7 @@ impl SubTable {
         }
     }
 
-    /// The sub-channel of an identifier; None where it is not there.
+    /// The sub-channel of an identifier; None where there is none.
     pub(crate) fn get(&self, id: SubId) -> Option<Sub>
         ensures value { result ≡ entry_at sub_key id self.now }
         ensures ascending { IsAscending sub_key self.now }
@@ -102,7 +102,7 @@ impl SubTable {
         self.by_id[usize::from(id.get())]
     }
 
-    /// Takes in a sub-channel whose identifier is free.
+    /// Inserts a sub-channel whose identifier is free.
     pub(crate) fn insert(&mut self, sub: Sub)
         requires { entry_at sub_key sub.id self.old ≡ None }
         ensures { self.new ≡ with_entry sub_key sub self.old }
@@ -112,7 +112,7 @@ impl SubTable {
         self.by_id[place] = Some(sub);
     }
 
-    /// Puts a sub-channel in place of the one that has its identifier; without such a one nothing changes.
+    /// Replaces the sub-channel that has the same identifier; without such a one nothing changes.
     pub(crate) fn replace(&mut self, sub: Sub)
         ensures { self.new ≡ with_entry_changed sub_key sub self.old }
     {
@@ -171,7 +171,7 @@ fn has_same_places(one: &[Option<Sub>; 64], other: &[Option<Sub>; 64]) -> bool
     true
 }
 
-/// Whether the same sub-channel stands at a place of two tables, or none in both.
+/// Whether two tables have the same sub-channel at an index, or none.
 fn is_same_entry(one: Option<Sub>, other: Option<Sub>) -> bool
     ensures { IsTrue result ↔ (one ≡ other) }
 {

@@ -1,4 +1,4 @@
-//! How many spans have each capacity unit.
+//! How many spans cover each capacity unit.
 
 ghost use Rattle.std.specs.Prelude.{◌≡◌, ℕ, slice_index, true, false, ◌+◌, ◌-◌, ◌<◌, ◌≤◌, length};
 ghost use Rattle.mux_eep.specs.declared.limits.TheConstants.{CAPACITY_UNITS};
@@ -12,7 +12,7 @@ const LANES: [u8; 32] = [
     26, 27, 28, 29, 30, 31,
 ];
 
-/// 32 neighbouring capacity units, a lane for each: how many spans have it.
+/// 32 neighbouring capacity units, a lane for each: how many spans cover it.
 #[derive(Clone, Copy)]
 pub(crate) struct Block {
     pub(crate) units: u8x32,
@@ -42,7 +42,7 @@ fn lane_in(base: u16, unit: u16) -> u8
     }
 }
 
-/// The units of a block that a span has: 1 in the lane of each, and 0 elsewhere.
+/// The units of a block that a span covers: 1 in the lane of each, and 0 elsewhere.
 fn mask(block: u16, span: Span) -> u8x32
     requires within { span.start + span.size ≤ CAPACITY_UNITS }
     requires block { block < 27 }
@@ -59,7 +59,7 @@ fn mask(block: u16, span: Span) -> u8x32
     lanes.simd_lt(u8x32::splat(to)).select(from_start, zero)
 }
 
-/// Counts a span in.
+/// Adds a span.
 pub(crate) fn count_in(blocks: &mut [Block; 27], span: Span)
     requires { span.start + span.size ≤ CAPACITY_UNITS }
     ensures { CountsIn blocks.old blocks.new span }
@@ -72,7 +72,7 @@ pub(crate) fn count_in(blocks: &mut [Block; 27], span: Span)
     }
 }
 
-/// Counts out a span that was counted in.
+/// Removes a span that was added.
 pub(crate) fn count_out(blocks: &mut [Block; 27], span: Span)
     requires { span.start + span.size ≤ CAPACITY_UNITS }
     ensures { CountsOut blocks.old blocks.new span }
@@ -98,7 +98,7 @@ fn has_above_one(block: &u8x32) -> bool
     true
 }
 
-/// Whether two of the spans that were counted in share a unit.
+/// Whether two of the spans that were added share a unit.
 pub(crate) fn has_shared_unit(blocks: &[Block; 27]) -> bool
     requires { (b : ℕ) → b < 27 → length (units_at blocks.now b) ≡ 32 }
     ensures told { (uses : ℕ → ℕ) → Counts blocks.now uses → result ≡ true → SomeShared uses }

@@ -1,4 +1,4 @@
--- A value taken out of a list, by moving it behind the others first.
+-- A value removed from a list, by moving it to the end first.
 use Rattle.std.proofs.Common.{◌≡◌, ℕ, ◌-◌, ◌<◌, List, [], ◌∷◌, ◌++◌, length, get_or, take, ap, ◌∙◌, arith}
 use Rattle.std.specs.List.{remove}
 use Rattle.std.proofs.lemmas.List.{append_assoc, take_at}

@@ -1,4 +1,4 @@
--- Sets in ascending order: where a key stands, and what an edit at that place makes of the set.
+-- Sets in ascending order: the index of a key, and the set after an edit at that index.
 use Rattle.std.proofs.Common.{◌≡◌, ℕ, zero, suc, ◌<◌, ◌≤◌, true, false, cond, ltb, eqb, nat_lt, List, [], ◌∷◌, ◌++◌, length, get_or, set, slice_get, if◌then◌else◌, Some, None, refl, sym, ap, ◌∙◌, arith, inl, inr}
 use Rattle.std.specs.List.{insert, remove, find, AllByRecursion}
 use Rattle.std.proofs.lemmas.Bool.{cases_lt, cases_eq, lt-ltb, le-ltb, eq-eqb, ne_eqb, eqb-false}

@@ -1,4 +1,4 @@
--- Walking along a list, place by place: what is left of it, of two lists that are compared, and of a search.
+-- Walking along a list, index by index: what is left of it, of two lists that are compared, and of a search.
 use Rattle.std.proofs.Common.{◌≡◌, ◌≢◌, ℕ, zero, suc, ◌+◌, ◌≤◌, Bool, true, false, ◌&&◌, ◌||◌, List, [], ◌∷◌, length, drop, Some, refl, sym, ap, ◌∙◌, subst, slice_get, add-one, arith}
 use Rattle.std.proofs.Math.ListN.{drop_of_length-le}
 use Rattle.std.specs.List.{list_any, AllByRecursion}

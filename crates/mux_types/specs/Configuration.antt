@@ -23,7 +23,7 @@ pub record Configuration : Type 0 where
 abbrev pub nothing : Configuration
 nothing = record { subs = []; services = []; packets = [] }
 
--- the order of the three sets: short SIds stand before long ones
+-- the order of the three sets: short SIds come before long ones
 abbrev pub sub_key : Sub → ℕ
 sub_key s = s.id
 
@@ -37,7 +37,7 @@ service_key s = sid_key s.sid
 abbrev pub packet_key : Packet → ℕ
 packet_key p = p.scid
 
--- identifiers ascend, so that none stands twice
+-- identifiers ascend, so that none occurs twice
 abbrev pub IsAscending : {T : Type 0} → (T → ℕ) → List T → Type 0
 IsAscending key [] = Unit {0}
 IsAscending key (x ∷ xs) = AllByRecursion (λ y. key x < key y) xs × IsAscending key xs
@@ -59,7 +59,7 @@ carrier_of (Sound ty sub) = BySub sub
 carrier_of (Stream ty sub) = BySub sub
 carrier_of (InPackets scid) = ByPacket scid
 
--- no carrier stands twice
+-- no carrier occurs twice
 abbrev pub AreDifferent : List Component → Type 0
 AreDifferent [] = Unit {0}
 AreDifferent (c ∷ cs) = AllByRecursion (λ d. carrier_of c ≢ carrier_of d) cs × AreDifferent cs

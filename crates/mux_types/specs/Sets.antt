@@ -1,5 +1,5 @@
--- That the lists in ascending order are finite sets, and that the words of the tables add a member, take one
--- away and replace one.
+-- That the lists in ascending order are finite sets, and that the functions of the tables add a member, remove one
+-- and replace one.
 use Rattle.std.specs.Prelude.{◌≡◌, ◌≢◌, ℕ, ◌⊎◌, ◌↔◌, List, None, Contains}
 use Rattle.mux_types.specs.Configuration.{IsAscending}
 use Rattle.mux_types.specs.Tables.{entry_at, with_entry, without_entry, changed_at}

@@ -6,7 +6,7 @@ use Rattle.std.specs.List.{find, filter, list_any}
 abbrev pub entry_at : {T : Type 0} → (T → ℕ) → ℕ → List T → Option T
 entry_at key k xs = find (λ x. key x == k) xs
 
--- a set with one more member, which stands before the first of a greater key
+-- a set with one more member, inserted before the first of a greater key
 abbrev pub with_entry : {T : Type 0} → (T → ℕ) → T → List T → List T
 with_entry key y [] = y ∷ []
 with_entry key y (x ∷ xs) = if nat_lt (key y) (key x) then y ∷ x ∷ xs else x ∷ with_entry key y xs

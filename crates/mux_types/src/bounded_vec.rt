@@ -1,4 +1,4 @@
-//! A list of a few values, held without memory of its own.
+//! A list of a few values, stored inline, without allocation.
 
 ghost use Rattle.std.specs.Prelude.{◌≡◌, ◌+◌, ◌<◌, ◌≤◌, List, ◌++◌, ◌∷◌, [], ◌↔◌, length, take, IsTrue, option_copied, slice_get, slice_index_or, set};
 ghost use Rattle.std.specs.List.{insert, remove};
@@ -62,7 +62,7 @@ impl<T: Drop, const CAP: usize> BoundedVec<T, CAP> {
         &self.items[..self.len]
     }
 
-    /// The value at a place, counted from 0.
+    /// The value at an index, from 0.
     pub fn get(&self, place: usize) -> Option<&T>
         ensures { option_copied result ≡ slice_get self.now place }
     {
@@ -78,15 +78,15 @@ impl<T: Drop, const CAP: usize> BoundedVec<T, CAP> {
 }
 
 impl<T: Drop, const CAP: usize> BoundedVec<T, CAP> {
-    /// Lets go of every value.
+    /// Removes every value.
     pub fn clear(&mut self)
         ensures { self.new ≡ [] }
     {
         self.len = 0;
     }
 
-    /// Takes in a value at a place, before the one that stands there; the later ones move up. The list must
-    /// have room for it.
+    /// Inserts a value at an index, before the one that is there; the later ones move up. The list must have room for
+    /// it.
     pub fn insert(&mut self, place: usize, value: T)
         requires in_bounds { place ≤ length self.old }
         requires room { length self.old < CAP }
@@ -98,7 +98,7 @@ impl<T: Drop, const CAP: usize> BoundedVec<T, CAP> {
         last_to(&mut self.items[..len + 1], place);
     }
 
-    /// Takes out the value at a place; the later ones move down.
+    /// Removes the value at an index; the later ones move down.
     pub fn remove(&mut self, place: usize)
         requires { place < length self.old }
         ensures { self.new ≡ remove self.old place }
@@ -108,7 +108,7 @@ impl<T: Drop, const CAP: usize> BoundedVec<T, CAP> {
         self.len = len - 1;
     }
 
-    /// Puts a value in place of the one at a place.
+    /// Replaces the value at an index.
     pub fn set(&mut self, place: usize, value: T)
         requires { place < length self.old }
         ensures { self.new ≡ set self.old place value }
@@ -118,7 +118,7 @@ impl<T: Drop, const CAP: usize> BoundedVec<T, CAP> {
     }
 }
 
-/// Moves the last of some values to a place before others.
+/// Moves the last value to an index; those from there on move up.
 fn last_to<T>(values: &mut [T], place: usize)
     requires { place < length values.old }
     ensures { (front : List T) (last : T) → values.old ≡ front ++ last ∷ []
@@ -127,7 +127,7 @@ fn last_to<T>(values: &mut [T], place: usize)
     values[place..].rotate_right(1);
 }
 
-/// Moves the value at a place behind the others.
+/// Moves the value at an index to the end; those after it move down.
 fn to_last<T>(values: &mut [T], place: usize)
     requires { place < length values.old }
     ensures { (d : T) → values.new
@@ -158,7 +158,7 @@ impl<T: Keyed, const CAP: usize> BoundedVec<T, CAP> {
     }
 }
 
-/// Writes copies of values over as many places from the front.
+/// Overwrites the front with copies of values.
 fn copy_in<T: Keyed>(places: &mut [T], values: &[T])
     requires { length values.now ≤ length places.old }
     ensures front { take (length values.now) places.new ≡ values.now }

@@ -1,4 +1,4 @@
-//! The members of the three sets of a configuration, told apart by their keys.
+//! The members of the three sets of a configuration, identified by their keys.
 
 ghost use Rattle.std.specs.Prelude.{◌≡◌};
 ghost use Rattle.mux_types.specs.Configuration.{sub_key, sid_key, service_key, packet_key};
@@ -7,7 +7,7 @@ use crate::numbers::Sid;
 use crate::parts::{Packet, Service, Sub};
 use crate::sorted_table::Keyed;
 
-/// The place of an SId in the order of services: short ones stand before long ones.
+/// The rank of an SId in the order of services: short ones come before long ones.
 pub fn sid_key(sid: Sid) -> u64
     ensures { result ≡ sid_key sid }
 {

@@ -2,7 +2,7 @@
 //! sub-channels, services and packet components, and the bounded lists and sorted sets that hold them.
 //!
 //! Begin with `Sub`, `Service` and `Packet`; `SortedTable` is a set of members that have keys. Its contracts cite the
-//! words of sets in `specs/Tables.antt`; a configuration itself is defined in `specs/Configuration.antt`.
+//! functions on sets in `specs/Tables.antt`; a configuration itself is defined in `specs/Configuration.antt`.
 #![tactic(auto)]
 
 pub mod bounded_vec;

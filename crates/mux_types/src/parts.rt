@@ -24,7 +24,7 @@ pub struct Sub {
 }
 
 impl Default for Sub {
-    /// A sub-channel of no rate: what stands in the unused places of a list.
+    /// A sub-channel of no rate, which fills the unused slots of a list.
     fn default() -> Self {
         Sub {
             id: SubId::default(),
@@ -47,7 +47,7 @@ pub enum Component {
 }
 
 impl Default for Component {
-    /// The packet component 0: what stands in the unused places of a list.
+    /// The packet component 0, which fills the unused slots of a list.
     fn default() -> Self {
         Component::Packet {
             scid: ScId::default(),
@@ -103,7 +103,7 @@ pub struct Service {
 impl Default for Service {
     ghost is_default = { λ s. s ≡ record { sid = Short 0; components = [] } };
 
-    /// A service without components: what stands in the unused places of a list.
+    /// A service without components, which fills the unused slots of a list.
     fn default() -> Self {
         Service {
             sid: Sid::Short(0),
@@ -160,7 +160,7 @@ pub struct Packet {
 }
 
 impl Default for Packet {
-    /// The packet component 0 without an address: what stands in the unused places of a list.
+    /// The packet component 0 without an address, which fills the unused slots of a list.
     fn default() -> Self {
         Packet {
             scid: ScId::default(),

@@ -1,4 +1,4 @@
-//! A finite set whose members have keys, held in ascending order without memory of its own.
+//! A finite set whose members have keys, stored inline in ascending order, without allocation.
 
 ghost use Rattle.std.specs.Prelude.{◌≡◌, ◌<◌, ◌≤◌, ◌++◌, ◌∷◌, [], ◌↔◌, length, Some, None, IfSome, IfNone, IfOk, IfErr, IsTrue, option_copied, slice_get, set};
 ghost use Rattle.std.specs.List.{insert, remove, AllByRecursion};
@@ -8,7 +8,7 @@ ghost use Rattle.mux_types.specs.Tables.{entry_at, with_entry, without_entry, wi
 use crate::bounded_vec::BoundedVec;
 use std::marker::Model;
 
-/// A member of a set, told from the others by its key.
+/// A member of a set, identified by its key.
 pub trait Keyed: Default + Drop {
     ghost use Rattle.std.specs.Prelude.{ℕ};
 
@@ -51,8 +51,8 @@ impl<T: Keyed, const CAP: usize> SortedTable<T, CAP> {
     }
 }
 
-/// The place of the entry of a key, found by halves; or, where none has it, the place where such an entry
-/// would stand.
+/// The index of the entry of a key, by binary search; or, where none has it, the index at which such an entry would be
+/// inserted.
 fn search<T: Keyed>(entries: &[T], key: u64) -> Result<usize, usize>
     requires { IsAscending T.key entries.now }
     ensures found { IfOk result (λ place.
@@ -109,7 +109,7 @@ impl<T: Keyed, const CAP: usize> SortedTable<T, CAP> {
         self.entries.as_slice()
     }
 
-    /// The member at a place, counted from 0 in ascending order.
+    /// The member at an index, from 0 in ascending order.
     pub fn item(&self, place: usize) -> &T
         requires { place < length self.now }
         ensures { Some result.now ≡ slice_get self.now place }
@@ -117,7 +117,7 @@ impl<T: Keyed, const CAP: usize> SortedTable<T, CAP> {
         &self.entries.as_slice()[place]
     }
 
-    /// The place of the member of a key; None where it has none.
+    /// The index of the member of a key; None where it has none.
     pub fn place(&self, key: u64) -> Option<usize>
         ensures found { IfSome result (λ place.
             slice_get self.now place ≡ entry_at T.key key self.now) }
@@ -140,7 +140,7 @@ impl<T: Keyed, const CAP: usize> SortedTable<T, CAP> {
         }
     }
 
-    /// Takes in a member whose key no member has, where there is room.
+    /// Inserts a member whose key no member has; there must be room.
     pub fn insert(&mut self, entry: T)
         requires absent { entry_at T.key (T.key entry) self.old ≡ None }
         requires room { length self.old < CAP }
@@ -152,7 +152,7 @@ impl<T: Keyed, const CAP: usize> SortedTable<T, CAP> {
         }
     }
 
-    /// Takes in a member whose key is above the key of each other, where there is room.
+    /// Appends a member whose key is above that of every other; there must be room.
     pub fn append(&mut self, entry: T)
         requires above { AllByRecursion (λ x. T.key x < T.key entry) self.old }
         requires room { length self.old < CAP }
@@ -161,7 +161,7 @@ impl<T: Keyed, const CAP: usize> SortedTable<T, CAP> {
         self.entries.push(entry);
     }
 
-    /// Puts a member in place of the one that has its key; without such a one nothing changes.
+    /// Replaces the member that has the same key; without such a one nothing changes.
     pub fn replace(&mut self, entry: T)
         ensures { self.new ≡ with_entry_changed T.key entry self.old }
     {
@@ -171,7 +171,7 @@ impl<T: Keyed, const CAP: usize> SortedTable<T, CAP> {
         }
     }
 
-    /// Drops the member of a key; without such a one nothing changes.
+    /// Removes the member of a key; without such a one nothing changes.
     pub fn remove(&mut self, key: u64)
         ensures { self.new ≡ without_entry T.key key self.old }
     {
@@ -181,7 +181,7 @@ impl<T: Keyed, const CAP: usize> SortedTable<T, CAP> {
         }
     }
 
-    /// Lets go of every member.
+    /// Removes every member.
     pub fn clear(&mut self)
         ensures { self.new ≡ [] }
     {

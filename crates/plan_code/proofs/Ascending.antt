@@ -1,4 +1,4 @@
--- Lists in ascending order of a key, read from the front, and searched by halves.
+-- Lists in ascending order of a key, read from the front, and searched by bisection.
 use Rattle.std.proofs.Common.{◌≡◌, ◌≢◌, ℕ, zero, suc, ◌+◌, ◌<◌, ◌≤◌, ◌↔◌, List, [], ◌∷◌, length, get_or, drop, Some, None, refl, ap, arith, inl, inr, eqb}
 use Rattle.std.specs.List.{find, AllByRecursion}
 use Rattle.std.proofs.lemmas.Bool.{cases_lt, eq-eqb, ne_eqb}

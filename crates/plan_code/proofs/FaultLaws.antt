@@ -1,4 +1,4 @@
--- Bytes have one fault at most, and one exactly where they are the file of no code; none is want of memory.
+-- Bytes have one fault at most, and one exactly where they are the file of no code; none is out of memory.
 use Rattle.std.proofs.Common.{◌≡◌, ℕ, zero, suc, Bool, true, false, cond, eqb, ltb, not, List, [], ◌∷◌, ◌++◌, length, Result, Ok, Err, refl, sym, ap, subst, ◌∙◌}
 use Rattle.std.specs.Int.{w16, w32}
 use Rattle.byte_fields.specs.declared.record.RecordFault.{RecordFault}

@@ -1,4 +1,4 @@
--- Opcodes and their bytes tell each other.
+-- Opcodes and their bytes determine each other.
 use Rattle.std.proofs.Common.{◌≡◌, ℕ, eqb, List, [], ◌∷◌, Option, Some, None, Ok, refl, subst, inl, inr}
 use Rattle.std.specs.Prelude.{find, ok_or}
 use Rattle.std.proofs.lemmas.Bool.{cases_eq, eq-eqb, ne_eqb}

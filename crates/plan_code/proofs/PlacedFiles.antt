@@ -1,4 +1,5 @@
--- The place of a field that is at fault is one of the bytes of a file, and the bytes before it are truncated.
+-- The offset of a field that is at fault is that of one of the bytes of a file, and the bytes before it are
+-- truncated.
 use Rattle.std.proofs.Common.{◌≡◌, ℕ, zero, suc, ◌<◌, ◌≤◌, Bool, true, false, cond, eqb, ltb, not, List, [], ◌∷◌, ◌++◌, length, take, Result, Ok, Err, refl, subst, ◌⊎◌, inl, inr, arith}
 use Rattle.std.specs.Int.{w16, w32}
 use Rattle.std.proofs.lemmas.List.{length-take-le}

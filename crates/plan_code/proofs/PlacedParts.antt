@@ -1,4 +1,4 @@
--- The place of a fault that a label or an instruction has is that of one of the bytes.
+-- The offset of a fault of a label or an instruction is that of one of the bytes.
 use Rattle.std.proofs.Common.{ℕ, zero, suc, ◌-◌, ◌<◌, ◌≤◌, List, [], ◌∷◌, length, Option, Some, None, arith}
 use Rattle.std.specs.Prelude.{ok_or}
 use Rattle.std.specs.Int.{w16, w32}

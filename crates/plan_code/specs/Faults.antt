@@ -13,11 +13,11 @@ AreBytes bytes = (i : ℕ) → slice_index bytes i < 256
 abbrev pub IsNoFile : List ℕ → Type 0
 IsNoFile bytes = (p : Program) → IsProgram p → bytes ≡ code_bytes p → ⊥
 
--- the first fault that is met from the front
+-- the first fault from the front
 abbrev pub HasCodeFault : List ℕ → CodeFault → Type 0
 HasCodeFault bytes fault = code_of bytes ≡ Err fault
 
--- there is one fault at most
+-- there is at most one fault
 abbrev pub HasOneFault : Type 0
 HasOneFault = (bytes : List ℕ) (f g : CodeFault) → HasCodeFault bytes f → HasCodeFault bytes g → f ≡ g
 
@@ -25,6 +25,6 @@ HasOneFault = (bytes : List ℕ) (f g : CodeFault) → HasCodeFault bytes f → 
 abbrev pub HasFaultWithoutCode : Type 0
 HasFaultWithoutCode = (bytes : List ℕ) → AreBytes bytes → ((f : CodeFault) × HasCodeFault bytes f) ↔ IsNoFile bytes
 
--- want of memory is none of the bytes' faults
+-- out of memory is no fault of the bytes
 abbrev pub BytesLackNoMemory : Type 0
 BytesLackNoMemory = (bytes : List ℕ) → HasCodeFault bytes Memory → ⊥

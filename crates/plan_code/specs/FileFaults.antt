@@ -1,4 +1,4 @@
--- What the fault of bytes that are no code file says, in the words of the bytes.
+-- What the fault of bytes that are no code file says about the bytes.
 use Rattle.std.specs.Prelude.{◌≢◌, ◌⊎◌, ℕ, ◌<◌, List, ◌++◌, length, take}
 use Rattle.plan_code.specs.declared.fault.CodeFault.{CodeFault}
 use Rattle.plan_code.specs.declared.fault.CodeFault.TheVariants.{Truncated, Field, Trailing}
@@ -17,15 +17,15 @@ FileFaultsStay =
     (bytes more : List ℕ) (fault : CodeFault) → HasCodeFault bytes fault → fault ≢ Truncated
     → HasCodeFault (bytes ++ more) fault × IsNoFile (bytes ++ more)
 
--- and it is the first one: what comes before it is truncated, or has it too; only that bytes are left over is seen at
--- the end
+-- and it is the first one: what comes before it is truncated, or has it too; only left-over bytes are found at the
+-- end
 abbrev pub FileFaultsAreFirst : Type 0
 FileFaultsAreFirst =
     (bytes : List ℕ) (n : ℕ) (fault : CodeFault) → HasCodeFault bytes fault → fault ≢ Trailing
     → HasCodeFault (take n bytes) Truncated ⊎ HasCodeFault (take n bytes) fault
 
--- the place of a field that is at fault is the number of one of the bytes, from 0, and the bytes before it are
--- truncated: none of their fields is at fault
+-- the offset of a field that is at fault is that of one of the bytes, and the bytes before it are truncated: none
+-- of their fields is at fault
 abbrev pub TruncatedBeforePlaces : Type 0
 TruncatedBeforePlaces =
     (bytes : List ℕ) (place : ℕ) → HasCodeFault bytes (Field place) → (place < length bytes) × HasCodeFault (take place bytes) Truncated

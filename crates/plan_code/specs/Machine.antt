@@ -1,5 +1,5 @@
--- The machine that carries out instructions: its state, what each instruction makes of it, and what each
--- needs so as not to trap.
+-- The machine that executes instructions: its state, how each instruction changes it, and what each needs so as
+-- not to trap.
 use Rattle.std.specs.Prelude.{◌≡◌, ◌≢◌, ℕ, zero, suc, ◌+◌, ◌-◌, ◌%◌, ◌<◌, ◌≤◌, if◌then◌else◌, nat_lt, List, length, Option, Some, None, IsSome, slice_index, slice_set}
 use Rattle.mux_config.specs.Configuration.{Configuration}
 use Rattle.mux_config.specs.Edits.{changed, edit_fault}
@@ -23,7 +23,7 @@ pub record State : Type 0 where
   pub next : Configuration
   -- the frames until the swap, where one is pending
   pub left : Option ℕ
-  -- the place of the instruction to come, and what it waits for
+  -- the index of the next instruction, and what the machine waits for
   pub pc : ℕ
   pub hold : Hold
   -- what is left of each of the eight counters: 0 where it is not set
@@ -34,7 +34,7 @@ pub record State : Type 0 where
   pub day : ℕ
   -- the identifier of the ensemble
   pub eid : ℕ
-  -- the number of the page in turn
+  -- the number of the next page
   pub turn : ℕ
 
 -- ---- when a swap falls
@@ -148,7 +148,7 @@ IsAllowed plan (Jump target) s = Unit {0}
 IsAllowed plan (Set r n) s = Unit {0}
 IsAllowed plan (Loop r target) s = IsCounterSet s r
 
--- the instruction at the state's place: there is one, and it doesn't trap
+-- the instruction at the state's pc: there is one, and it doesn't trap
 pub record StepIsAllowed (p : Program) (s : State) : Type 0 where
   pub instr : Instr
   pub within : instr_at p s.pc ≡ Some instr
@@ -162,9 +162,9 @@ effect_of plan (Some i) s = effect plan i s
 abbrev pub step : Program → State → State
 step p s = effect_of p.plan (instr_at p s.pc) s
 
--- ---- what settling and loops come to
+-- ---- settling and loops
 
--- settling does nothing where no swap is pending, and joins one that is
+-- `settle` does nothing where no swap is pending, and joins one that is
 pub record Settles (plan : Plan) (s : State) : Type 0 where
   pub idle : IsIdle s → effect plan Settle s ≡ advance s
   pub pending : IsPending s → effect plan Settle s ≡ effect plan Join s
@@ -172,7 +172,7 @@ pub record Settles (plan : Plan) (s : State) : Type 0 where
 abbrev pub AlwaysSettles : Type 0
 AlwaysSettles = (plan : Plan) (s : State) → Settles plan s
 
--- the machine has come to a loop this many times, and has done nothing else
+-- the machine has reached a loop this many times, and has executed nothing else
 abbrev pub looped : Plan → (r target : ℕ) → (times : ℕ) → State → State
 looped plan r target zero s = s
 looped plan r target (suc times) s = effect plan (Loop r target) (looped plan r target times s)

@@ -32,7 +32,7 @@ opcodes = Wait ∷ Until ∷ WaitContact ∷ CommitIn ∷ CommitAt ∷ Join ∷ 
     ∷ AddSub ∷ DropSub ∷ MoveSub ∷ RateSub ∷ AddService ∷ DropService ∷ AddComponent ∷ DropComponent ∷ AddPacket ∷ DropPacket
     ∷ Test ∷ Jump ∷ Set ∷ Loop ∷ []
 
--- the opcode that a byte is; the others are none
+-- the opcode that a byte is; the other bytes are none
 unfoldable pub opcode_of : ℕ → Option Opcode
 opcode_of byte = find (λ opcode. byte == opcode_byte opcode) opcodes
 

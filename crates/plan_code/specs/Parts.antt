@@ -1,5 +1,5 @@
--- Reading a label, and a line with its instruction, from left to right, with the first fault that is met: a
--- field whose bytes are missing, or one that is out of its range.
+-- Reading a label, and a line with its instruction, from left to right, up to the first fault: a field whose bytes
+-- are missing, or one that is out of its range.
 use Rattle.std.specs.Prelude.{ℕ, zero, suc, ◌-◌, List, ok_or, Ok}
 use Rattle.std.specs.Int.{w16, w32}
 use Rattle.mux_config.specs.FieldReading.{Reads, ◌>>=◌, place, byte_at, number_at, judged, byte_within, word_within, flag_at, protection_at, sid_at, component_at}
@@ -42,7 +42,7 @@ swap_at total bytes = do
   kind ← byte_within total 0 2 bytes
   bounds_of total kind.0 kind.1
 
--- a label at `low` or later, where the table has this many configurations
+-- a label at the pc `low` or later, where the table has this many configurations
 unfoldable pub label_from : (total count low : ℕ) → List ℕ → Reads Label
 label_from total count low bytes = do
   pc ← word_within total low 65535 bytes

@@ -24,7 +24,7 @@ pub record Program : Type 0 where
   pub labels : List Label
   pub lines : List Line
 
--- the label that stands at a place of the code
+-- the label at a pc of the code
 abbrev pub label_at : Program → ℕ → Option Label
 label_at p pc = find (λ l. l.pc == pc) p.labels
 

@@ -1,4 +1,4 @@
--- Reading a code file from left to right, with the first fault that is met.
+-- Reading a code file from left to right, up to the first fault.
 use Rattle.std.specs.Prelude.{◌≡◌, ℕ, zero, suc, ◌+◌, ◌==◌, nat_lt, if◌then◌else◌, List, [], ◌∷◌, ◌++◌, length, Bool, not, Result, Ok, Err}
 use Rattle.std.specs.Int.{w16, w32}
 use Rattle.fib_codec.specs.declared.modes.Mode.{Mode}
@@ -30,8 +30,8 @@ abbrev pub ◌>>=◌ : {A B : Type 0} → Result A CodeFault → (A → Result B
 abbrev pub refuse_code : Bool → CodeFault → Result (Unit {0}) CodeFault
 refuse_code test fault = if test then Err fault else Ok tt
 
--- the fault of a part that begins at `start`: the places of its fields are counted from there, and an
--- identifier out of order is a fault of the whole part
+-- the fault of a part that begins at `start`: the offsets of its fields are counted from there, and an identifier
+-- out of order is a fault of the whole part
 abbrev pub fault_from : (start : ℕ) → RecordFault → CodeFault
 fault_from start Short = Truncated
 fault_from start (FieldOfRecord at) = Field (start + at)
@@ -41,23 +41,23 @@ abbrev pub read_from : {T : Type 0} → (start : ℕ) → Result T RecordFault �
 read_from start (Ok x) = Ok x
 read_from start (Err e) = Err (fault_from start e)
 
--- fields whose places are counted from the first byte of the file
+-- fields whose offsets are counted from the first byte of the file
 abbrev pub in_file : {T : Type 0} → Result T RecordFault → Result T CodeFault
 in_file read = read_from 0 read
 
--- ---- what calls answer
+-- ---- what calls return
 
--- want of memory may be answered at any point; every other fault is the one that reading meets
+-- out of memory may be returned at any point; every other fault is the first one of the bytes
 abbrev pub Fails : {Y : Type 0} → CodeFault → Result Y CodeFault → Type 0
 Fails Memory read = Unit {0}
 Fails fault read = read ≡ Err fault
 
--- an answer, seen by view, is what reading gives
+-- a result, seen by view, is what reading gives
 abbrev pub Gives : {X Y : Type 0} → (X → Y) → Result X CodeFault → Result Y CodeFault → Type 0
 Gives view (Ok x) read = read ≡ Ok (view x)
 Gives view (Err fault) read = Fails fault read
 
--- an answer, seen by view, and the bytes that are left are what reading gives
+-- a result, seen by view, and the bytes that are left are what reading gives
 abbrev pub GivesNext : {X Y : Type 0} → (X → Y) → Result X CodeFault → Unread → Parses Y → Type 0
 GivesNext view (Ok x) left read = read ≡ Ok (view x, left.rest)
 GivesNext view (Err fault) left read = Fails fault read

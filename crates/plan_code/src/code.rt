@@ -14,8 +14,8 @@ use crate::ranges::{configs_in_range, lines_in_range};
 use mux_config::Config;
 use std::marker::Model;
 
-/// A plan code: a plan, a table of configurations, labels in ascending order of their places, and
-/// instructions. Every field is within its limits.
+/// A plan code: a plan, a table of configurations, labels in ascending order of their pc, and instructions. Every field
+/// is within its limits.
 #[derive(Drop)]
 pub struct Code {
     plan: Plan,
@@ -51,7 +51,7 @@ fn is_count(len: usize, limit: u16) -> bool
     1 <= len && len <= usize::from(limit)
 }
 
-/// Whether each label is within its limits, and their places ascend.
+/// Whether each label is within its limits, and their pcs ascend.
 fn are_labels(labels: &[Label], configs: usize) -> bool
     ensures { IsTrue result
         ↔ (AllByRecursion (IsLabel configs) labels.now × IsAscending label_key labels.now) }
@@ -69,7 +69,7 @@ fn are_labels(labels: &[Label], configs: usize) -> bool
     true
 }
 
-/// The label at a place, by halves.
+/// The label at a pc, by binary search.
 fn search(labels: &[Label], pc: u16) -> Option<Label>
     requires { IsAscending label_key labels.now }
     ensures { result ≡ find (λ l. l.pc == pc) labels.now }
@@ -92,8 +92,8 @@ fn search(labels: &[Label], pc: u16) -> Option<Label>
 }
 
 impl Code {
-    /// The code of these parts; None exactly where a field or a length is outside its limits. The vectors
-    /// are then dropped. Configurations and lines are within theirs by their types.
+    /// The code of these parts; None exactly where a field or a length is outside its limits. The vectors are then
+    /// dropped. Configurations and lines are within their limits by their types.
     pub fn new(
         plan: Plan,
         configs: Vec<Config>,
@@ -184,7 +184,7 @@ impl Code {
         self.configs.as_slice()
     }
 
-    /// The configuration at a place of the table; None past its end.
+    /// The configuration at an index of the table; None past its end.
     pub fn config(&self, place: u16) -> Option<&Config>
         ensures value { option_copied result ≡ slice_get self.now.configurations place }
         ensures formed { IsProgram self.now }
@@ -192,7 +192,7 @@ impl Code {
         self.configs.get(usize::from(place))
     }
 
-    /// The labels in ascending order of their places.
+    /// The labels in ascending order of their pc.
     pub fn labels(&self) -> &[Label]
         ensures value { result.now ≡ self.now.labels }
         ensures formed { IsProgram self.now }
@@ -200,7 +200,7 @@ impl Code {
         self.labels.as_slice()
     }
 
-    /// The label at a place of the code; None where none stands there.
+    /// The label at a pc of the code; None where there is none.
     pub fn label_at(&self, pc: u16) -> Option<Label>
         ensures value { result ≡ label_at self.now pc }
         ensures formed { IsProgram self.now }
@@ -216,7 +216,7 @@ impl Code {
         self.lines.as_slice()
     }
 
-    /// The instruction at a place of the code; None past its end.
+    /// The instruction at a pc of the code; None past its end.
     pub fn instr(&self, pc: u16) -> Option<Instr>
         ensures value { result ≡ instr_at self.now pc }
         ensures formed { IsProgram self.now }
@@ -227,7 +227,7 @@ impl Code {
         }
     }
 
-    /// The number of the line that the instruction at a place of the code comes from; None past its end.
+    /// The number of the line that the instruction at a pc of the code comes from; None past its end.
     pub fn line_at(&self, pc: u16) -> Option<u16>
         ensures value { result ≡ line_at self.now pc }
         ensures formed { IsProgram self.now }

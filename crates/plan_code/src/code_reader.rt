@@ -75,10 +75,10 @@ fn count(reader: &mut Reader, limit: u16) -> Result<u16, CodeFault>
     ensures total { reader.new.total ≡ reader.old.total }
     ensures some { IfOk result (λ n. 1 ≤ n) }
 {
-    let place = reader.place();
+    let offset = reader.place();
     let number = reader.u16()?;
     if number == 0 {
-        return Err(CodeFault::Field(place));
+        return Err(CodeFault::Field(offset));
     }
     if number > limit {
         return Err(CodeFault::Limit);
@@ -86,7 +86,7 @@ fn count(reader: &mut Reader, limit: u16) -> Result<u16, CodeFault>
     Ok(number)
 }
 
-/// What a file says before its tables: the plan, and how many configurations, labels and instructions follow.
+/// The header of a file, before its tables: the plan, and how many configurations, labels and instructions follow.
 #[derive(Clone, Copy)]
 struct Opening {
     plan: Plan,
@@ -120,7 +120,7 @@ fn header(reader: &mut Reader) -> Result<Opening, CodeFault>
     })
 }
 
-/// What stands in a row of its kind.
+/// A value that is read as an item of a table.
 trait Item: Drop {
     ghost use Rattle.std.specs.Prelude.{ℕ, List};
     ghost use Rattle.plan_code.specs.Reading.{Parses};
@@ -210,10 +210,10 @@ fn whole(alloc: Global, bytes: &[u8]) -> Result<Code, CodeFault>
 
 /// The code whose file the bytes are.
 ///
-/// A refusal is the first fault in the order of the bytes, as soon as its field is read: `Truncated` where a
-/// field's bytes are missing; `Magic` and `Version` where these are others; `Limit` where one of the three
-/// numbers of the header is above its limit; `Field` with the place of the first byte of a field that is out
-/// of its range; `Trailing` where bytes stand after the last instruction. `Memory` may come at any point.
+/// A refusal is the first fault in the order of the bytes, as soon as its field is read: `Truncated` where a field's
+/// bytes are missing; `Magic` and `Version` where these are others; `Limit` where one of the three numbers of the
+/// header is above its limit; `Field` with the offset of the first byte of a field that is out of its range; `Trailing`
+/// where bytes follow the last instruction. `Memory` may occur at any point.
 pub fn decode(alloc: Global, bytes: &[u8]) -> Result<Code, CodeFault>
     // What is read is within the limits of codes, and the bytes are its file.
     ensures formed { IfOk result (λ c. IsProgram c) }

@@ -111,21 +111,21 @@ fn put_with_byte(out: &mut Vec<u8>, opcode: Opcode, byte: u8) -> Result<(), Allo
 }
 
 /// Writes an opcode, and an operand of two bytes.
-fn put_with_word(out: &mut Vec<u8>, opcode: Opcode, word: u16) -> Result<(), AllocError>
+fn put_with_u16(out: &mut Vec<u8>, opcode: Opcode, number: u16) -> Result<(), AllocError>
     ensures { OnOk result
-        (out.new.items ≡ out.old.items ++ opcode_byte opcode ∷ word_bytes word) }
+        (out.new.items ≡ out.old.items ++ opcode_byte opcode ∷ word_bytes number) }
 {
     put_opcode(out, opcode)?;
-    put_u16(out, word)
+    put_u16(out, number)
 }
 
 /// Writes an opcode, and operands of one and of two bytes.
-fn put_with_both(out: &mut Vec<u8>, opcode: Opcode, byte: u8, word: u16) -> Result<(), AllocError>
+fn put_with_both(out: &mut Vec<u8>, opcode: Opcode, byte: u8, number: u16) -> Result<(), AllocError>
     ensures { OnOk result
-        (out.new.items ≡ out.old.items ++ opcode_byte opcode ∷ byte ∷ word_bytes word) }
+        (out.new.items ≡ out.old.items ++ opcode_byte opcode ∷ byte ∷ word_bytes number) }
 {
     put_with_byte(out, opcode, byte)?;
-    put_u16(out, word)
+    put_u16(out, number)
 }
 
 fn put_edit(out: &mut Vec<u8>, edit: Edit) -> Result<(), AllocError>
@@ -163,7 +163,7 @@ fn put_edit(out: &mut Vec<u8>, edit: Edit) -> Result<(), AllocError>
             put_opcode(out, Opcode::AddPacket)?;
             put_new_packet(out, packet)
         }
-        Edit::DropPacket(scid) => put_with_word(out, Opcode::DropPacket, scid.get()),
+        Edit::DropPacket(scid) => put_with_u16(out, Opcode::DropPacket, scid.get()),
     }
 }
 
@@ -171,7 +171,7 @@ fn put_instr(out: &mut Vec<u8>, instr: Instr) -> Result<(), AllocError>
     ensures { OnOk result (out.new.items ≡ out.old.items ++ instr_bytes instr) }
 {
     match instr {
-        Instr::Wait(frames) => put_with_word(out, Opcode::Wait, frames.get()),
+        Instr::Wait(frames) => put_with_u16(out, Opcode::Wait, frames.get()),
         Instr::Until(frame) => {
             put_opcode(out, Opcode::Until)?;
             put_u32(out, frame.get())
@@ -180,8 +180,8 @@ fn put_instr(out: &mut Vec<u8>, instr: Instr) -> Result<(), AllocError>
             put_with_byte(out, Opcode::WaitContact, contact.get())?;
             out.extend_from_slice(&[u8::from(closed)])
         }
-        Instr::CommitIn(delay) => put_with_word(out, Opcode::CommitIn, delay.get()),
-        Instr::CommitAt(count) => put_with_word(out, Opcode::CommitAt, count),
+        Instr::CommitIn(delay) => put_with_u16(out, Opcode::CommitIn, delay.get()),
+        Instr::CommitAt(count) => put_with_u16(out, Opcode::CommitAt, count),
         Instr::Join => put_opcode(out, Opcode::Join),
         Instr::End => put_opcode(out, Opcode::End),
         Instr::Settle => put_opcode(out, Opcode::Settle),
@@ -189,7 +189,7 @@ fn put_instr(out: &mut Vec<u8>, instr: Instr) -> Result<(), AllocError>
         Instr::Test { contact, target } => {
             put_with_both(out, Opcode::Test, contact.get(), target)
         }
-        Instr::Jump(target) => put_with_word(out, Opcode::Jump, target),
+        Instr::Jump(target) => put_with_u16(out, Opcode::Jump, target),
         Instr::Set { counter, times } => {
             put_with_both(out, Opcode::Set, counter.get(), times.get())
         }

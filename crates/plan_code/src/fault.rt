@@ -20,21 +20,21 @@ pub enum CodeFault {
     /// Bytes of a field are missing.
     #[error("Truncated")]
     Truncated,
-    /// A field is out of its range; its first byte has this number in the file, from 0.
+    /// A field is out of its range; its first byte is at this offset of the file.
     #[error("Field {0}")]
     Field(usize),
     /// There are more than 256 configurations, 1,024 labels or 4,096 instructions.
     #[error("Limit")]
     Limit,
-    /// Bytes stand after the last instruction.
+    /// Bytes follow the last instruction.
     #[error("Trailing")]
     Trailing,
-    /// There was no memory for the code.
+    /// Out of memory.
     #[error("Memory")]
     Memory,
 }
 
-/// The fault of a part of a file that begins at `start`, where places in it are counted from there.
+/// The fault of a part of a file that begins at `start`, where offsets in it are counted from there.
 pub(crate) fn fault_from(start: usize, fault: RecordFault) -> CodeFault
     requires { (place : ℕ) → fault ≡ RecordFault.Field place → start + place < 2 ^ 64 }
     ensures { result ≡ fault_of_part start fault }

@@ -1,8 +1,8 @@
-//! What a machine that carries out instructions waits for.
+//! What a machine that executes instructions waits for.
 
 use crate::numbers::{ContactId, DayFrame};
 
-/// What has to come before the next instruction is carried out.
+/// What the machine waits for before it executes the next instruction.
 #[derive(Clone, Copy, Debug, PartialEq, Eq)]
 pub enum Hold {
     /// The machine resumes after this many frames; 0 means running.
@@ -13,6 +13,6 @@ pub enum Hold {
     WaitsContact { contact: ContactId, closed: bool },
     /// The swap that is pending.
     WaitsSwap,
-    /// Nothing that ever comes: the code has ended.
+    /// Nothing: the code has ended.
     Ended,
 }

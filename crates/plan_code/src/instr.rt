@@ -14,11 +14,11 @@ pub enum Instr {
     Until(DayFrame),
     /// Suspends; resumes in the first later frame in which the contact is closed, or open.
     WaitContact { contact: ContactId, closed: bool },
-    /// Commits the next configuration: the swap comes after this many frames, or in the first frame after
-    /// that whose CIF count is a multiple of the mode's step.
+    /// Commits the next configuration: the swap falls after this many frames, or in the first frame after that whose
+    /// CIF count is a multiple of the mode's step.
     CommitIn(Delay),
-    /// Commits the next configuration: the swap comes in the first frame with this CIF count that leaves a
-    /// whole notice before it.
+    /// Commits the next configuration: the swap falls in the first frame with this CIF count that leaves a whole notice
+    /// before it.
     CommitAt(u16),
     /// Suspends; resumes in the frame of the swap, after it.
     Join,
@@ -35,8 +35,7 @@ pub enum Instr {
     Jump(u16),
     /// Sets a counter.
     Set { counter: CounterId, times: Times },
-    /// Lowers a counter by one. Jumps to the target if something is left of it; else the counter is no
-    /// longer set.
+    /// Decrements a counter. Jumps to the target if it is not 0 then; else the counter is no longer set.
     Loop { counter: CounterId, target: u16 },
 }
 

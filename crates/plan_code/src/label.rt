@@ -1,4 +1,4 @@
-//! What a code declares of a place that instructions jump to.
+//! What a code declares of an instruction that others jump to.
 
 ghost use Rattle.std.specs.Prelude.{◌↔◌, IsTrue};
 
@@ -9,11 +9,11 @@ use crate::flags::Counters;
 pub enum Swap {
     /// No swap is pending.
     Idle,
-    /// A swap is pending, and comes after this many frames at least and at most: 1 or more, and the least
-    /// is not above the greatest.
+    /// A swap is pending, and falls after this many frames at least and at most: 1 or more, and the least is not above
+    /// the greatest.
     Within(u16, u16),
-    /// A swap is pending and comes after this many frames at most, 1 or more; or it has been made, and the
-    /// label's next configuration is the current one.
+    /// A swap is pending and falls after this many frames at most, 1 or more; or it has been made, and the label's next
+    /// configuration is the current one.
     Perhaps(u16),
 }
 
@@ -32,16 +32,16 @@ impl Swap {
     }
 }
 
-/// A label: what holds whenever the machine comes to an instruction.
+/// A label: what holds whenever the machine reaches an instruction.
 #[derive(Clone, Copy, Debug, PartialEq, Eq)]
 pub struct Label {
-    /// The place of the instruction in the code, from 0.
+    /// The index of the instruction in the code, from 0.
     pub pc: u16,
-    /// The current configuration, by its place in the table of configurations.
+    /// The current configuration, by its index in the table of configurations.
     pub cur: u16,
-    /// The next configuration, by its place in the table.
+    /// The next configuration, by its index in the table.
     pub next: u16,
-    /// Whether a swap is pending, and when it comes.
+    /// Whether a swap is pending, and when it falls.
     pub pending: Swap,
     /// The counters that are set; others may be set too.
     pub counters: Counters,
@@ -57,6 +57,7 @@ impl Label {
         ensures { IsTrue result ↔ IsLabel configs self.now }
     {
         let has_configs = usize::from(self.cur) < configs && usize::from(self.next) < configs;
+        // Read for the proof: the range of a field is known where the field is read.
         let _pc = self.pc;
         let _counters = self.counters.0;
         has_configs && self.pending.is_within_limits() && 1 <= self.cost

@@ -1,4 +1,4 @@
-//! What holds of the machine, whatever runs it.
+//! What holds of the machine, whatever executes it.
 
 ghost use Rattle.plan_code.specs.Flags.{CountersChangeAlone, ContactsChangeAlone};
 ghost use Rattle.plan_code.specs.Opcodes.{OpcodesAgree};
@@ -14,8 +14,8 @@ pub fn commits()
     ensures at_count { SwapsAtCount }
 {}
 
-/// The law of settling: where no swap is pending the next instruction runs at once, and nothing else
-/// changes; where one is, it is joined. The function does nothing; its contract is the law.
+/// The law of `settle`: where no swap is pending the next instruction runs at once, and nothing else changes; where one
+/// is, it is joined. The function does nothing; its contract is the law.
 pub fn settling()
     ensures settles { AlwaysSettles }
 {}
@@ -32,8 +32,8 @@ pub fn opcodes()
     ensures agree { OpcodesAgree }
 {}
 
-/// The law of faults: bytes have one fault at most, and one exactly where they are the file of no code; want
-/// of memory is none of theirs. The function does nothing; its contract is the law.
+/// The law of faults: bytes have one fault at most, and one exactly where they are the file of no code; out of memory
+/// is none of theirs. The function does nothing; its contract is the law.
 pub fn faults()
     ensures one { HasOneFault }
     ensures without_code { HasFaultWithoutCode }
@@ -41,8 +41,8 @@ pub fn faults()
 {}
 
 /// The law of code files: a file that is cut off is truncated; any other fault lies in the bytes that were read, so
-/// that it stays whatever follows them and nothing that begins with them is a code file; and but for `Trailing` it is the
-/// first one. The place of a field at fault is that of one of the bytes, and those before it are truncated. The
+/// that it stays whatever follows them and nothing that begins with them is a code file; and but for `Trailing` it is
+/// the first one. The offset of a field at fault is that of one of the bytes, and those before it are truncated. The
 /// function does nothing; its contract is the law.
 pub fn file_faults()
     ensures cuts { CutsAreTruncated }

@@ -9,7 +9,7 @@ pub(crate) enum Opcode {
     Until = 0x02,
     /// Suspends until a contact is closed, or open.
     WaitContact = 0x03,
-    /// Commits, with the swap after a number of frames at the least.
+    /// Commits, with the swap after at least a number of frames.
     CommitIn = 0x04,
     /// Commits, with the swap at a CIF count.
     CommitAt = 0x05,
@@ -45,7 +45,7 @@ pub(crate) enum Opcode {
     Jump = 0x21,
     /// Sets a counter.
     Set = 0x22,
-    /// Lowers a counter, and jumps where something is left of it.
+    /// Decrements a counter, and jumps where it is not 0 then.
     Loop = 0x23,
 }
 

@@ -13,9 +13,9 @@ pub(crate) fn contact(reader: &mut Reader) -> Result<ContactId, RecordFault>
     ensures read { Takes (contact_at reader.old.total reader.old.rest) result reader.new }
     ensures total { reader.new.total ≡ reader.old.total }
 {
-    let place = reader.place();
+    let offset = reader.place();
     let number = reader.byte()?;
-    ContactId::new(number).ok_or(RecordFault::Field(place))
+    ContactId::new(number).ok_or(RecordFault::Field(offset))
 }
 
 /// Reads the number of a counter.
@@ -23,9 +23,9 @@ pub(crate) fn counter(reader: &mut Reader) -> Result<CounterId, RecordFault>
     ensures read { Takes (counter_at reader.old.total reader.old.rest) result reader.new }
     ensures total { reader.new.total ≡ reader.old.total }
 {
-    let place = reader.place();
+    let offset = reader.place();
     let number = reader.byte()?;
-    CounterId::new(number).ok_or(RecordFault::Field(place))
+    CounterId::new(number).ok_or(RecordFault::Field(offset))
 }
 
 /// Reads a start address.
@@ -33,9 +33,9 @@ pub(crate) fn start(reader: &mut Reader) -> Result<StartAddress, RecordFault>
     ensures read { Takes (start_at reader.old.total reader.old.rest) result reader.new }
     ensures total { reader.new.total ≡ reader.old.total }
 {
-    let place = reader.place();
+    let offset = reader.place();
     let number = reader.u16()?;
-    StartAddress::new(number).ok_or(RecordFault::Field(place))
+    StartAddress::new(number).ok_or(RecordFault::Field(offset))
 }
 
 /// Reads a number of frames to wait.
@@ -43,9 +43,9 @@ pub(crate) fn frames(reader: &mut Reader) -> Result<Frames, RecordFault>
     ensures read { Takes (times_at reader.old.total reader.old.rest) result reader.new }
     ensures total { reader.new.total ≡ reader.old.total }
 {
-    let place = reader.place();
+    let offset = reader.place();
     let number = reader.u16()?;
-    Frames::new(number).ok_or(RecordFault::Field(place))
+    Frames::new(number).ok_or(RecordFault::Field(offset))
 }
 
 /// Reads how many times the body of a loop is to run.
@@ -53,9 +53,9 @@ pub(crate) fn times(reader: &mut Reader) -> Result<Times, RecordFault>
     ensures read { Takes (times_at reader.old.total reader.old.rest) result reader.new }
     ensures total { reader.new.total ≡ reader.old.total }
 {
-    let place = reader.place();
+    let offset = reader.place();
     let number = reader.u16()?;
-    Times::new(number).ok_or(RecordFault::Field(place))
+    Times::new(number).ok_or(RecordFault::Field(offset))
 }
 
 /// Reads the delay of a commit.
@@ -63,9 +63,9 @@ pub(crate) fn delay(reader: &mut Reader) -> Result<Delay, RecordFault>
     ensures read { Takes (delay_at reader.old.total reader.old.rest) result reader.new }
     ensures total { reader.new.total ≡ reader.old.total }
 {
-    let place = reader.place();
+    let offset = reader.place();
     let number = reader.u16()?;
-    Delay::new(number).ok_or(RecordFault::Field(place))
+    Delay::new(number).ok_or(RecordFault::Field(offset))
 }
 
 /// Reads a frame of the day.
@@ -73,9 +73,9 @@ pub(crate) fn day_frame(reader: &mut Reader) -> Result<DayFrame, RecordFault>
     ensures read { Takes (day_frame_at reader.old.total reader.old.rest) result reader.new }
     ensures total { reader.new.total ≡ reader.old.total }
 {
-    let place = reader.place();
+    let offset = reader.place();
     let number = reader.u32()?;
-    DayFrame::new(number).ok_or(RecordFault::Field(place))
+    DayFrame::new(number).ok_or(RecordFault::Field(offset))
 }
 
 #[tactic(auto, unfolding(crate::specs::Parts::new_sub_at))]
@@ -114,12 +114,12 @@ fn wide_sub_id(reader: &mut Reader) -> Result<SubId, RecordFault>
     ensures read { Takes (wide_sub_id_at reader.old.total reader.old.rest) result reader.new }
     ensures total { reader.new.total ≡ reader.old.total }
 {
-    let at = reader.place();
-    let word = reader.u16()?;
-    if word > 63 {
-        return Err(RecordFault::Field(at));
+    let offset = reader.place();
+    let number = reader.u16()?;
+    if number > 63 {
+        return Err(RecordFault::Field(offset));
     }
-    SubId::new(word as u8).ok_or(RecordFault::Field(at))
+    SubId::new(number as u8).ok_or(RecordFault::Field(offset))
 }
 
 #[tactic(auto, unfolding(crate::specs::Parts::carrier_at))]

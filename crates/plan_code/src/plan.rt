@@ -1,11 +1,11 @@
-//! What a code declares for the whole of its run.
+//! What a code declares for its whole playback.
 
 ghost use Rattle.std.specs.Prelude.{◌↔◌, IsTrue};
 
 use crate::limits::{LONGEST_NOTICE, LONGEST_PERIOD, SHORTEST_NOTICE};
 use fib_codec::Mode;
 
-/// The plan of an ensemble: what its frames carry and what its notices promise.
+/// The plan of an ensemble: what its frames carry and how long its notices are.
 #[derive(Clone, Copy, Debug, PartialEq, Eq)]
 pub struct Plan {
     /// The identifier of the ensemble, EId (EN 300 401 clause 6.4).
@@ -31,6 +31,7 @@ impl Plan {
         let has_period = 1 <= self.period && self.period <= LONGEST_PERIOD;
         let has_notice = SHORTEST_NOTICE <= self.notice && self.notice <= LONGEST_NOTICE;
         let has_budget = 1 <= self.budget;
+        // Read for the proof: the range of a field is known where the field is read.
         let _eid = self.eid;
         has_period && has_notice && has_budget
     }

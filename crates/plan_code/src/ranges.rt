@@ -1,5 +1,5 @@
-//! What the types of operands say: each is within its range. These functions do nothing; a caller learns
-//! their contracts.
+//! What the types of operands say: each is within its range. These functions do nothing; they give their contracts to a
+//! caller's proof.
 ghost use Rattle.mux_config.specs.Configuration.{IsConfiguration, IsSid, IsComponent};
 ghost use Rattle.std.specs.List.{AllByRecursion};
 ghost use Rattle.plan_code.specs.Program.{IsNewSub, IsNewPacket, IsCarrier, IsEdit, IsInstr, IsLine};
@@ -126,11 +126,12 @@ fn instr_in_range(instr: Instr)
     }
 }
 
-/// Each line is formed.
+/// The instruction of each line is within its limits.
 pub(crate) fn lines_in_range(lines: &[Line])
     ensures { AllByRecursion IsLine lines.now }
 {
     for line in lines {
+        // Read for the proof: the range of a field is known where the field is read.
         let _number = line.number;
         instr_in_range(line.instr);
     }

@@ -33,21 +33,21 @@ fn swap(reader: &mut Reader) -> Result<Swap, RecordFault>
     }
 }
 
-/// Reads the place of a label, `low` or later.
-fn place_from(reader: &mut Reader, low: u32) -> Result<u16, RecordFault>
+/// Reads the pc of a label, `low` or later.
+fn pc_from(reader: &mut Reader, low: u32) -> Result<u16, RecordFault>
     ensures read { Takes (word_within reader.old.total low 65535 reader.old.rest) result
         reader.new }
     ensures total { reader.new.total ≡ reader.old.total }
 {
-    let place = reader.place();
-    let word = reader.u16()?;
-    if u32::from(word) < low {
-        return Err(RecordFault::Field(place));
+    let offset = reader.place();
+    let pc = reader.u16()?;
+    if u32::from(pc) < low {
+        return Err(RecordFault::Field(offset));
     }
-    Ok(word)
+    Ok(pc)
 }
 
-/// Reads a label at `low` or later, where there are this many configurations.
+/// Reads a label at the pc `low` or later, where there are this many configurations.
 #[tactic(auto, unfolding(crate::specs::Parts::label_from))]
 pub(crate) fn label(reader: &mut Reader, configs: u16, low: u32) -> Result<Label, RecordFault>
     requires { 1 ≤ configs }
@@ -55,7 +55,7 @@ pub(crate) fn label(reader: &mut Reader, configs: u16, low: u32) -> Result<Label
         reader.new }
     ensures total { reader.new.total ≡ reader.old.total }
 {
-    let pc = place_from(reader, low)?;
+    let pc = pc_from(reader, low)?;
     let cur = reader.u16_within(0, configs - 1)?;
     let next = reader.u16_within(0, configs - 1)?;
     let pending = swap(reader)?;

@@ -1,4 +1,4 @@
-//! Reading an instruction, and the line that it stands in.
+//! Reading a line: its number and its instruction.
 
 ghost use Rattle.std.specs.Prelude.{◌≡◌};
 ghost use Rattle.mux_config.specs.FieldReading.{Takes};
@@ -103,11 +103,11 @@ fn opcode(reader: &mut Reader) -> Result<Opcode, RecordFault>
     ensures read { Takes (opcode_at reader.old.total reader.old.rest) result reader.new }
     ensures total { reader.new.total ≡ reader.old.total }
 {
-    let place = reader.place();
+    let offset = reader.place();
     let byte = reader.byte()?;
     match Opcode::try_from(byte) {
         Ok(opcode) => Ok(opcode),
-        Err(UnknownOpcode) => Err(RecordFault::Field(place)),
+        Err(UnknownOpcode) => Err(RecordFault::Field(offset)),
     }
 }
 

@@ -15,7 +15,7 @@ abbrev pub announced_for : EnsembleInformation → Option ℕ → Option Announc
 announced_for e None = None
 announced_for e (Some low) = if e.change == 0 then None else Some (record { count = e.count; occurrence = low; change = e.change })
 
--- what is announced where this FIG 0/0 is sent, or none
+-- what this FIG 0/0 announces, if anything
 abbrev pub announced_by : Option EnsembleInformation → Option Announcement
 announced_by None = None
 announced_by (Some e) = announced_for e e.occurrence

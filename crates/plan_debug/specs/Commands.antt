@@ -1,4 +1,4 @@
--- What the commands of a debugger mean: how many frames each plays, and what becomes of the debugger.
+-- What the commands of a debugger mean: how many frames each plays, and the debugger after it.
 use Rattle.std.specs.Prelude.{◌≡◌, ◌≢◌, ◌↔◌, ◌⊎◌, ℕ, zero, suc, ◌<◌, ◌≤◌, List, [], ◌∷◌, ◌++◌, replicate, Option, Some, None, IsTrue}
 use Rattle.circular_buffer.specs.Buffer.{keep_last}
 use Rattle.plan_code.specs.Program.{Program, line_at}
@@ -14,7 +14,7 @@ use Rattle.plan_session.specs.declared.command.Command.{Command}
 use Rattle.plan_session.specs.declared.command.Command.TheVariants.{Contact, Run, Next, Break, Clear, Show}
 use Rattle.plan_debug.specs.Announcements.{announced}
 
--- what a debugger stands for: its player, its break line, and the announcements that it keeps, oldest first
+-- what a debugger represents: its player, its break line, and the announcements that it keeps, oldest first
 pub record Debugging : Type 0 where
   pub player : Playing
   pub stop : Option ℕ
@@ -29,7 +29,7 @@ frames n = replicate n Frame
 abbrev pub after_frames : Program → State → ℕ → State
 after_frames p s n = run p s (frames n)
 
--- what a command stands for, where it plays this many frames
+-- the events of a command, where it plays this many frames
 abbrev pub events_of_command : Command → ℕ → List Event
 events_of_command (Contact c closed) n = ContactEvent c closed ∷ []
 events_of_command (Run most) n = frames n
@@ -54,7 +54,7 @@ abbrev pub IsStop : Option ℕ → Option ℕ → Type 0
 IsStop None line = ⊥
 IsStop (Some stop) line = line ≡ Some stop
 
--- a frame ends the command: it changes pc, and with `Run` it leads to the break line
+-- a frame ends the command: it changes pc, and with `Run` pc is then in the break line
 abbrev pub Ends : Option ℕ → Command → ℕ → ℕ → Option ℕ → Type 0
 Ends stop (Contact c closed) before after line = ⊥
 Ends stop (Run most) before after line = (after ≢ before) × IsStop stop line
@@ -71,7 +71,7 @@ EndsAt p stop command s (suc n) =
     let after = after_frames p s (suc n) in
     Ends stop command before.pc after.pc (line_at p after.pc)
 
--- a command plays this many frames: up to and with the first that ends it, and at most as many as it may
+-- a command plays this many frames: up to and including the first that ends it, and at most as many as it may
 pub record IsCount (p : Program) (stop : Option ℕ) (command : Command) (s : State) (n : ℕ) : Type 0 where
   pub within : n ≤ most_frames command
   pub none_before : (m : ℕ) → m < n → EndsAt p stop command s m → ⊥
@@ -86,11 +86,11 @@ IsRun (Break line) = ⊥
 IsRun Clear = ⊥
 IsRun Show = ⊥
 
--- the break line was met by the last of these frames
+-- the break line was reached by the last of these frames
 abbrev pub IsBroken : Program → Option ℕ → Command → State → ℕ → Type 0
 IsBroken p stop command s n = IsRun command × EndsAt p stop command s n
 
--- ---- what is left
+-- ---- after a command
 
 -- the break line after a command
 abbrev pub stop_after : Command → Option ℕ → Option ℕ
@@ -120,7 +120,7 @@ pub record IsView (p : Playing) (r : Report) : Type 0 where
 abbrev pub fresh : Playing → Debugging
 fresh p = record { player = p; stop = None; announcements = [] }
 
--- what a command answers, and what it makes of the debugger
+-- the report of a command, and the debugger after it
 pub record Answers (before : Debugging) (command : Command) (after : Debugging) (r : Report) : Type 0 where
   pub count : IsCount before.player.code before.stop command before.player.state r.frames
   pub broke : IsTrue r.broke ↔ IsBroken before.player.code before.stop command before.player.state r.frames

@@ -11,7 +11,7 @@ use Rattle.plan_runs.specs.TypedRuns.{IsPlayed}
 use Rattle.plan_debug.specs.declared.announcement.Announcement.{Announcement}
 use Rattle.plan_debug.specs.Announcements.{announced}
 
--- a FIG 0/0 with change flags is heard in the bytes, whatever its C/N flag, and the announcement has its fields
+-- a FIG 0/0 with change flags is received in the bytes, whatever its C/N flag, and the announcement has its fields
 pub record IsFlaggedIn (frame : List ℕ) (a : Announcement) : Type 0 where
   pub next : Bool
   pub information : EnsembleInformation
@@ -21,7 +21,7 @@ pub record IsFlaggedIn (frame : List ℕ) (a : Announcement) : Type 0 where
   pub occurrence : information.occurrence ≡ Some a.occurrence
   pub count : a.count ≡ information.count
 
--- none is, or one that has these fields and no other
+-- there is none, or one that has these fields and no other
 abbrev pub IsUnflagged : List ℕ → Type 0
 IsUnflagged frame = (a : Announcement) → IsFlaggedIn frame a → ⊥
 

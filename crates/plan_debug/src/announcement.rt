@@ -1,4 +1,4 @@
-//! Announcements of a swap, as they go out.
+//! Announcements of a swap, as they are sent.
 
 /// A FIG 0/0 with change flags that was sent (EN 300 401 clause 6.4).
 #[derive(Clone, Copy, Debug, PartialEq, Eq)]

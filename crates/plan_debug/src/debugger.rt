@@ -9,7 +9,7 @@ ghost use Rattle.plan_debug.specs.Announcements.{announced};
 ghost use Rattle.plan_debug.specs.Commands.{Ends, EndsAt, IsCount, IsBroken, IsView, events_of_command, most_frames, stop_after, last_bytes, frames};
 
 use crate::announcement::Announcement;
-use crate::heard::announcement_in;
+use crate::decoding::announcement_in;
 use crate::log::Log;
 use crate::report::Report;
 use fib_codec::{FibFrame, Mode};
@@ -22,7 +22,7 @@ use std::marker::Model;
 /// The most frames that `Next` plays.
 const MOST_TO_NEXT: u32 = 5000;
 
-/// Leads a player by commands, and keeps the last 64 announcements that its frames made.
+/// Drives a player with debugger commands, and keeps the last 64 announcements of its frames.
 #[derive(Drop)]
 pub struct Debugger<'a, S: Store> {
     player: Player<'a, S>,
@@ -41,7 +41,7 @@ impl<'a, S: Store> Model for Debugger<'a, S> {
     ghost invariant = { λ d. length d.log ≤ 64 };
 }
 
-/// Frames that were played: how many, the last of them, and whether it ended the command.
+/// The frames that a command played: how many, the last of them, and whether it ended the command.
 #[derive(Clone, Copy)]
 struct Stretch {
     frames: u32,
@@ -56,7 +56,10 @@ fn most_of(command: Command) -> u32
     match command {
         Command::Run(most) => most,
         Command::Next => MOST_TO_NEXT,
-        _ => 0,
+        Command::Contact(..) => 0,
+        Command::Break(_) => 0,
+        Command::Clear => 0,
+        Command::Show => 0,
     }
 }
 
@@ -67,11 +70,14 @@ fn is_end(stop: Option<u16>, command: Command, before: u16, pc: u16, line: u16) 
     match command {
         Command::Run(_) => before != pc && stop == Some(line),
         Command::Next => before != pc,
-        _ => false,
+        Command::Contact(..) => false,
+        Command::Break(_) => false,
+        Command::Clear => false,
+        Command::Show => false,
     }
 }
 
-/// Plays one frame, and notes what it announces.
+/// Plays one frame, and logs what it announces.
 fn play_frame<'a, S: Store>(player: &mut Player<'a, S>, log: &mut Log) -> FibFrame
     requires few { length log.old ≤ 64 }
     ensures state { player.new ≡ played player.old (Frame ∷ []) }
@@ -137,8 +143,8 @@ fn report_here<'a, S: Store>(player: &Player<'a, S>) -> Report
 }
 
 impl<'a, S: Store> Debugger<'a, S> {
-    /// A debugger of this player, without a break line and without announcements. `Err` hands the player back for want
-    /// of memory.
+    /// A debugger of this player, without a break line and without announcements. `Err` returns the player where memory
+    /// is refused.
     pub fn new(alloc: Global, player: Player<'a, S>) -> Result<Debugger<'a, S>, Player<'a, S>>
         ensures begins { IfOk result (λ d.
             d ≡ record { player = player.entry; stop = None; announcements = [] }) }
@@ -179,10 +185,10 @@ impl<'a, S: Store> Debugger<'a, S> {
         }
     }
 
-    /// Carries out a command, and reports where the player then stands. It takes no memory.
+    /// Executes a command, and reports the player's state after it. It does not allocate.
     ///
-    /// `Contact` sets a contact; `Run` and `Next` play frames up to one that ends them, as [`Command`] says; `Break` and
-    /// `Clear` set the break line and take it away; `Show` changes nothing. Only frames change the announcements.
+    /// `Contact` sets a contact; `Run` and `Next` play frames up to one that ends them, as [`Command`] says; `Break`
+    /// sets the break line and `Clear` removes it; `Show` changes nothing. Only frames change the announcements.
     pub fn command(&mut self, command: Command) -> Report
         ensures count { let p = self.old.player in
             IsCount p.code self.old.stop command p.state result.frames }
@@ -217,11 +223,11 @@ impl<'a, S: Store> Debugger<'a, S> {
         }
     }
 
-    /// The announcement at this place, from 0: the oldest of the last 64 is the first.
-    pub fn announcement(&self, place: usize) -> Option<Announcement>
-        ensures value { result ≡ slice_get self.now.announcements place }
+    /// The announcement at this index, from 0: the oldest of the last 64 is the first.
+    pub fn announcement(&self, index: usize) -> Option<Announcement>
+        ensures value { result ≡ slice_get self.now.announcements index }
         ensures few { length self.now.announcements ≤ 64 }
     {
-        self.log.get(place)
+        self.log.get(index)
     }
 }

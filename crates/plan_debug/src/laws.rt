@@ -2,8 +2,8 @@
 
 ghost use Rattle.plan_debug.specs.Flagged.{AnnouncementsAreFlagged};
 
-/// The law of announcements: those that a debugger notes of the frames of a typed code are exactly the FIG 0/0 with
-/// change flags that are heard in the bytes of these frames, one for each frame that has one, in order.
+/// The law of announcements: those that a debugger logs of the frames of a typed code are exactly the FIG 0/0 with
+/// change flags that are received in the bytes of these frames, one for each frame that has one, in order.
 pub fn announcements()
     ensures { AnnouncementsAreFlagged }
 {

@@ -1,13 +1,13 @@
-//! The debugger: a player that is led by commands.
+//! The debugger: a player that is driven by commands.
 //!
-//! A [`Debugger`] plays a player's frames up to a line or up to the next change of place, and keeps the last
-//! announcements that went out: the FIG 0/0 with change flags. `specs/Commands.antt` says how many frames a command
-//! plays, `specs/Announcements.antt` which announcements they make.
+//! A [`Debugger`] plays a player's frames up to a line or up to the next change of the instruction, and keeps the last
+//! announcements that were sent: the FIG 0/0 with change flags. How many frames a command plays is defined in
+//! `specs/Commands.antt`, which announcements they make in `specs/Announcements.antt`.
 #![tactic(auto)]
 
 pub mod announcement;
 pub mod debugger;
-mod heard;
+mod decoding;
 pub mod laws;
 mod log;
 pub mod report;

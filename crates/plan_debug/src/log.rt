@@ -39,7 +39,7 @@ impl Log {
         })
     }
 
-    /// Adds an announcement, where there is one; where 64 are there, the oldest goes.
+    /// Adds an announcement, if there is one; beyond 64, the oldest is dropped.
     pub fn note(&mut self, announcement: Option<Announcement>)
         ensures { self.new ≡ keep_last 64 (self.old ++ announcement_list announcement) }
     {
@@ -48,11 +48,11 @@ impl Log {
         }
     }
 
-    /// The announcement at this place, from 0, oldest first.
-    pub fn get(&self, place: usize) -> Option<Announcement>
-        ensures value { result ≡ slice_get self.now place }
+    /// The announcement at this index, from 0, oldest first.
+    pub fn get(&self, index: usize) -> Option<Announcement>
+        ensures value { result ≡ slice_get self.now index }
         ensures few { length self.now ≤ 64 }
     {
-        self.ring.get(place).copied()
+        self.ring.get(index).copied()
     }
 }

@@ -1,4 +1,4 @@
--- What an instruction leaves: what the flow becomes, with the counters and the allowance.
+-- The flow after an instruction, with the counters and the allowance.
 use Rattle.std.proofs.Common.{◌≡◌, ℕ, ◌-◌, Bool, true, false, if◌then◌else◌, nat_lt, refl}
 use Rattle.plan_code.specs.declared.plan.Plan.{Plan}
 use Rattle.plan_code.specs.declared.flags.Counters.{Counters}

@@ -1,4 +1,5 @@
--- Why an instruction is refused by what is known of the configurations and the swap: the first cause in the order tested.
+-- Why an instruction is refused for what is known of the configurations and the swap: the first cause in the order
+-- tested.
 use Rattle.std.specs.Prelude.{◌≡◌, ◌≢◌, ◌<◌, ◌⊎◌, Option, Some, None}
 use Rattle.mux_config.specs.Edits.{edit_fault}
 use Rattle.mux_config.specs.Sound.{first_fault}
@@ -36,7 +37,7 @@ CommitRefused plan t fault cause =
     orelse Where (t.next ≡ t.current) NoChange
     orelse Where (HasRoom plan t → ⊥) Round
 
--- ---- at an instruction; where it jumps to is judged by the code's labels, and a loop's counter by those that are set
+-- ---- at an instruction; the verifier checks its target against the code's labels, and a loop's counter
 
 abbrev pub FlowRefused : Plan → Instr → Known → Cause → Type 0
 FlowRefused plan (Edits edit) t = Where (t.pending ≢ Idle) Pending orelse WhereSome (edit_fault edit t.next) OfEdit

@@ -1,4 +1,5 @@
--- What is known of the configurations and the swap alone: what an instruction leaves of it, and where two ways meet.
+-- What is known of the configurations and the swap alone: what holds after an instruction, and where two paths
+-- merge.
 use Rattle.std.specs.Prelude.{◌≡◌, ℕ, ◌-◌, Bool, true, false, if◌then◌else◌, min, max}
 use Rattle.mux_config.specs.Configuration.{Configuration}
 use Rattle.plan_code.specs.declared.plan.Plan.{Plan}
@@ -15,7 +16,7 @@ use Rattle.plan_flow.specs.Rules.{Known, leaves, FitsSwap}
 abbrev pub Flow : Type 0
 Flow = FlowIn Configuration
 
--- over what its stores stand for
+-- over what its stores represent
 abbrev pub held : {S : Type 0} → (S → Configuration) → FlowIn S → Flow
 held content f = record { current = content f.current; next = content f.next; pending = f.pending }
 
@@ -36,7 +37,7 @@ flow_of t = record { current = t.current; next = t.next; pending = t.pending }
 abbrev pub moved : Plan → Instr → Flow → Flow
 moved plan i t = flow_of (leaves plan i (known_at t))
 
--- the counter that a loop counts is set
+-- a loop's counter is set
 abbrev pub HasItsCounter : Instr → Counters → Type 0
 HasItsCounter (Loop counter target) counters = is_set counters counter ≡ true
 HasItsCounter _ counters = Unit {0}
@@ -60,7 +61,7 @@ rests _ = false
 abbrev pub left_over : Plan → Instr → ℕ → ℕ
 left_over plan i allowance = if rests i then plan.budget else allowance - 1
 
--- ---- ways that meet at a label
+-- ---- paths that merge at a label
 
 -- a state fits another: it knows as much or more
 abbrev pub FitsFlow : Flow → Flow → Type 0
@@ -78,7 +79,7 @@ widest Idle Idle = Idle
 widest (Within lo hi) (Within least most) = Within (min lo least) (max hi most)
 widest s t = Perhaps (max (latest s) (latest t))
 
--- where a swap is pending, or may be, that way says which configurations are known
+-- where a swap is pending, or may be, on one path, the configurations are those of that path
 abbrev pub telling : Swap → Flow → Flow → Flow
 telling Idle s t = t
 telling _ s t = s

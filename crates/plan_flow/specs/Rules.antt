@@ -1,4 +1,4 @@
--- The rules of a plan: what is known at an instruction, what the instruction needs, and what it leaves.
+-- The rules of a plan: what is known at an instruction, what the instruction needs, and what holds after it.
 use Rattle.std.specs.Prelude.{◌≡◌, ◌≢◌, ℕ, ◌+◌, ◌-◌, ◌*◌, ◌<◌, ◌≤◌, ◌⊎◌, Bool, true, false, if◌then◌else◌, nat_lt, Option, Some, None}
 use Rattle.mux_config.specs.Configuration.{Configuration}
 use Rattle.mux_config.specs.Edits.{edit_fault, changed}
@@ -15,7 +15,7 @@ use Rattle.plan_code.specs.declared.instr.Instr.TheVariants.{Wait, Until, WaitCo
 use Rattle.plan_code.specs.Flags.{is_set, with_counter, without_counter}
 use Rattle.plan_code.specs.Machine.{IsSwapCount}
 
--- what is known whenever the machine comes to an instruction
+-- what is known whenever the machine reaches an instruction
 pub record Known : Type 0 where
   pub current : Configuration
   pub next : Configuration
@@ -36,8 +36,8 @@ pages_alone plan c = rounds plan.mode (page_set c None)
 abbrev pub notice_pages : Plan → Known → ℕ
 notice_pages plan t = rounds plan.mode (page_set t.current (Some t.next))
 
--- the notice has room for all pages within the period, and for three rounds of them, and the phase after the
--- swap has room for the pages of the next configuration within the period
+-- the notice has room for all pages within the period, and for three cycles of them, and the phase after the swap
+-- has room for the pages of the next configuration within the period
 pub record HasRoom (plan : Plan) (t : Known) : Type 0 where
   pub within_period : notice_pages plan t ≤ plan.period
   pub three_times : 3 * notice_pages plan t ≤ plan.notice
@@ -53,8 +53,8 @@ pub record CanCommit (plan : Plan) (t : Known) : Type 0 where
   pub changes : t.next ≢ t.current
   pub room : HasRoom plan t
 
--- a wait ends before each frame in which the swap can come, or not before the last of them; where the swap may
--- have been made already, what is known after the wait is as little
+-- a wait ends before each frame in which the swap can fall, or not before the last of them; where the swap may
+-- have been made already, it may have been after the wait too
 abbrev pub IsCertain : ℕ → Swap → Type 0
 IsCertain frames Idle = Unit {0}
 IsCertain frames (Within lo hi) = (frames < lo) ⊎ (hi ≤ frames)
@@ -80,21 +80,21 @@ IsFine plan (Test contact target) t = Unit {0}
 IsFine plan (Jump target) t = Unit {0}
 IsFine plan End t = Unit {0}
 
--- ---- what an instruction leaves
+-- ---- what holds after an instruction
 
 -- the swap has been made
 abbrev pub known_after_swap : Known → Known
 known_after_swap t = record t { current = t.next; pending = Idle }
 
--- after this many frames, of which the swap is certain to come in one, or certain to come after all, or is
--- not known to come in any
+-- after this many frames, where the swap is certain to fall in one of them, or after all of them, or neither is
+-- certain
 abbrev pub waited : ℕ → Swap → Known → Known
 waited frames Idle t = t
 waited frames (Within lo hi) t =
     if nat_lt frames lo then record t { pending = Within (lo - frames) (hi - frames) } else known_after_swap t
 waited frames (Perhaps hi) t = if nat_lt frames hi then record t { pending = Perhaps (hi - frames) } else known_after_swap t
 
--- after one frame or more, where the swap comes in this many frames at most
+-- after one frame or more, where the swap falls within this many frames
 abbrev pub perhaps_swapped : ℕ → Known → Known
 perhaps_swapped hi t = if nat_lt 1 hi then record t { pending = Perhaps (hi - 1) } else known_after_swap t
 
@@ -141,7 +141,7 @@ abbrev pub HasConfigurationsOf : Known → Known → Type 0
 HasConfigurationsOf t declared = (t.current ≡ declared.current) × (t.next ≡ declared.next)
 
 -- the swap of a state and that of a label: nothing pending in both; bounds inside the label's; or a swap that
--- comes no later than the label says, or has been made, to a label at which it may have been made
+-- falls no later than the label says, or has been made, to a label at which it may have been made
 abbrev pub FitsSwap : Swap → Swap → Known → Known → Type 0
 FitsSwap Idle Idle t declared = HasConfigurationsOf t declared
 FitsSwap Idle (Within low high) t declared = ⊥
@@ -153,9 +153,9 @@ FitsSwap (Perhaps hi) Idle t declared = ⊥
 FitsSwap (Perhaps hi) (Within low high) t declared = ⊥
 FitsSwap (Perhaps hi) (Perhaps high) t declared = HasConfigurationsOf t declared × (hi ≤ high)
 
--- ---- where an instruction leads
+-- ---- the successors of an instruction
 
--- where it goes to its target: nothing changes, so a loop's counter is set there
+-- where it jumps to its target: nothing changes, so a loop's counter is set there
 abbrev pub target_of : Instr → Option ℕ
 target_of (Test contact target) = Some target
 target_of (Jump target) = Some target
@@ -168,7 +168,7 @@ continues (Jump target) = false
 continues End = false
 continues _ = true
 
--- whatever comes, the next instruction runs in a later frame, if any does
+-- in any case, the next instruction runs in a later frame, if any does
 abbrev pub suspends : Instr → Bool
 suspends (Wait frames) = true
 suspends (Until day) = true

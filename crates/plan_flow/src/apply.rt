@@ -1,4 +1,4 @@
-//! The transfer function: one instruction, and what it leaves of what is known.
+//! The transfer function: what is known after an instruction.
 
 ghost use Rattle.std.specs.Prelude.{◌≡◌, ◌↔◌, ℕ, IsOk, OnOk, IfErr};
 ghost use Rattle.plan_code.specs.declared.flags.Counters.{Counters};
@@ -15,7 +15,7 @@ use crate::swaps::{is_certain, is_surely_pending, pause, settle, swap, wait};
 use mux_config::{Edit, Store};
 use plan_code::{Frames, Instr, Plan};
 
-/// Edits the next configuration: refused are `Pending` and `Edit`.
+/// Edits the next configuration. Refusals: `Pending` and `Edit`.
 fn edit<S: Store>(plan: &Plan, edit: Edit, flow: &mut Flow<S>) -> Result<(), Cause>
     ensures cause { result ≡ unless (flow_cause plan.now (Edits edit) (known_at
         (held S.content flow.old))) }
@@ -34,7 +34,7 @@ fn edit<S: Store>(plan: &Plan, edit: Edit, flow: &mut Flow<S>) -> Result<(), Cau
     Ok(())
 }
 
-/// Waits this many frames: refused is `SwapUncertain`.
+/// Waits this many frames. Refusal: `SwapUncertain`.
 fn wait_frames<S: Store>(plan: &Plan, frames: Frames, flow: &mut Flow<S>) -> Result<(), Cause>
     ensures cause { result ≡ unless (flow_cause plan.now (Wait frames) (known_at
         (held S.content flow.old))) }
@@ -51,7 +51,7 @@ fn wait_frames<S: Store>(plan: &Plan, frames: Frames, flow: &mut Flow<S>) -> Res
     Ok(())
 }
 
-/// Waits for the swap: refused is `JoinIdle`.
+/// Waits for the swap. Refusal: `JoinIdle`.
 fn join<S: Store>(plan: &Plan, flow: &mut Flow<S>) -> Result<(), Cause>
     ensures cause { result ≡ unless (flow_cause plan.now Join (known_at
         (held S.content flow.old))) }
@@ -68,7 +68,7 @@ fn join<S: Store>(plan: &Plan, flow: &mut Flow<S>) -> Result<(), Cause>
     Ok(())
 }
 
-/// What an instruction leaves, or the first cause why it is refused.
+/// Updates what is known by an instruction, or returns the first cause why it is refused.
 fn run<S: Store>(plan: &Plan, instr: Instr, flow: &mut Flow<S>) -> Result<(), Cause>
     ensures cause { result ≡ unless (flow_cause plan.now instr (known_at
         (held S.content flow.old))) }
@@ -98,16 +98,16 @@ fn run<S: Store>(plan: &Plan, instr: Instr, flow: &mut Flow<S>) -> Result<(), Ca
 }
 
 impl<S: Store> Flow<S> {
-    /// Becomes what the instruction leaves, where it continues to the one after it. Only what is known of the
-    /// configurations and the swap is looked at: a loop's counter is taken as set, and labels are not.
+    /// Updates the flow to what holds after the instruction, where it continues to the one after it. Only the
+    /// configurations and the swap are checked: a loop's counter is assumed to be set, and labels are not looked at.
     ///
     /// # Errors
     ///
-    /// The first cause in this order, and then the flow is unchanged. An edit: `Pending`, where a swap is pending or may be;
-    /// `Edit`. A commit: `Pending`; `Notice`, where the delay is shorter than the notice, or `Count`, where no swap falls
-    /// on the CIF count; `Config`, where the next configuration is not sound; `NoChange`, where it is the current one;
-    /// `Round`, where its pages have no room. A wait: `SwapUncertain`, where it may end before the swap or after it. A
-    /// join: `JoinIdle`, where it may be that no swap is pending.
+    /// The first cause in this order, and then the flow is unchanged. An edit: `Pending`, where a swap is pending or
+    /// may be; `Edit`. A commit: `Pending`; `Notice`, where the delay is shorter than the notice, or `Count`, where no
+    /// swap falls on the CIF count; `Config`, where the next configuration is not sound; `NoChange`, where it is the
+    /// current one; `Round`, where its pages have no room. A wait: `SwapUncertain`, where it may end before the swap or
+    /// after it. A join: `JoinIdle`, where perhaps no swap is pending.
     pub fn apply(&mut self, plan: &Plan, instr: Instr) -> Result<(), Cause>
         ensures fine { (counters : Counters) (allowance : ℕ) → HasItsCounter instr counters
             → (IsOk result ↔ IsFine plan.now instr (known_with (held S.content self.old)

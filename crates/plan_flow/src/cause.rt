@@ -3,15 +3,15 @@
 use mux_config::{ConfigFault, EditFault};
 use thiserror::Error;
 
-/// Why a code is refused at an instruction. Printed it is its name; `Edit` and `Config` are followed by what
-/// is wrong with the edit or with the configuration.
+/// Why a code is refused at an instruction. It is printed as its name; after `Edit` and `Config` comes what is wrong
+/// with the edit or with the configuration.
 #[derive(Clone, Copy, Debug, PartialEq, Eq, Error)]
 pub enum Cause {
-    /// No label stands where the instruction jumps to.
+    /// There is no label at the target of the instruction.
     #[error("Target")]
     Target,
-    /// No label stands at the beginning; or no label stands at an instruction to which the one before does
-    /// not continue; or a label stands past the last instruction.
+    /// There is no label at the first instruction, or at one to which the instruction before does not continue; or
+    /// there is one past the last instruction.
     #[error("Table")]
     Table,
     /// The edit has this fault on the next configuration.
@@ -32,7 +32,7 @@ pub enum Cause {
     /// A commit at a CIF count of 5000 or more, or on which no swap can fall in the transmission mode.
     #[error("Count")]
     Count,
-    /// A join where no swap is pending, or may be none.
+    /// A join where no swap is pending, or perhaps none.
     #[error("JoinIdle")]
     JoinIdle,
     /// A wait that may end before the swap or after it.
@@ -41,7 +41,7 @@ pub enum Cause {
     /// A loop on a counter that may not be set.
     #[error("CounterUnset")]
     CounterUnset,
-    /// What is known where the machine comes to a label does not fit what the label declares.
+    /// What is known where the machine reaches a label does not fit what the label declares.
     #[error("Mismatch")]
     Mismatch,
     /// More instructions may run in one frame than the budget, or than a label's cost.
@@ -51,7 +51,7 @@ pub enum Cause {
     /// the notice.
     #[error("Round")]
     Round,
-    /// The last instruction continues to the one after it, which is not there.
+    /// The last instruction continues to the one after it, which does not exist.
     #[error("FallsOff")]
     FallsOff,
 }

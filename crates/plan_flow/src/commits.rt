@@ -26,8 +26,8 @@ fn has_room<S: Store>(plan: &Plan, flow: &Flow<S>) -> bool
         && pages_alone(plan, &flow.next) <= usize::from(plan.period)
 }
 
-/// Whether the next configuration can be committed, where no swap is pending: refused are `Config`, where it
-/// is not sound, `NoChange` and `Round`.
+/// Whether the next configuration can be committed, where no swap is pending. Refusals: `Config`, where it is not
+/// sound, `NoChange` and `Round`.
 fn test_change<S: Store>(plan: &Plan, flow: &Flow<S>) -> Result<(), Cause>
     ensures cause { result ≡ unless (change_cause plan.now (known_at (held S.content flow.now))) }
     ensures fine { IsOk result ↔ (IsSound (S.content flow.now.next)

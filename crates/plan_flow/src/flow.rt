@@ -8,15 +8,15 @@ use mux_config::Store;
 use mux_config::reconfiguration::{has_same_services, has_same_subs};
 use plan_code::Swap;
 
-/// What is known of the configurations and of the swap from the current one to the next, with the configurations held in
-/// two stores.
+/// What is known of the configurations and of the swap from the current one to the next, with the configurations in two
+/// stores.
 #[derive(Drop)]
 pub struct Flow<S: Store> {
     /// The current configuration.
     pub current: S,
     /// The next configuration.
     pub next: S,
-    /// Whether a swap is pending, and when it comes.
+    /// Whether a swap is pending, and when it falls.
     pub pending: Swap,
 }
 

@@ -1,9 +1,9 @@
-//! The rules of a plan, carried out: what is known where an instruction stands, and what it leaves.
+//! The rules of a plan as code: what is known at an instruction, and what holds after it.
 //!
-//! A [`Flow`] is what is known of the configurations and of the swap from the current one to the next. `apply` is the one
-//! transfer function: it changes a flow as an instruction does, or refuses the instruction with the first cause of
-//! `specs/Causes.antt`. What an instruction needs and leaves stands in `specs/Rules.antt`. Where ways meet, a flow `fits`
-//! what is known there, and `meet` finds what that is. The verifier and the compiler stand on it.
+//! A [`Flow`] is what is known of the configurations and of the swap from the current one to the next. `apply` is the
+//! one transfer function: it changes a flow as an instruction does, or refuses the instruction with the first cause of
+//! `specs/Causes.antt`. What an instruction needs, and what holds after it, is defined in `specs/Rules.antt`. Where
+//! paths merge, a flow `fits` what is known there, and `meet` computes that. The verifier and the compiler use it.
 #![tactic(auto)]
 
 mod apply;

@@ -1,4 +1,4 @@
-//! Where two ways meet.
+//! Merging two control-flow paths.
 
 ghost use Rattle.std.specs.Prelude.{◌≡◌, ◌↔◌, ◌&&◌, true, false, min, max, IsTrue};
 ghost use Rattle.plan_flow.specs.Flows.{held, known_at, latest, widest, merged, FitsFlow};
@@ -33,7 +33,7 @@ fn lesser(a: u16, b: u16) -> u16
     if a < b { a } else { b }
 }
 
-/// What a label says of the swap where two ways meet.
+/// What a label declares of the swap where two paths merge.
 fn widest(first: Swap, second: Swap) -> Swap
     ensures { result ≡ widest first second }
 {
@@ -56,7 +56,7 @@ fn has<S: Store, T: Store>(flow: &Flow<S>, current: &T, next: &T) -> bool
     is_same(&flow.current, current) && is_same(&flow.next, next)
 }
 
-/// Whether two ways can meet: each fits what is known where they do.
+/// Whether two paths can merge: each fits what is known after the merge.
 fn agree<S: Store>(first: &Flow<S>, second: &Flow<S>) -> bool
     ensures { IsTrue result ↔ (FitsFlow (held S.content first.now) (merged
         (held S.content first.now) (held S.content second.now)) × FitsFlow
@@ -104,8 +104,7 @@ impl<S: Store> Flow<S> {
         }
     }
 
-    /// Becomes what is known where this way and another meet. False where one of them does not fit it, and then this one is
-    /// unchanged.
+    /// Merges this path with another. False where one of them does not fit the result, and then this one is unchanged.
     pub fn meet(&mut self, other: &Flow<S>) -> bool
         ensures met { result ≡ true → held S.content self.new ≡ merged (held S.content self.old)
             (held S.content other.now) }

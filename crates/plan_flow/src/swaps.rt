@@ -1,4 +1,4 @@
-//! What becomes of a pending swap while the machine waits.
+//! A pending swap while the machine waits.
 
 ghost use Rattle.std.specs.Prelude.{◌≡◌};
 ghost use Rattle.plan_flow.specs.Rules.{known_after_swap, waited, perhaps_swapped, paused, settled};
@@ -9,8 +9,8 @@ use crate::flow::Flow;
 use mux_config::Store;
 use plan_code::Swap;
 
-/// Whether it is certain that a wait of this many frames ends before the swap, or that it ends after it; or
-/// nothing more is lost where the swap may have been made already.
+/// Whether it is certain that a wait of this many frames ends before the swap, or that it ends after it; or the swap
+/// may have been made already, and may have been after the wait too.
 pub(crate) fn is_certain(frames: u16, pending: Swap) -> bool
     ensures { result ≡ is_certain frames pending }
 {
@@ -65,7 +65,7 @@ pub(crate) fn wait<S: Store>(frames: u16, flow: &mut Flow<S>)
     }
 }
 
-/// One frame or more has passed, where the swap comes after this many at most.
+/// One frame or more has passed, where the swap falls after this many at most.
 fn perhaps_swap<S: Store>(high: u16, flow: &mut Flow<S>)
     ensures { held S.content flow.new ≡ flow_of (perhaps_swapped high (known_at
         (held S.content flow.old))) }

@@ -1,4 +1,4 @@
-//! Where an instruction leads.
+//! The successors of an instruction.
 
 ghost use Rattle.std.specs.Prelude.{◌≡◌};
 ghost use Rattle.plan_flow.specs.Rules.{continues, suspends, target_of};
@@ -26,7 +26,7 @@ pub fn continues(instr: Instr) -> bool
     }
 }
 
-/// Whether the instruction that follows runs in a later frame, if one follows at all.
+/// Whether the next instruction runs in a later frame, if one follows at all.
 pub fn suspends(instr: Instr) -> bool
     ensures { result ≡ suspends instr }
 {
@@ -47,7 +47,7 @@ pub fn suspends(instr: Instr) -> bool
     }
 }
 
-/// The instruction to which one can jump, counted from 0.
+/// The target of an instruction that can jump, counted from 0.
 pub fn target_of(instr: Instr) -> Option<u16>
     ensures { result ≡ target_of instr }
 {

@@ -1,4 +1,4 @@
--- What a listener makes of the FIGs of entries: it hears the entries one after another.
+-- A listener that hears the FIGs of entries: it hears the entries one after another.
 use Rattle.std.specs.Prelude.{IfSome}
 use Rattle.std.proofs.Common.{◌≡◌, ℕ, ◌/◌, ◌%◌, ◌≤◌, ◌==◌, Bool, true, false, cond, List, [], ◌∷◌, ◌++◌, map, Option, Some, None, refl, ap, ◌∙◌, subst, arith}
 use Rattle.mux_entries.specs.Entries.{EnsembleInformation}

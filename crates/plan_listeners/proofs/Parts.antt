@@ -1,4 +1,4 @@
--- Part of a set of entries, by the identifiers that are known, and what an entry more makes of it.
+-- Part of a set of entries, by the identifiers that are known, and the part after one more entry.
 use Rattle.std.specs.Prelude.{◌||◌, slice_get}
 use Rattle.std.proofs.Common.{◌≡◌, ◌≢◌, ℕ, suc, ◌<◌, ◌≤◌, ◌==◌, Bool, true, false, cond, List, [], ◌∷◌, length, Some, inl, inr, ◌⊎◌, refl, ap, sym, ◌∙◌, subst, lt-ltb, le-ltb, arith}
 use Rattle.std.proofs.lemmas.Bool.{eq-eqb, ne_eqb}

@@ -1,4 +1,4 @@
--- A listener that is tuned, and what entries of the current and of the next configuration make of it.
+-- A listener that is tuned, before and after entries of the current and of the next configuration.
 use Rattle.std.proofs.Common.{◌≡◌, ℕ, ◌==◌, Bool, true, false, cond, List, [], ◌∷◌, take, zero, suc, Option, Some, None, inl, inr, ◌⊎◌, refl, ap, sym, ◌∙◌, subst}
 use Rattle.mux_config.specs.Configuration.{Configuration}
 use Rattle.std.specs.List.{AllByRecursion}

@@ -1,4 +1,4 @@
--- Small examples: what a listener makes of one FIB, and statements that hold of one run and fail of another.
+-- Small examples: a listener to one FIB, and statements that hold of one run and fail of another.
 use Rattle.std.specs.Prelude.{take, map, ◌++◌}
 use Rattle.std.proofs.Common.{◌≡◌, ℕ, true, false, List, [], ◌∷◌, Option, Some, None, inr, refl, ap, replicate, arith}
 use Rattle.mux_eep.specs.declared.sizes.EepSet.TheVariants.{A}

@@ -2,8 +2,8 @@
 
 ghost use Rattle.plan_runs.specs.Listening.{ListenersAreRight};
 
-/// The law of listeners: a listener that is new before any frame of a run of a typed code never lacks room. After P
-/// frames of one phase that it heard tuned it knows the current configuration; and where it heard a whole notice, it
+/// The law of listeners: a listener that starts before any frame of a run of a typed code never runs out of room. After
+/// P frames of one phase that it heard tuned it knows the current configuration; and where it heard a whole notice, it
 /// knows the new configuration from the first FIB of the frame of the swap on.
 pub fn listener()
     ensures { ListenersAreRight }

@@ -1,4 +1,4 @@
--- A line that holds no steps, and why.
+-- A line that lists no steps, and why.
 use Rattle.std.proofs.Common.{◌≢◌, ℕ, ◌≤◌, List, length}
 use Rattle.std.specs.Str.{IsUtf8}
 use Rattle.plan_session.specs.declared.event_fault.EventFault.{EventFault}

@@ -1,4 +1,4 @@
--- Lines, and what is told of them and of frames: each definition where it holds, and where it fails.
+-- Lines, and what is reported of them and of frames: each definition where it holds, and where it fails.
 use Rattle.std.specs.Prelude.{codes, replicate}
 use Rattle.std.proofs.Common.{◌≡◌, ℕ, List, [], ◌∷◌, length, Result, Ok, Err, Some, None, true, false, refl, sym, ap, arith, inl, inr}
 use Rattle.std.proofs.lemmas.Fmt.{decimal_digit}

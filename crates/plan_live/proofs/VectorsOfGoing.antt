@@ -1,4 +1,5 @@
--- A live run from one moment to the next, by the line `frames 2`: each definition where it holds, and where it fails.
+-- A live run from one point to the next, by the line `frames 2`: each definition where it holds, and where it
+-- fails.
 use Rattle.std.proofs.Common.{◌≡◌, ℕ, ◌-◌, ◌≤◌, List, [], ◌∷◌, ◌++◌, length, Some, None, true, false, refl, ap, arith, inl, inr, ◌+◌, length-append}
 use Rattle.console.specs.Lines.{lines_of}
 use Rattle.plan_code.specs.declared.hold.Hold.TheVariants.{Ended}

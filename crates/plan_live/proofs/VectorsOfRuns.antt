@@ -1,5 +1,5 @@
--- What a live run comes to, by the line `frames 2` and a code that waits for a frame and ends: each definition where it
--- holds, and where it fails.
+-- The outcome of a live run, by the line `frames 2` and a code that waits for a frame and ends: each definition
+-- where it holds, and where it fails.
 use Rattle.std.proofs.Common.{◌≡◌, ℕ, List, [], ◌∷◌, ◌++◌, length, take, Option, Some, None, Ok, Err, true, false, ◌-◌, refl, sym, ap, subst, ◌∙◌, arith, inl, inr, append-nil, length-append}
 use Rattle.std.proofs.lemmas.Bool.{false≢true}
 use Rattle.std.specs.List.{AllByRecursion}

@@ -1,4 +1,4 @@
--- How a live run of a code's file begins, and what it then comes to.
+-- How a live run of a code's file begins, and its outcome.
 use Rattle.std.specs.Prelude.{◌≡◌, ◌≢◌, ℕ, Bool, Result, Ok, Err, Some}
 use Rattle.plan_code.specs.declared.fault.CodeFault.TheVariants.{Memory as NoMemoryForCode}
 use Rattle.plan_code.specs.Faults.{HasCodeFault}
@@ -17,7 +17,7 @@ pub record Begins (r : Request) (p : Playing) : Type 0 where
   pub ready : CanStart p.code r
   pub begins : IsAtStart p.code (start_of p.code r) p
 
--- what a run that begins with this player comes to, memory for the code aside
+-- the outcome of a run that begins with this player, barring allocation failure for the code
 abbrev pub Lives : ℕ → Bool → Playing → Streamed → Streamed → Result (Unit {0}) LiveFault → Type 0
 Lives skip status p old new (Ok done) = Whole skip status p old new
 Lives skip status p old new (Err (Playback fault)) = fault ≡ Code NoMemoryForCode
@@ -31,13 +31,13 @@ IsBeginFault r (Start fault) = (code : Program) × IsTypedFileOf code r.file × 
 IsBeginFault r (Events fault) = ⊥
 IsBeginFault r (Write frames bytes) = ⊥
 
--- what holds where a fault comes: that it is one, or that the run began; and where it did not, nothing was read, written or
--- told
+-- what holds where a fault is returned: it is one, or the run began; and where it did not, nothing was read,
+-- written or reported
 abbrev pub IsLiveFault : Request → Streamed → Streamed → LiveFault → Type 0
 IsLiveFault r old new (Playback fault) = IsBeginFault r fault × (new ≡ old)
 IsLiveFault r old new (Stopped stop) = (p : Playing) × Begins r p
 
--- the end that is blamed for a stop has failed
+-- the stream that a stop names has failed
 abbrev pub HasLiveFailed : LiveFault → Bool → Bool → Type 0
 HasLiveFailed (Playback fault) input output = Unit {0}
 HasLiveFailed (Stopped stop) input output = HasFailed stop input output

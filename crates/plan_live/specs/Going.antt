@@ -1,4 +1,4 @@
--- A live run from one moment to the next. No public contract needs this to be believed.
+-- A live run from one point to the next. No public contract needs this to be believed.
 use Rattle.std.specs.Prelude.{◌≡◌, ℕ, ◌+◌, ◌-◌, ◌<◌, ◌≤◌, nat_lt, if◌then◌else◌, Bool, List, [], ◌++◌, length, take}
 use Rattle.std.specs.Io.KnownBytes.{Appends}
 use Rattle.plan_runs.specs.declared.event.Event.{Event}
@@ -25,7 +25,7 @@ pub record FrameWent (skip : ℕ) (bytes : List ℕ) (n m : ℕ) (before after :
   pub told : after.told ≡ before.told
   pub out : Appends before.written after.written (kept skip n bytes)
 
--- the output took so many bytes of it, which is no skipped one
+-- the output took this many bytes of it, which is no skipped one
 pub record FrameCut (skip : ℕ) (bytes : List ℕ) (n : ℕ) (before after : Streamed) (frames taken : ℕ) : Type 0 where
   pub whole : frames ≡ n - skip
   pub passed : skip ≤ n
@@ -40,8 +40,8 @@ FrameStops skip bytes n before after Read = ⊥
 FrameStops skip bytes n before after Memory = ⊥
 FrameStops skip bytes n before after TooMany = (after ≡ before) × (n ≡ most)
 
--- from a player whose next frame has number n these events lead to another, whose next frame has number m; their frames
--- were written, but for those that are skipped, and what is told of them was told
+-- from a player whose next frame has number n these events lead to another, whose next frame has number m; their
+-- frames were written, but for those that are skipped, and their notes were reported
 pub record Went (skip : ℕ) (status : Bool) (old : Playing) (n : ℕ) (events : List Event) (new : Playing) (m : ℕ) (before after : Streamed) : Type 0 where
   pub state : new ≡ played old events
   pub count : m ≡ n + length (frames_of old events)
@@ -49,7 +49,8 @@ pub record Went (skip : ℕ) (status : Bool) (old : Playing) (n : ℕ) (events :
   pub out : Appends before.written after.written (kept_bytes (skip - n) old events)
   pub telling : Grows before.told after.told (notes_if status n old.code old.state events)
 
--- some of them were done, which makes so many frames in all, and then the output failed, or the count was at its end
+-- some of them were played, which makes this many frames in all, and then the output failed, or the count was at
+-- its end
 pub record CutIn (skip : ℕ) (status : Bool) (old : Playing) (n : ℕ) (events : List Event) (before after : Streamed) (made frames bytes : ℕ) : Type 0 where
   pub done : List Event
   pub rest : List Event
@@ -67,7 +68,7 @@ StopsIn skip status old n events before after Read = ⊥
 StopsIn skip status old n events before after Memory = ⊥
 StopsIn skip status old n events before after TooMany = (frames : ℕ) × CutIn skip status old n events before after most frames 0
 
--- a line was done
+-- a line was processed
 pub record LineWent (skip : ℕ) (status : Bool) (old : Playing) (n number : ℕ) (line : List ℕ) (new : Playing) (m : ℕ) (before after : Streamed) : Type 0 where
   pub steps : List Step
   pub messages : List Message
@@ -86,7 +87,7 @@ LineStops skip status old n line before after Memory = after ≡ before
 LineStops skip status old n line before after TooMany =
     (steps : List Step) × LineHolds line steps × ((frames : ℕ) × CutIn skip status old n (events_of steps) before after most frames 0)
 
--- some lines are done: this is the player, its next frame has number m, and the next line follows this many
+-- some lines are processed: this is the player, its next frame has number m, and the next line follows this many
 pub record Going (skip : ℕ) (status : Bool) (p : Playing) (old now : Streamed) (q : Playing) (m number : ℕ) : Type 0 where
   pub lines : List (List ℕ)
   pub reached : Reached skip status p old now lines

@@ -1,4 +1,4 @@
--- What the lines of a live run hold, and what is told of them.
+-- What the lines of a live run list, and what is reported of them.
 use Rattle.std.specs.Prelude.{◌≡◌, ◌⊎◌, ℕ, ◌+◌, ◌<◌, ◌≤◌, Bool, List, [], ◌∷◌, ◌++◌, length}
 use Rattle.std.specs.Str.{IsUtf8}
 use Rattle.plan_player.specs.Playing.{Playing, played}
@@ -17,19 +17,19 @@ use Rattle.plan_live.specs.Notes.{notes_if}
 
 -- ---- one line
 
--- a line holds these steps: it is short enough, a text, and as an event file of its own it holds them
+-- a line lists these steps: it is short enough, a text, and as an event file of its own it lists them
 pub record LineHolds (line : List ℕ) (steps : List Step) : Type 0 where
   pub short : length line ≤ 65536
   pub text : IsUtf8 line
   pub holds : Holds line steps
 
--- a line that is short enough and a text, but holds no steps
+-- a line that is short enough and a text, but lists no steps
 pub record HoldsNone (line : List ℕ) : Type 0 where
   pub short : length line ≤ 65536
   pub text : IsUtf8 line
   pub none : (steps : List Step) → Holds line steps → ⊥
 
--- the line holds no steps, and this is why
+-- the line lists no steps, and this is why
 abbrev pub IsLineFault : List ℕ → LineFault → Type 0
 IsLineFault line Limit = 65536 < length line
 IsLineFault line NoText = (length line ≤ 65536) × (IsUtf8 line → ⊥)
@@ -37,16 +37,16 @@ IsLineFault line (Byte column) = HoldsNone line
 IsLineFault line (Number column) = HoldsNone line
 IsLineFault line (Expected column) = HoldsNone line
 
--- ---- what a line comes to
+-- ---- the outcome of a line
 
--- the line of this number comes to these steps, from this player on, whose next frame has number n: it holds them, and
--- the notes of their frames are told; or it holds none, does nothing, and its fault is told
+-- the line of this number has these steps, from this player on, whose next frame has number n: it lists them, and
+-- the notes of their frames are reported; or it lists none, does nothing, and its fault is reported
 abbrev pub LineDoes : Bool → Playing → ℕ → ℕ → List ℕ → List Step → List Message → Type 0
 LineDoes status p n number line steps told =
     (LineHolds line steps × (told ≡ notes_if status n p.code p.state (events_of steps)))
     ⊎ ((fault : LineFault) × IsLineFault line fault × (steps ≡ []) × (told ≡ Bad number fault ∷ []))
 
--- the lines, of which the first has the number after this one, come to these steps and messages, one after another
+-- the lines, of which the first has the number after this one, have these steps and messages, one after another
 abbrev pub LinesDo : Bool → Playing → ℕ → ℕ → List (List ℕ) → List Step → List Message → Type 0
 LinesDo status p n number [] steps told = (steps ≡ []) × (told ≡ [])
 LinesDo status p n number (line ∷ lines) steps told =
@@ -56,14 +56,14 @@ LinesDo status p n number (line ∷ lines) steps told =
 
 -- ---- reading a line
 
--- what the fault of an event file says of the only line that it has
+-- the fault of a line, given that of the event file which it forms
 abbrev pub unread_of : EventFault → Unread
 unread_of (AtByte position) = IsBad (Byte position.column)
 unread_of (AtNumber position) = IsBad (Number position.column)
 unread_of (AtOther position) = IsBad (Expected position.column)
 unread_of NoMemory = Memory
 
--- what is known where the steps of a line can't be had
+-- what is known where the steps of a line can't be read
 abbrev pub IsUnread : List ℕ → Unread → Type 0
 IsUnread line (IsBad fault) = IsLineFault line fault
 IsUnread line Memory = Unit {0}

@@ -1,4 +1,4 @@
--- What a live run comes to: what was read, written and told.
+-- The outcome of a live run: what was read, written and reported.
 use Rattle.std.specs.Prelude.{◌≡◌, ◌⊎◌, ℕ, ◌-◌, ◌<◌, Bool, true, List, [], ◌∷◌, ◌++◌, length, take, drop, Option}
 use Rattle.std.specs.List.{AllByRecursion, concat}
 use Rattle.std.specs.Io.KnownBytes.{Appends, IsAtEnd}
@@ -20,7 +20,7 @@ use Rattle.plan_live.specs.Growing.{Grows}
 abbrev pub kept_bytes : ℕ → Playing → List Event → List ℕ
 kept_bytes skip p events = concat (drop skip (frames_of p events))
 
--- ---- the three ends, before and after
+-- ---- the three streams, before and after
 
 pub record Streamed : Type 0 where
   pub left : Option (List ℕ)
@@ -30,10 +30,10 @@ pub record Streamed : Type 0 where
 abbrev pub streamed : Option (List ℕ) → Option (List ℕ) → Option (List Message) → Streamed
 streamed left written told = record { left = left; written = written; told = told }
 
--- ---- lines that are done
+-- ---- lines that are processed
 
--- these lines were read; the frames of the steps that they hold were written, but for the first `skip`; and what is told
--- of them was told
+-- these lines were read; the frames of the steps that they list were written, but for the first `skip`; and their
+-- notes were reported
 pub record Reached (skip : ℕ) (status : Bool) (p : Playing) (old new : Streamed) (lines : List (List ℕ)) : Type 0 where
   pub given : GivesLines old.left lines new.left
   pub steps : List Step
@@ -42,7 +42,7 @@ pub record Reached (skip : ℕ) (status : Bool) (p : Playing) (old new : Streame
   pub out : Appends old.written new.written (kept_bytes skip p (events_of steps))
   pub telling : Grows old.told new.told messages
 
--- some lines are done
+-- some lines are processed
 abbrev pub AreDone : ℕ → Bool → Playing → Streamed → Streamed → Type 0
 AreDone skip status p old new = (lines : List (List ℕ)) × Reached skip status p old new lines
 
@@ -50,7 +50,8 @@ AreDone skip status p old new = (lines : List (List ℕ)) × Reached skip status
 abbrev pub Whole : ℕ → Bool → Playing → Streamed → Streamed → Type 0
 Whole skip status p old new = (lines : List (List ℕ)) × Reached skip status p old new lines × IsAtEnd new.left
 
--- each time that a line was asked for, all lines before it were done: these are the moments at which it was
+-- each time that a line was asked for, all lines before it had been processed: these are the states at which it
+-- was
 pub record IsPrompt (skip : ℕ) (status : Bool) (p : Playing) (old : Streamed) (before after : Option (List Streamed)) : Type 0 where
   pub moments : List Streamed
   pub grows : Grows before after moments
@@ -62,23 +63,24 @@ pub record IsPrompt (skip : ℕ) (status : Bool) (p : Playing) (old : Streamed) 
 abbrev pub most : ℕ
 most = 18446744073709551615
 
--- some lines were done, and then the input gave no more
+-- some lines were processed, and then reading the input failed
 abbrev pub Broken : ℕ → Bool → Playing → Streamed → Streamed → Type 0
 Broken skip status p old new = (lines : List (List ℕ)) × (rest : Option (List ℕ)) × Reached skip status p old (record new { left = rest }) lines
 
--- some lines were done, and one more was read, of which nothing was
+-- some lines were processed, and one more was read, of which nothing was played
 abbrev pub Unserved : ℕ → Bool → Playing → Streamed → Streamed → Type 0
 Unserved skip status p old new = (lines : List (List ℕ)) × (last : List ℕ) × (rest : Option (List ℕ))
     × Reached skip status p old (record new { left = rest }) lines × GivesLines old.left (lines ++ last ∷ []) new.left
 
--- where the output fails at the next of these events, of which this many bytes went out; or between two frames
+-- where the output fails at the next of these events, of which it took this many bytes; or between two frames
 abbrev pub IsCutAt : ℕ → ℕ → Playing → List Event → Type 0
 IsCutAt bytes passed p rest =
     (bytes ≡ 0)
     ⊎ ((more : List Event) × (rest ≡ Frame ∷ more) × (bytes < length (next_frame p)) × (passed ≡ 0))
 
--- some lines were done, and one more was read, of which the first events were done: so many frames were made in all, so
--- many of them went out, which are those without the skipped ones, and so many bytes of the next one
+-- some lines were processed, and one more was read, of which the first events were played: this many frames were
+-- made in all, this many of them were written, which are those without the skipped ones, and this many bytes of
+-- the next one
 pub record Cut (skip : ℕ) (status : Bool) (p : Playing) (old new : Streamed) (made frames bytes : ℕ) : Type 0 where
   pub lines : List (List ℕ)
   pub last : List ℕ
@@ -107,7 +109,7 @@ StoppedBy skip status p old new TooMany =
     ((lines : List (List ℕ)) × Reached skip status p old new lines × (length lines ≡ most))
     ⊎ ((frames : ℕ) × Cut skip status p old new most frames 0)
 
--- the end that is blamed for the stop has failed: the input, or the output
+-- the stream that the stop names has failed: the input, or the output
 abbrev pub HasFailed : Stop → Bool → Bool → Type 0
 HasFailed (Write frames bytes) input output = output ≡ true
 HasFailed Read input output = input ≡ true

@@ -1,4 +1,4 @@
--- What is told of the frames of a run: the swaps, the notices that begin, and the end.
+-- What is reported of the frames of a run: the swaps, the notices that begin, and the end.
 use Rattle.std.specs.Prelude.{ℕ, ◌+◌, Bool, true, false, if◌then◌else◌, List, [], ◌∷◌, ◌++◌}
 use Rattle.mux_config.specs.Change.{change_of, bits_of}
 use Rattle.plan_code.specs.declared.hold.Hold.{Hold}
@@ -23,7 +23,7 @@ abbrev pub notice_note : ℕ → ℕ → Plan → State → List Message
 notice_note n count plan t =
     if is_first_noticed plan.notice t.left then Notice n count (bits_of (change_of t.current t.next)) (low_of_swap count t.left) ∷ [] else []
 
--- the plan has come to its end after the frame, and had not before it
+-- the plan has ended after the frame, and had not before it
 abbrev pub has_ended : Hold → Bool
 has_ended (Waits n) = false
 has_ended (WaitsDay t) = false
@@ -34,11 +34,12 @@ has_ended Ended = true
 abbrev pub end_note : ℕ → State → State → List Message
 end_note n s t = if has_ended s.hold then [] else if has_ended t.hold then End n s.count ∷ [] else []
 
--- what is told of the frame of this number
+-- what is reported of the frame of this number
 abbrev pub frame_notes : ℕ → Program → State → List Message
 frame_notes n p s = swap_note n s ++ (notice_note n s.count p.plan (shown p s) ++ end_note n s (after_frame p s))
 
--- what is told of the frames of these events, of which the first has this number; nothing where no status is wanted
+-- what is reported of the frames of these events, of which the first has this number; nothing where no status is
+-- wanted
 abbrev pub notes : ℕ → Program → State → List Event → List Message
 notes n p s [] = []
 notes n p s (Contact c closed ∷ es) = notes n p (happens p s (Contact c closed)) es

@@ -11,56 +11,57 @@ use crate::message::Message;
 use arrayvec::ArrayVec;
 use console::lines::Heard;
 
-/// Takes messages. One that can't be delivered is lost: nothing waits for it.
+/// Takes messages. One that can't be delivered is lost; nothing blocks on it.
 pub trait Messages {
     ghost use Rattle.std.specs.Prelude.{List, Option};
     ghost use Rattle.plan_live.specs.declared.message.Message.{Message};
 
-    /// The messages so far, where it tells them.
+    /// The messages so far, where they are known.
     ghost told: { Self → Option (List Message) };
 
-    /// Takes one more.
+    /// Takes a message.
     fn tell(&mut self, message: Message)
         ensures { Grows (told self.old) (told self.new) (message ∷ []) };
 }
 
-/// The three ends of a live run: an input that gives lines, an output that takes bytes, and what takes messages. No line
-/// is read before the output has passed on all that it took.
+/// The three streams of a live run: an input of lines, an output of bytes, and a sink of messages. No line is read
+/// before the output is flushed.
 pub trait Ends {
     ghost use Rattle.std.specs.Prelude.{ℕ, List, Option, Bool};
     ghost use Rattle.plan_live.specs.declared.message.Message.{Message};
     ghost use Rattle.plan_live.specs.Living.{Streamed};
 
-    /// The bytes that are left of the input, where it tells them.
+    /// The bytes that are left of the input, where they are known.
     ghost left: { Self → Option (List ℕ) };
 
-    /// The bytes that the output has taken, where it tells them.
+    /// The bytes that the output has taken, where they are known.
     ghost written: { Self → Option (List ℕ) };
 
-    /// The messages so far, where they are told.
+    /// The messages so far, where they are known.
     ghost told: { Self → Option (List Message) };
 
-    /// Whether the output has passed on all that it took.
+    /// Whether the output is flushed.
     ghost is_flushed: { Self → Bool };
 
-    /// What was left, written and told each time that a line was asked for, where it tells that.
+    /// What was left, written and reported each time that a line was asked for, where that is known.
     ghost moments: { Self → Option (List Streamed) };
 
     /// Whether the input could not be read.
     ghost input_failed: { Self → Bool };
 
-    /// Whether the output could not take or pass on all that it was given.
+    /// Whether a write to the output or a flush of it has failed.
     ghost output_failed: { Self → Bool };
 
-    /// Reads up to the next line's feed and no byte further, and puts the line, without its feed, into `line`. At any
-    /// answer but `Line` what stands in `line` means nothing.
+    /// Reads up to the next line feed and no byte further, and puts the line, without its feed, into `line`. At any
+    /// result but `Line` the content of `line` is unspecified.
     fn next(&mut self, line: &mut ArrayVec<u8, 65536>) -> Heard
         requires flushed { is_flushed self.old ≡ true }
         ensures line { result ≡ IsLine → GivesLine (left self.old) line.new.items (left self.new) }
         ensures bound { result ≡ IsLine → length line.new.items ≤ 65536 }
-        ensures long { result ≡ IsLong
-            → (line : List ℕ) × (65536 < length line) × GivesLine (left self.old) line (left self.new) }
-        ensures end { result ≡ IsEnd → Keeps (left self.old) (left self.new) × IsAtEnd (left self.new) }
+        ensures long { result ≡ IsLong → (line : List ℕ) × (65536 < length line)
+            × GivesLine (left self.old) line (left self.new) }
+        ensures end { result ≡ IsEnd
+            → Keeps (left self.old) (left self.new) × IsAtEnd (left self.new) }
         ensures failed { result ≡ IsFailed → input_failed self.new ≡ true }
         ensures moments { Grows (moments self.old) (moments self.new)
             (streamed (left self.old) (written self.old) (told self.old) ∷ []) }
@@ -79,7 +80,7 @@ pub trait Ends {
         ensures left { left self.new ≡ left self.old }
         ensures told { told self.new ≡ told self.old };
 
-    /// Passes on all that the output has taken; whether that was done.
+    /// Flushes the output, and returns whether that succeeded.
     fn flush(&mut self) -> bool
         ensures flushed { result ≡ true → is_flushed self.new ≡ true }
         ensures failed { result ≡ false → output_failed self.new ≡ true }

@@ -6,14 +6,14 @@ use thiserror::Error;
 /// Why no further line is read.
 #[derive(Clone, Copy, Debug, PartialEq, Eq, Error)]
 pub enum Stop {
-    /// The output failed: it took this many frames whole, without those that were skipped, and this many bytes of the
+    /// The output failed: it took this many whole frames, without those that were skipped, and this many bytes of the
     /// one after them, fewer than a frame has.
     #[error("write failed after {frames} frames and {bytes} bytes")]
     Write { frames: u64, bytes: usize },
     /// The input could not be read.
     #[error("cannot read -")]
     Read,
-    /// There was no memory for the steps of a line.
+    /// Out of memory for the steps of a line.
     #[error("no memory")]
     Memory,
     /// 2^64 - 1 frames were made, or as many lines were read.
@@ -27,7 +27,7 @@ pub enum LiveFault {
     /// The code can't be played from the start, as `run` would say: `Code`, `Refused` or `Start`. No line was read.
     #[error("{0}")]
     Playback(RunFault),
-    /// It was played, and stopped.
+    /// The run began, and stopped.
     #[error("{0}")]
     Stopped(Stop),
 }

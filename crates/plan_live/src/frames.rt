@@ -1,4 +1,4 @@
-//! The frames of steps, made, and written but for those that are skipped.
+//! Making and writing the frames of steps.
 
 ghost use Rattle.std.specs.Prelude.{◌≡◌, ◌-◌, ◌<◌, ◌≤◌, [], ◌∷◌, length, take, true, replicate, OnOk, OnErr, IfErr};
 ghost use Rattle.std.specs.List.{AllByRecursion};
@@ -20,7 +20,7 @@ use mux_config::Store;
 use plan_player::Player;
 use plan_session::Step;
 
-/// How many frames went out of this many that were made.
+/// How many frames were written of this many that were made.
 fn written_of(made: u64, skip: u32) -> u64
     ensures { result ≡ made - skip }
 {
@@ -82,7 +82,7 @@ fn make_frame<'a, S: Store>(player: &mut Player<'a, S>) -> FibFrame
     player.frame()
 }
 
-/// Makes the next frame, writes it, and tells what is to be told of it.
+/// Makes the next frame, writes it, and reports its notes.
 fn play_frame<'a, S: Store, E: Ends>(
     player: &mut Player<'a, S>,
     made: &mut u64,

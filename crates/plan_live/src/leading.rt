@@ -1,4 +1,4 @@
-//! A player that is led line by line.
+//! A player that is driven line by line.
 
 ghost use Rattle.std.specs.Prelude.{◌≡◌, ◌≤◌, length, true, OnOk, IfErr};
 ghost use Rattle.plan_live.specs.Going.{LineWent, LineStops};
@@ -16,7 +16,7 @@ use mux_config::Store;
 use plan_player::Player;
 use std::alloc::Global;
 
-/// Does what the line of this number asks for; one that holds no steps is told.
+/// Plays the steps of the line of this number, or reports that it lists none.
 fn take_line<'a, S: Store, E: Ends>(
     alloc: Global,
     player: &mut Player<'a, S>,
@@ -56,14 +56,14 @@ fn take_line<'a, S: Store, E: Ends>(
     }
 }
 
-/// Leads a player by the lines of an input to its end. The steps that a line holds are played before the next line is
-/// read: the bytes of their frames are written, but for the first `skip` frames of the run, and flushed. A line that holds
-/// no steps does nothing and is told. No more memory is taken than the steps of one line need.
+/// Drives a player with the lines of an input to its end. The steps that a line lists are played before the next line
+/// is read: the bytes of their frames are written, but for the first `skip` frames of the run, and flushed. A line that
+/// lists no steps does nothing and is reported. No more memory is taken than the steps of one line need.
 ///
 /// # Errors
 ///
-/// `Write` where the output failed, with what it took in all; `Memory` where memory for a line's steps is refused;
-/// `Read` where the input failed; `TooMany` after 2^64 - 1 frames or lines. No line is read after it.
+/// `Write` where the output failed, with all that it took; `Memory` where memory for a line's steps is refused; `Read`
+/// where the input failed; `TooMany` after 2^64 - 1 frames or lines. No line is read after it.
 pub fn lead<'a, S: Store, E: Ends>(
     alloc: Global,
     player: &mut Player<'a, S>,
@@ -79,7 +79,7 @@ pub fn lead<'a, S: Store, E: Ends>(
         (streamed (E.left ends.new) (E.written ends.new) (E.told ends.new)) stop) }
     ensures failed { IfErr result (λ stop.
         HasFailed stop (E.input_failed ends.new) (E.output_failed ends.new)) }
-    // Each time that a line is asked for, all lines before it are done.
+    // Each time that a line is asked for, all lines before it have been processed.
     ensures prompt { IsPrompt options.skip options.status player.old
         (streamed (E.left ends.old) (E.written ends.old) (E.told ends.old))
         (E.moments ends.old) (E.moments ends.new) }

@@ -1,9 +1,9 @@
-//! Live: a plan that is led line by line while it runs, and continues where it was.
+//! Live playback: a plan that is driven line by line while it runs.
 //!
-//! [`live`] plays a code's file over the lines of an input as they come, and [`lead`] a player that stands at its start.
-//! Both stand over three [`Ends`]: lines in, bytes out, and messages; [`Streams`] are such ends over a reader, a writer
-//! and what takes [`Messages`]. What a line holds is defined in `specs/Lines.antt`, what is told of frames in
-//! `specs/Notes.antt`, and what a live run comes to in `specs/Living.antt`.
+//! [`live`] plays a code's file over the lines of an input as they arrive, and [`lead`] a player at its start. Both use
+//! three streams, [`Ends`]: lines in, bytes out, and messages; [`Streams`] implements them over a reader, a writer and
+//! [`Messages`]. What a line lists is defined in `specs/Lines.antt`, what is reported of frames in `specs/Notes.antt`,
+//! and the outcome of a live run in `specs/Living.antt`.
 #![tactic(auto)]
 
 pub mod ends;

@@ -1,4 +1,4 @@
-//! The steps that a line holds.
+//! The steps that a line lists.
 
 ghost use Rattle.std.specs.Prelude.{◌≡◌, ◌≤◌, length, IfOk, IfErr};
 ghost use Rattle.plan_live.specs.Lines.{LineHolds, IsUnread, unread_of};
@@ -8,16 +8,16 @@ use plan_session::{EventFault, Step, read_events};
 use std::alloc::Global;
 use std::str;
 
-/// Why the steps of a line can't be had.
+/// Why the steps of a line can't be read.
 #[derive(Clone, Copy)]
 pub(crate) enum Unread {
-    /// It holds none.
+    /// It lists none.
     Bad(LineFault),
-    /// There was no memory for them.
+    /// Out of memory.
     Memory,
 }
 
-/// What the fault of an event file says of the only line that it has.
+/// The fault of a line, given that of the event file which it forms.
 fn fault_of(fault: EventFault) -> Unread
     ensures { result ≡ unread_of fault }
 {

@@ -1,4 +1,4 @@
-//! What is told of a frame: a swap, a notice that begins, the end.
+//! What is reported of a frame: a swap, a notice that begins, the end.
 
 ghost use Rattle.std.specs.Prelude.{◌≡◌, ◌<◌, ℕ, ◌∷◌, [], Option};
 ghost use Rattle.plan_code.specs.Machine.{State};
@@ -16,7 +16,7 @@ use plan_code::Hold;
 use plan_code::limits::COUNTS;
 use plan_player::Player;
 
-/// What the state before a frame says of it.
+/// The part of the state before a frame on which its notes depend.
 #[derive(Clone, Copy)]
 pub(crate) struct Look {
     count: u16,
@@ -37,7 +37,7 @@ fn has_ended(hold: Hold) -> bool
     }
 }
 
-/// What the state before the next frame says of it.
+/// The part of the state before the next frame on which its notes depend.
 pub(crate) fn look_at<S: Store>(player: &Player<'_, S>) -> Look
     ensures { result ≡ look_of player.now.state }
 {
@@ -51,7 +51,7 @@ pub(crate) fn look_at<S: Store>(player: &Player<'_, S>) -> Look
     }
 }
 
-/// Grows a swap.
+/// Appends a swap.
 fn tell_swap<E: Ends>(before: Look, frame: u64, ends: &mut E)
     ensures told { (s : State) → before ≡ look_of s →
         Grows (E.told ends.old) (E.told ends.new) (swap_note frame s) }
@@ -80,7 +80,7 @@ fn begins_notice(notice: u8, left: Option<u16>) -> bool
     }
 }
 
-/// Grows that a notice begins with the last frame, which had this count.
+/// Appends that a notice begins with the last frame, which had this count.
 fn tell_notice<S: Store, E: Ends>(player: &Player<'_, S>, count: u16, frame: u64, ends: &mut E)
     ensures told { let p = player.now in (t : State) → p.state ≡ with_next_counts p.code.plan t →
         Grows (E.told ends.old) (E.told ends.new) (notice_note frame count p.code.plan t) }
@@ -100,7 +100,7 @@ fn tell_notice<S: Store, E: Ends>(player: &Player<'_, S>, count: u16, frame: u64
     }
 }
 
-/// Grows the end.
+/// Appends the end.
 fn tell_end<E: Ends>(before: Look, hold: Hold, frame: u64, ends: &mut E)
     ensures told { (s t : State) → before ≡ look_of s → hold ≡ t.hold →
         Grows (E.told ends.old) (E.told ends.new) (end_note frame s t) }
@@ -117,9 +117,11 @@ fn tell_end<E: Ends>(before: Look, hold: Hold, frame: u64, ends: &mut E)
     }
 }
 
-/// Grows the notes of the last frame of a player, which had this number in the run, and before which its state looked so.
+/// Appends the notes of the last frame of a player, which had this number in the run, and before which its state was
+/// this.
 fn tell_notes<S: Store, E: Ends>(player: &Player<'_, S>, before: Look, frame: u64, ends: &mut E)
-    ensures told { (s t : State) → before ≡ look_of s → player.now.state ≡ with_next_counts player.now.code.plan t →
+    ensures told { (s t : State) → before ≡ look_of s
+        → player.now.state ≡ with_next_counts player.now.code.plan t →
         Grows (E.told ends.old) (E.told ends.new) (notes_between frame player.now.code.plan s t) }
     ensures flushed { E.is_flushed ends.new ≡ E.is_flushed ends.old }
     ensures moments { E.moments ends.new ≡ E.moments ends.old }
@@ -131,8 +133,8 @@ fn tell_notes<S: Store, E: Ends>(player: &Player<'_, S>, before: Look, frame: u6
     tell_end(before, player.hold(), frame, ends);
 }
 
-/// Grows what is to be told of the last frame of a player, where status is wanted; the frame had this number in the run,
-/// and before it the player's state looked so.
+/// Appends the notes of the last frame of a player, where status is wanted; the frame had this number in the run, and
+/// before it the player's state was this.
 pub(crate) fn tell_frame<S: Store, E: Ends>(
     player: &Player<'_, S>,
     before: Look,

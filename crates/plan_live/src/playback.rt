@@ -1,4 +1,4 @@
-//! A code's file, led line by line.
+//! A code's file, driven line by line.
 
 ghost use Rattle.std.specs.Prelude.{◌≡◌, [], true, OnOk, IfErr};
 ghost use Rattle.plan_player.specs.Playing.{Playing};
@@ -16,13 +16,13 @@ use plan_player::{Player, Start};
 use plan_session::{RunFault, typed_code};
 use std::alloc::Global;
 
-/// Plays the code in a file over the lines of an input as they come: the player starts at this CIF count and frame of the
-/// day, with these contacts closed. It ends where the input does.
+/// Plays the code in a file over the lines of an input as they arrive: the player starts at this CIF count and frame of
+/// the day, with these contacts closed. It ends where the input does.
 ///
 /// # Errors
 ///
 /// The first of these: `Playback` where the code can't be played from there, with `Code`, `Refused` or `Start`; nothing
-/// was read, written or told then. `Stopped` where the run stops, as [`lead`] says.
+/// was read, written or reported then. `Stopped` where the run stops, as [`lead`] says.
 pub fn live<E: Ends>(
     alloc: Global,
     code: &[u8],
@@ -43,10 +43,10 @@ pub fn live<E: Ends>(
     ensures first_fault { IfErr result (λ e. IsLiveFault (asked code.now [] count day contacts)
         (streamed (E.left ends.old) (E.written ends.old) (E.told ends.old))
         (streamed (E.left ends.new) (E.written ends.new) (E.told ends.new)) e) }
-    // A stop that blames an end comes where that end has failed.
+    // A stop names a stream only where that stream has failed.
     ensures failed { IfErr result (λ e.
         HasLiveFailed e (E.input_failed ends.new) (E.output_failed ends.new)) }
-    // Each time that a line is asked for, all lines before it are done.
+    // Each time that a line is asked for, all lines before it have been processed.
     ensures prompt { (p : Playing) → Begins (asked code.now [] count day contacts) p
         → IsPrompt options.skip options.status p
         (streamed (E.left ends.old) (E.written ends.old) (E.told ends.old))

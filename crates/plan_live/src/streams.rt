@@ -1,4 +1,4 @@
-//! The three ends over a reader, a writer and what takes messages.
+//! The three streams over a reader, a writer and a sink of messages.
 
 ghost use Rattle.std.specs.Prelude.{◌≡◌};
 
@@ -9,8 +9,8 @@ use console::lines::{Heard, Lines};
 use console::output::write_out;
 use std::io::{Read, Write};
 
-/// The lines of a reader, a writer that is flushed, and what takes messages. A write that fails, takes nothing or is
-/// interrupted is not tried again. They tell what the reader, the writer and the messages tell.
+/// The lines of a reader, a writer that is flushed, and a sink of messages. A write that fails, takes nothing or is
+/// interrupted is not retried. What is known of the reader, the writer and the messages is known of the streams.
 #[derive(Drop)]
 pub struct Streams<'a, R: Read + Drop, W, M> {
     lines: Lines<R>,
@@ -25,7 +25,7 @@ impl<'a, R: Read + Drop, W: Write, M: Messages> Streams<'a, R, W, M> {
     ghost use Rattle.std.specs.Prelude.{◌≡◌, true, false};
     ghost use Rattle.plan_live.specs.Streaming.{writer_of, messages_of};
 
-    /// The ends over these, into which nothing was written so far.
+    /// The streams over these, to which nothing was written so far.
     pub fn new(reader: R, out: &'a mut W, messages: &'a mut M) -> Self
         ensures left { result.lines ≡ R.remaining reader }
         ensures written { W.contents (writer_of result) ≡ W.contents out.old }

@@ -1,4 +1,4 @@
--- The words of commands tell them apart.
+-- The tokens of commands distinguish them.
 use Rattle.std.proofs.Common.{◌≡◌, ◌≢◌, ℕ, ◌<◌, ◌++◌, Bool, List, [], ◌∷◌, refl, sym, ap, ◌∙◌, arith}
 use Rattle.std.specs.Prelude.{get_or}
 use Rattle.std.specs.Fmt.{decimal}

@@ -1,4 +1,5 @@
--- A text that is refused at a byte is refused so whatever follows, and what is kept of it answers as the whole does.
+-- A text that is refused at a byte is refused so whatever follows, and what is kept of it has the result of the
+-- whole.
 use Rattle.std.proofs.Common.{◌≡◌, ◌≢◌, ℕ, Bool, true, false, cond, List, [], ◌∷◌, ◌++◌, refl, sym, ap, subst, ◌∙◌, inl, inr, append_assoc, true≢false}
 use Rattle.std.proofs.lemmas.List.{append-nil}
 use Rattle.std.specs.Prelude.{◌↔◌, Result, Err, IsUtf8}

@@ -1,4 +1,4 @@
--- Items that are spelled by words, one after another: their words tell them apart, and are read item by item.
+-- Items that are spelled by tokens, one after another: their tokens distinguish them, and are read item by item.
 use Rattle.std.proofs.Common.{◌≡◌, ◌≢◌, ℕ, ◌++◌, List, [], ◌∷◌, flat_map, refl, sym, ap, ◌∙◌, subst, append_assoc}
 use Rattle.std.proofs.lemmas.List.{append-nil}
 use Rattle.std.specs.List.{AllByRecursion}

@@ -1,4 +1,4 @@
--- A text that is read piece by piece: the bytes that came, and those that are left.
+-- A text that is read piece by piece: the bytes so far, and those that are left.
 use Rattle.std.proofs.Common.{◌≡◌, ℕ, ◌+◌, ◌<◌, List, [], ◌∷◌, ◌++◌, length, take, drop, get_or, Option, Some, None, sym, ap, subst, ◌∙◌, add-one, append_assoc, refl}
 use Rattle.std.specs.Prelude.{IfSome, IsUtf8}
 use Rattle.std.specs.Io.KnownBytes.{Consumes, IsAtEnd}

@@ -1,4 +1,4 @@
--- The words of steps tell them apart.
+-- The tokens of steps distinguish them.
 use Rattle.std.proofs.Common.{◌≡◌, ◌≢◌, ℕ, ◌++◌, Bool, true, false, List, [], ◌∷◌, length, sym, ap, ◌∙◌, arith}
 use Rattle.std.proofs.lemmas.Fmt.{decimal_injective}
 use Rattle.plan_session.specs.declared.step.Step.{Step}

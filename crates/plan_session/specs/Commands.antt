@@ -15,7 +15,7 @@ IsCommand (Break line) = (1 ≤ line) × (line ≤ 65535)
 IsCommand Clear = Unit {0}
 IsCommand Show = Unit {0}
 
--- the words that spell a command
+-- the tokens that spell a command
 abbrev pub command_words : Command → List (List ℕ)
 command_words (Contact c closed) = codes "contact" ∷ decimal c ∷ contact_word closed ∷ []
 command_words (Run n) = codes "run" ∷ decimal n ∷ []
@@ -24,10 +24,10 @@ command_words (Break line) = codes "break" ∷ decimal line ∷ []
 command_words Clear = codes "clear" ∷ []
 command_words Show = codes "show" ∷ []
 
--- the text holds these commands
+-- the text lists these commands
 abbrev pub HoldsCommands : List ℕ → List Command → Type 0
 HoldsCommands text commands = HoldsItems command_words IsCommand text commands
 
--- a text holds one list of commands at most
+-- a text has at most one list of commands
 abbrev pub HoldsOneListOfCommands : Type 0
 HoldsOneListOfCommands = HoldsOneListOf command_words IsCommand

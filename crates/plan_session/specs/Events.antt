@@ -14,7 +14,7 @@ abbrev pub IsStep : Step → Type 0
 IsStep (Contact c closed) = c < 16
 IsStep (Frames n) = (1 ≤ n) × (n ≤ FRAMES_A_DAY)
 
--- the words that spell a step
+-- the tokens that spell a step
 abbrev pub first_word : Bool → List ℕ
 first_word true = codes "frames"
 first_word false = codes "contact"
@@ -25,11 +25,11 @@ step_words (Frames n) = codes "frames" ∷ decimal n ∷ []
 
 -- ---- texts
 
--- the text holds these steps
+-- the text lists these steps
 abbrev pub Holds : List ℕ → List Step → Type 0
 Holds text steps = HoldsItems step_words IsStep text steps
 
--- a text holds one list of steps at most
+-- a text has at most one list of steps
 abbrev pub HoldsOneList : Type 0
 HoldsOneList = HoldsOneListOf step_words IsStep
 

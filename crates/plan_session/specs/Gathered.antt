@@ -1,4 +1,4 @@
--- What is known of a text of which some bytes came. No public contract needs this to be believed.
+-- What is known of a text after some of its bytes. No public contract needs this to be believed.
 use Rattle.std.specs.Prelude.{◌≡◌, ℕ, ◌<◌, ◌≤◌, Bool, true, false, List, ◌++◌, length, take, if◌then◌else◌, Err, IsUtf8}
 use Rattle.script_tokens.specs.declared.token.Token.{Token}
 use Rattle.script_tokens.specs.declared.token.Kind.{Kind}
@@ -20,7 +20,7 @@ use Rattle.plan_session.specs.Kept.{cut_of}
 abbrev pub HaveNoCharacter : List ℕ → Type 0
 HaveNoCharacter begun = (n : ℕ) → 0 < n → n ≤ length begun → IsUtf8 (take n begun) → ⊥
 
--- the bytes that came are whole characters, and then those of one that is not whole
+-- the bytes so far are whole characters, and then those of an incomplete one
 pub record AreCharacters (seen begun : List ℕ) : Type 0 where
   pub done : List ℕ
   pub whole : seen ≡ done ++ begun
@@ -35,7 +35,7 @@ is_comment Nothing = false
 is_comment Comment = true
 is_comment (Atom place) = false
 
--- behind these bytes the lexer stands in a comment, or outside
+-- after these bytes the lexer is in a comment, or outside
 pub record Reaches (seen : List ℕ) (in_comment : Bool) : Type 0 where
   pub tokens : List Token
   pub inside : Inside
@@ -43,7 +43,7 @@ pub record Reaches (seen : List ℕ) (in_comment : Bool) : Type 0 where
   pub on : (more : List ℕ) → cut_of (seen ++ more) ≡ tokens_before NO_LIMITS tokens (lexed NO_LIMITS inside place more)
   pub is : is_comment inside ≡ in_comment
 
--- a text that begins with these bytes is refused, whatever follows
+-- every text that begins with these bytes is refused
 pub record AreRefused (front : List ℕ) : Type 0 where
   pub fault : ScriptFault
   pub always : (more : List ℕ) → cut_of (front ++ more) ≡ Err fault
@@ -69,7 +69,7 @@ standing_in_comment Brace = InComment
 standing_in_comment Letter = InComment
 standing_in_comment Bad = InComment
 
--- where a byte of this kind leads, behind which a character ends or does not
+-- the state after a byte of this kind, where a character ends with it or does not
 abbrev pub standing_after : Standing → Kind → Bool → Standing
 standing_after Outside kind is_whole = standing_outside kind is_whole
 standing_after InComment kind is_whole = standing_in_comment kind
@@ -82,7 +82,7 @@ Stands seen kept InComment = (kept ≡ seen) × Reaches seen true
 Stands seen kept Refused = (kept ≡ seen) × AreRefused seen
 Stands seen kept Behind = IsUtf8 kept × AreRefused kept × ((rest : List ℕ) × (seen ≡ kept ++ rest))
 
--- these bytes came
+-- these are the bytes so far
 pub record IsGathered (seen : List ℕ) (g : Gathering) : Type 0 where
   pub characters : AreCharacters seen g.begun.items
   pub stands : Stands seen g.kept.items g.standing

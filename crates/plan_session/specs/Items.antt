@@ -1,4 +1,4 @@
--- Items that a text lists: each is spelled by words, of which the tokens of the text are made, one item after another.
+-- Items that a text lists: each is spelled by tokens, one item after another.
 use Rattle.std.specs.Prelude.{◌≡◌, ◌≢◌, ℕ, Bool, true, false, List, [], ◌++◌, map, flat_map, codes, slice_range, Ok}
 use Rattle.std.specs.List.{AllByRecursion}
 use Rattle.script_tokens.specs.declared.token.Token.{Token}
@@ -18,19 +18,19 @@ pub record HoldsItems {T : Type 0} (spelled : T → List (List ℕ)) (IsItem : T
   pub words : words_of_text text tokens ≡ flat_map spelled items
   pub in_range : AllByRecursion IsItem items
 
--- a text holds one list of them at most
+-- a text has at most one list of them
 abbrev pub HoldsOneListOf : {T : Type 0} → (T → List (List ℕ)) → (T → Type 0) → Type 0
 HoldsOneListOf {T} spelled IsItem = (text : List ℕ) (items others : List T) → HoldsItems spelled IsItem text items → HoldsItems spelled IsItem text others → items ≡ others
 
--- the words of an item at the front name it
+-- the tokens of an item at the front identify it
 abbrev pub TellsApart : {T : Type 0} → (T → List (List ℕ)) → (T → Type 0) → Type 0
 TellsApart {T} spelled IsItem = (s t : T) (xs ys : List (List ℕ)) → IsItem s → IsItem t → spelled s ++ xs ≡ spelled t ++ ys → (s ≡ t) × (xs ≡ ys)
 
--- an item has words
+-- an item has tokens
 abbrev pub HasWords : {T : Type 0} → (T → List (List ℕ)) → Type 0
 HasWords {T} spelled = (s : T) (xs : List (List ℕ)) → spelled s ++ xs ≢ []
 
--- the word for the level of a contact
+-- the token for the level of a contact
 abbrev pub contact_word : Bool → List ℕ
 contact_word true = codes "closed"
 contact_word false = codes "open"

@@ -1,4 +1,5 @@
--- What is kept of the text of an event file or of a command file: all of it, or so much that it is refused as the whole is.
+-- What is kept of the text of an event file or of a command file: all of it, or a prefix that is refused as the
+-- whole is.
 use Rattle.std.specs.Prelude.{◌≡◌, ◌⊎◌, ◌↔◌, ℕ, List, Result, Err}
 use Rattle.script_tokens.specs.declared.token.Token.{Token}
 use Rattle.script_tokens.specs.declared.token.Inside.TheVariants.{Nothing}
@@ -14,11 +15,11 @@ use Rattle.plan_session.specs.declared.step.Step.{Step}
 use Rattle.plan_session.specs.Commands.{HoldsCommands}
 use Rattle.plan_session.specs.Events.{Holds}
 
--- the tokens of a text without the limits of scripts, or its first fault and the place of that
+-- the tokens of a text without the limits of scripts, or its first fault with its position
 abbrev pub cut_of : List ℕ → Result (List Token) ScriptFault
 cut_of text = lexed NO_LIMITS Nothing first_place text
 
--- how it is told that a text has no tokens: without limits there is only `Byte`, and want of memory
+-- the fault that is reported where a text has no tokens: without limits there is only `Byte`, and out of memory
 abbrev pub told : ScriptFault → EventFault
 told (ByteOfText place) = Byte place
 told (Number place) = Expected place
@@ -33,7 +34,7 @@ told NoMemory = Memory
 abbrev pub TellsFirstFault : List ℕ → EventFault → Type 0
 TellsFirstFault text e = (fault : ScriptFault) → cut_of text ≡ Err fault → e ≡ told fault
 
--- both texts are refused before their words are read, at the same place and for the same reason
+-- both texts are refused before their tokens are read, at the same position and for the same reason
 pub record HaveOneFault (whole kept : List ℕ) : Type 0 where
   pub fault : ScriptFault
   pub of_whole : cut_of whole ≡ Err fault
@@ -42,7 +43,7 @@ pub record HaveOneFault (whole kept : List ℕ) : Type 0 where
 abbrev pub IsKeptOf : (whole kept : List ℕ) → Type 0
 IsKeptOf whole kept = (kept ≡ whole) ⊎ HaveOneFault whole kept
 
--- what is kept has the tokens of the whole, or its first fault, and holds the same steps and the same commands
+-- what is kept has the tokens of the whole, or its first fault, and lists the same steps and the same commands
 pub record AnswersAlike (whole kept : List ℕ) : Type 0 where
   pub cut : cut_of kept ≡ cut_of whole
   pub faults : (e : EventFault) → TellsFirstFault kept e ↔ TellsFirstFault whole e

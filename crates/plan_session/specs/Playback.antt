@@ -1,4 +1,4 @@
--- What a playback is asked for, when it can be played, what it then delivers, and its faults.
+-- The request for a playback, when it can be played, what it then delivers, and its faults.
 use Rattle.std.specs.Prelude.{◌≡◌, ◌≢◌, ℕ, Bool, true, false, List, length, Option, Some, None, Result, Ok, Err}
 use Rattle.std.specs.Io.KnownBytes.{Appends, Keeps}
 use Rattle.plan_code.specs.declared.fault.CodeFault.TheVariants.{Memory as NoMemoryForCode}
@@ -18,7 +18,7 @@ use Rattle.plan_session.specs.Events.{Holds}
 use Rattle.plan_session.specs.declared.run_fault.RunFault.{RunFault}
 use Rattle.plan_session.specs.declared.run_fault.RunFault.TheVariants.{Code, Refused, Start, Events, Write}
 
--- ---- what is asked for
+-- ---- the request
 
 -- the bytes of a code's file, the text of an event file, and what the player starts with
 pub record Request : Type 0 where
@@ -50,13 +50,13 @@ pub record CanStart (code : Program) (r : Request) : Type 0 where
   pub file : IsTypedFileOf code r.file
   pub start : start_fault (start_of code r) ≡ None
 
--- and this is the player at its start, and the text holds these steps
+-- and this is the player at its start, and the text lists these steps
 pub record IsPlayback (r : Request) (p : Playing) (steps : List Step) : Type 0 where
   pub ready : CanStart p.code r
   pub begins : IsAtStart p.code (start_of p.code r) p
   pub holds : Holds r.text steps
 
--- the start is in range, this is the player of the code there, and the text holds these steps
+-- the start is in range, this is the player of the code there, and the text lists these steps
 pub record IsStarted (code : Program) (start : Starting) (text : List ℕ) (p : Playing) (steps : List Step) : Type 0 where
   pub in_range : start_fault start ≡ None
   pub begins : IsAtStart code start p
@@ -64,7 +64,7 @@ pub record IsStarted (code : Program) (start : Starting) (text : List ℕ) (p : 
 
 -- ---- what is delivered
 
--- the bytes of the plain run, and the number of its frames; or as much as the sink took of it; memory aside
+-- the bytes of the plain run, and the number of its frames; or what the sink took of them; barring allocation failure
 abbrev pub Delivers : Playing → List Event → Option (List ℕ) → Option (List ℕ) → Result ℕ RunFault → Type 0
 Delivers p events before after (Ok frames) = (frames ≡ length (frames_of p events)) × Appends before after (played_bytes p events)
 Delivers p events before after (Err (Code fault)) = fault ≡ NoMemoryForCode
@@ -79,7 +79,7 @@ abbrev pub or_zero : Option ℕ → ℕ
 or_zero None = 0
 or_zero (Some n) = n
 
--- what holds where a fault comes: that it is one, and that none of those before it is
+-- what holds where a fault is returned: it is one, and none of those before it holds
 abbrev pub IsRunFault : Request → RunFault → Type 0
 IsRunFault r (Code fault) = fault ≢ NoMemoryForCode → HasCodeFault r.file fault
 IsRunFault r (Refused pc line cause) = (code : Program) × IsFileOf code r.file × IsRefused code pc cause × (line ≡ or_zero (line_at code pc))

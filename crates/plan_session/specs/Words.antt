@@ -1,4 +1,5 @@
--- The tokens of a text that lie within it, and the first words of commands. No public contract needs this to be believed.
+-- Tokens that lie within their text, and the first tokens of commands. No public contract needs this to be
+-- believed.
 use Rattle.std.specs.Prelude.{ℕ, ◌≤◌, List, [], ◌∷◌, codes}
 use Rattle.script_tokens.specs.declared.token.Token.{Token}
 use Rattle.plan_session.specs.declared.commands.Keyword.{Keyword}

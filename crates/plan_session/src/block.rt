@@ -1,13 +1,13 @@
-//! Bytes that wait to be handed on.
+//! A block of bytes to be passed on.
 
 ghost use Rattle.std.specs.Prelude.{◌≡◌, ◌+◌, ◌<◌, ◌≤◌, [], ◌++◌, length, take, drop, true, false};
 
 use std::marker::Model;
 
-/// How many bytes a block holds: the frames of some 24 seconds.
+/// The capacity of a block in bytes: the frames of some 24 seconds.
 const SIZE: usize = 98_304;
 
-/// Up to 98,304 bytes, in the order in which they came. It is emptied by its length; no byte is written for it.
+/// Up to 98,304 bytes, in the order in which they were put. Clearing it sets its length alone.
 #[derive(Drop)]
 pub(crate) struct Block {
     bytes: [u8; SIZE],
@@ -24,7 +24,7 @@ impl Model for Block {
     ghost invariant = { λ b. (b.len ≤ 98304) × (length b.bytes ≡ 98304) };
 }
 
-/// Writes a piece over the bytes from an offset on.
+/// Overwrites the bytes from an offset on.
 fn write_at(bytes: &mut [u8], offset: usize, piece: &[u8])
     requires { offset + length piece.now ≤ length bytes.old }
     ensures { bytes.new ≡ take offset bytes.old
@@ -34,7 +34,7 @@ fn write_at(bytes: &mut [u8], offset: usize, piece: &[u8])
 }
 
 impl Block {
-    /// No bytes.
+    /// The empty block.
     pub(crate) fn new() -> Block
         ensures { result ≡ [] }
     {
@@ -44,7 +44,7 @@ impl Block {
         }
     }
 
-    /// How many bytes wait.
+    /// How many bytes it holds.
     pub(crate) fn len(&self) -> usize
         ensures value { result ≡ length self.now }
         ensures bound { result ≤ 98304 }
@@ -59,7 +59,7 @@ impl Block {
         self.len == SIZE
     }
 
-    /// The bytes that wait.
+    /// The bytes that it holds.
     pub(crate) fn as_slice(&self) -> &[u8]
         ensures { result.now ≡ self.now }
     {
@@ -73,7 +73,7 @@ impl Block {
         count <= SIZE - self.len
     }
 
-    /// Takes these bytes, for which there has to be room.
+    /// Appends these bytes, for which there must be room.
     pub(crate) fn append(&mut self, bytes: &[u8])
         requires { length self.old + length bytes.now ≤ 98304 }
         ensures { self.new ≡ self.old ++ bytes.now }
@@ -82,7 +82,7 @@ impl Block {
         self.len += bytes.len();
     }
 
-    /// Takes as many of these bytes as there is room for; how many is the result.
+    /// Appends as many of these bytes as there is room for, and returns how many.
     pub(crate) fn fill(&mut self, bytes: &[u8]) -> usize
         ensures taken { self.new ≡ self.old ++ take result bytes.now }
         ensures bound { result ≤ length bytes.now }
@@ -93,7 +93,7 @@ impl Block {
         count
     }
 
-    /// Lets the first bytes go; the others move to the front.
+    /// Removes the first bytes; the others move to the front.
     pub(crate) fn let_go(&mut self, count: usize)
         requires { count ≤ length self.old }
         ensures { self.new ≡ drop count self.old }
@@ -102,7 +102,7 @@ impl Block {
         self.len -= count;
     }
 
-    /// Lets all bytes go.
+    /// Removes all bytes.
     pub(crate) fn clear(&mut self)
         ensures { self.new ≡ [] }
     {

@@ -1,4 +1,4 @@
-//! A sink that gathers the bytes of frames, and hands them to another sink in large pieces.
+//! A sink that collects the bytes of frames, and passes them to another sink in large pieces.
 
 ghost use Rattle.std.specs.Prelude.{◌≡◌, ◌+◌, ◌*◌, ◌<◌, ◌≤◌, length, take, true, false, IfSome, IfNone};
 ghost use Rattle.std.specs.Io.KnownBytes.{Appends, Keeps};
@@ -6,10 +6,10 @@ ghost use Rattle.std.specs.Io.KnownBytes.{Appends, Keeps};
 use crate::block::Block;
 use plan_player::{Sink, put_all};
 
-/// A sink over a sink, which hands it pieces of up to 98,304 bytes: the frames of some 24 seconds.
+/// A sink over a sink, to which it passes pieces of up to 98,304 bytes: the frames of some 24 seconds.
 ///
 /// What it has taken is what the sink below has, and then what is held. It has failed where the sink below has; nothing
-/// goes there after that.
+/// is put there after that.
 #[derive(Drop)]
 pub(crate) struct Buffer<K> {
     out: K,
@@ -45,8 +45,8 @@ impl<K: Sink> Buffer<K> {
         self.out
     }
 
-    /// Holds as many of these bytes as there is room for, at least one, once all that filled the room is handed on; how
-    /// many is the result. `None`: the sink below failed at what was held.
+    /// Holds as many of these bytes as there is room for, at least one: a full buffer is flushed first. Returns how
+    /// many; `None` where the sink below failed at the flush.
     #[inline(never)]
     fn put_part(&mut self, bytes: &[u8]) -> Option<usize>
         requires working { K.has_failed self.old.out ≡ false }
@@ -66,7 +66,7 @@ impl<K: Sink> Buffer<K> {
         Some(self.held.fill(bytes))
     }
 
-    /// Hands all that is held to the sink below, which must not have failed; whether it took all.
+    /// Passes all that is held to the sink below, which must not have failed, and returns whether it took all.
     #[inline(never)]
     pub(crate) fn deliver(&mut self) -> bool
         requires working { K.has_failed self.old.out ≡ false }
@@ -96,8 +96,8 @@ impl<K: Sink> Sink for Buffer<K> {
 
     ghost has_failed = { λ b. K.has_failed b.out };
 
-    /// Holds the bytes where there is room for them; else as many as there is room for, once all that filled the room is
-    /// handed on.
+    /// Holds the bytes where there is room for them; else as many as there is room for, after a flush if the buffer is
+    /// full.
     fn put(&mut self, bytes: &[u8]) -> Option<usize> {
         if self.out.failed() {
             return None;
@@ -114,8 +114,8 @@ impl<K: Sink> Sink for Buffer<K> {
     }
 }
 
-/// Of this many frames of this size, and bytes of the next one, the last `held` bytes are held back: the whole frames that
-/// went on, and the bytes of the next one.
+/// Of this many frames of this size, and bytes of the next one, the last `held` bytes are held back. Returns the whole
+/// frames that were passed on, and the bytes of the next one.
 pub(crate) fn delivered(frames: u128, bytes: usize, held: usize, size: usize) -> (u128, usize)
     requires some { 0 < size }
     requires few { held + size ≤ 100000 }

@@ -19,7 +19,7 @@ use std::alloc::Global;
 /// The bytes of a FIB.
 const FIB: usize = 32;
 
-/// [`play`] through a buffer; the sink is handed back.
+/// [`play`] through a buffer; the sink is returned.
 fn play_into<K: Sink>(
     alloc: Global,
     code: &Verified,
@@ -69,7 +69,7 @@ fn play_into<K: Sink>(
     }
 }
 
-/// [`run`](crate::run) into a sink that hasn't failed, in pieces of up to 98,304 bytes. The sink is handed back.
+/// [`run`](crate::run) into a sink that hasn't failed, in pieces of up to 98,304 bytes. The sink is returned.
 ///
 /// # Errors
 ///
@@ -84,7 +84,7 @@ pub fn run_into<K: Sink>(
     out: K,
 ) -> (Result<u128, RunFault>, K)
     requires working { K.has_failed out ≡ false }
-    // Into a sink that tells its bytes and has none yet goes what `run` gives a sink.
+    // A sink that reports its bytes and has none yet receives what `run` gives a sink.
     ensures played { (p : Playing) (steps : List Step)
         → IsPlayback (asked code.now events.now count day contacts) p steps
         → K.taken out ≡ Some []

@@ -1,4 +1,4 @@
-//! The code in a file, as it can be played.
+//! Loading a code that can be played.
 
 ghost use Rattle.std.specs.Prelude.{◌≡◌, IfOk, IfErr};
 ghost use Rattle.plan_code.specs.declared.fault.CodeFault.TheVariants.{Memory as NoMemoryForCode};
@@ -13,7 +13,7 @@ use plan_code::{Code, decode};
 use plan_verifier::{Verified, verify};
 use std::alloc::Global;
 
-/// The line that the instruction at a place of the code comes from; 0 where none stands there.
+/// The line that the instruction at a pc of the code comes from; 0 where there is none.
 fn line_of(code: &Code, pc: u16) -> u16
     ensures { result ≡ or_zero (line_at code.now pc) }
 {
@@ -27,8 +27,8 @@ fn line_of(code: &Code, pc: u16) -> u16
 ///
 /// # Errors
 ///
-/// `Code` names the first fault of bytes that are no code file, or is want of memory; `Refused` names the first
-/// instruction that is refused, its line and its first cause. No other fault comes.
+/// `Code` names the first fault of bytes that are no code file, or out of memory; `Refused` names the first instruction
+/// that is refused, its line and its first cause. There is no other fault.
 pub fn typed_code(alloc: Global, bytes: &[u8]) -> Result<Verified, RunFault>
     ensures found { IfOk result (λ v. IsTypedFileOf v bytes.now) }
     ensures only { (code : Program) → IsTypedFileOf code bytes.now → IfOk result (λ v. v ≡ code) }

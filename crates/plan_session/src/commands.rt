@@ -15,7 +15,7 @@ use crate::words::Words;
 use plan_code::limits::FRAMES_A_DAY;
 use std::alloc::Global;
 
-/// The words that begin a command.
+/// The tokens that begin a command.
 #[derive(Clone, Copy)]
 enum Keyword {
     Contact,
@@ -26,7 +26,7 @@ enum Keyword {
     Show,
 }
 
-/// What a word begins.
+/// The command that a token begins.
 fn keyword_of(word: &[u8]) -> Option<Keyword>
     ensures found { IfSome result (λ k. word.now ≡ keyword_word k) }
     ensures none { IfNone result ((k : Keyword) → word.now ≢ keyword_word k) }
@@ -42,7 +42,7 @@ fn keyword_of(word: &[u8]) -> Option<Keyword>
     }
 }
 
-/// The rest of a command, after its first word.
+/// The rest of a command, after its first token.
 fn command_after(keyword: Keyword, words: &mut Words) -> Result<Command, EventFault>
     ensures read { IfOk result (λ s. keyword_word keyword ∷ words.old
         ≡ command_words s ++ words.new) }
@@ -89,16 +89,15 @@ impl Item for Command {
     }
 }
 
-/// The commands of a command file: the words `contact C closed` and `contact C open` with C from 0 to 15, `run N` with
-/// N from 1 to 3,600,000, `next`, `break LINE` with LINE from 1 to 65,535, `clear` and `show`, between blanks and
-/// comments as in scripts.
+/// The commands of a command file: `contact C closed` and `contact C open` with C from 0 to 15, `run N` with N from 1
+/// to 3,600,000, `next`, `break LINE` with LINE from 1 to 65,535, `clear` and `show`, between blanks and comments as in
+/// scripts.
 ///
 /// # Errors
 ///
-/// First `Byte` for a byte outside comments that has no place in a text; then from the front `Number` for an atom
-/// where a number must stand that is none in its range, and `Expected` for any other wrong token, or the end of the
-/// text, each with its position; `Memory` where memory is refused. No other fault comes where the text holds a list
-/// of commands.
+/// First `Byte` for a byte outside comments that is not allowed; then from the front `Number` for an atom that should
+/// be a number in its range and is not, and `Expected` for any other wrong token, or the end of the text, each with its
+/// position; `Memory` where memory is refused. There is no other fault where the text lists commands.
 pub fn read_commands(alloc: Global, text: &str) -> Result<Vec<Command>, EventFault>
     ensures found { IfOk result (λ v. HoldsCommands text.now v.items) }
     ensures only { IfErr result (λ e. e ≢ Memory → (all : List Command)

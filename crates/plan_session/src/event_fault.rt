@@ -12,13 +12,13 @@ use thiserror::Error;
 /// Why a text is no event file, with the position of the token, or just past the text.
 #[derive(Clone, Copy, Debug, PartialEq, Eq, Error)]
 pub enum EventFault {
-    /// A byte outside comments that has no place in such a text.
+    /// A byte outside comments that is not allowed.
     #[error("{0}: Byte")]
     Byte(Position),
-    /// An atom where a number must stand that is no such number in range.
+    /// An atom that should be a number in its range, and is not.
     #[error("{0}: Number")]
     Number(Position),
-    /// Another token, or the end of the text, than what must stand there.
+    /// Another wrong token, or the end of the text.
     #[error("{0}: Expected")]
     Expected(Position),
     /// Memory was refused.
@@ -32,14 +32,14 @@ impl From<AllocError> for EventFault {
 
     ghost from_gives = { λ _ e. e ≡ Memory };
 
-    /// Want of memory.
+    /// Out of memory.
     fn from(_error: AllocError) -> Self {
         EventFault::Memory
     }
 }
 
-/// The fault of an event file whose text could not be cut into tokens. No limits of scripts hold for it, so that
-/// of the faults of cutting only `Byte` and `Memory` come.
+/// The fault of an event file whose text could not be cut into tokens. The limits of scripts do not apply, so that of
+/// the lexer's faults only `Byte` and `Memory` occur.
 pub(crate) fn fault_of(fault: ScriptFault) -> EventFault
     ensures memory { fault ≡ NoMemory → result ≡ Memory }
     ensures told { result ≡ told fault }

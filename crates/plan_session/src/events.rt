@@ -13,7 +13,7 @@ use crate::words::Words;
 use plan_code::limits::FRAMES_A_DAY;
 use std::alloc::Global;
 
-/// The rest of a step, after the word `frames`, or else `contact`.
+/// The rest of a step, after the token `frames`, or else `contact`.
 fn step_after(of_frames: bool, words: &mut Words) -> Result<Step, EventFault>
     ensures read { IfOk result (λ s. first_word of_frames ∷ words.old
         ≡ step_words s ++ words.new) }
@@ -31,7 +31,7 @@ fn step_after(of_frames: bool, words: &mut Words) -> Result<Step, EventFault>
     }
 }
 
-/// Whether a word begins a step of frames, or else a change of a contact.
+/// Whether a token begins a step of frames, or else a change of a contact.
 fn begins_frames(word: &[u8]) -> Option<bool>
     ensures found { IfSome result (λ frames. word.now ≡ first_word frames) }
     ensures none { IfNone result ((frames : Bool) → word.now ≢ first_word frames) }
@@ -62,15 +62,14 @@ impl Item for Step {
     }
 }
 
-/// The steps of an event file: the words `frames N` with N from 1 to 3,600,000, `contact C closed` and
-/// `contact C open` with C from 0 to 15, between blanks and comments as in scripts.
+/// The steps of an event file: `frames N` with N from 1 to 3,600,000, `contact C closed` and `contact C open` with C
+/// from 0 to 15, between blanks and comments as in scripts.
 ///
 /// # Errors
 ///
-/// First `Byte` for a byte outside comments that has no place in a text; then from the front `Number` for an atom
-/// where a number must stand that is none in its range, and `Expected` for any other wrong token, or the end of the
-/// text, each with its position; `Memory` where memory is refused. No other fault comes where the text holds a list
-/// of steps.
+/// First `Byte` for a byte outside comments that is not allowed; then from the front `Number` for an atom that should
+/// be a number in its range and is not, and `Expected` for any other wrong token, or the end of the text, each with its
+/// position; `Memory` where memory is refused. There is no other fault where the text lists steps.
 pub fn read_events(alloc: Global, text: &str) -> Result<Vec<Step>, EventFault>
     ensures found { IfOk result (λ v. Holds text.now v.items) }
     ensures only { IfErr result (λ e. e ≢ Memory → (all : List Step) → Holds text.now all → ⊥) }

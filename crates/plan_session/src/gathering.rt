@@ -1,4 +1,4 @@
-//! The bytes of a text as they come: those are kept on which the text's answer depends.
+//! Collecting a text byte by byte: those bytes are kept on which the result of reading it depends.
 
 ghost use Rattle.std.specs.Prelude.{◌≡◌, ◌≢◌, ℕ, List, [], ◌∷◌, ◌++◌, true, OnOk, IfOk, IfErr, IsUtf8, string_bytes};
 ghost use Rattle.script_tokens.specs.Bytes.{kind_of};
@@ -13,30 +13,30 @@ use arrayvec::ArrayVec;
 use script_words::token::Kind;
 use std::alloc::Global;
 
-/// Where the bytes that came lead.
+/// The state after the bytes so far.
 #[derive(Clone, Copy, Debug, PartialEq, Eq)]
 pub(crate) enum Standing {
     /// Outside comments.
     Outside,
-    /// Into a comment.
+    /// In a comment.
     InComment,
-    /// Into the character of a byte that has no place in a text.
+    /// Within a character that is not allowed.
     Refused,
-    /// Behind such a character. What follows is not kept.
+    /// After such a character. What follows is not kept.
     Behind,
 }
 
-/// What is kept of a text: its bytes up to the end of the first character outside comments that has no place in it.
+/// What is kept of a text: its bytes up to the end of the first character outside comments that is not allowed.
 #[derive(Drop)]
 pub(crate) struct Gathering {
     kept: Vec<u8>,
-    /// The bytes of the last character, where it isn't whole.
+    /// The bytes of the last character, where it is incomplete.
     begun: ArrayVec<u8, 4>,
     standing: Standing,
 }
 
 impl Gathering {
-    /// No byte came.
+    /// Before the first byte.
     pub(crate) fn new(alloc: Global) -> Self
         ensures { IsGathered [] result }
     {
@@ -47,7 +47,7 @@ impl Gathering {
         }
     }
 
-    /// Takes the next byte: `NotUtf8` where no text goes on with it, `Memory` where it can't be kept.
+    /// Takes the next byte: `NotUtf8` where no text continues with it, `Memory` where it can't be kept.
     fn take(&mut self, byte: u8) -> Result<(), TextFault>
         ensures gathered { OnOk result ((seen : List ℕ) → IsGathered seen self.old
             → IsGathered (seen ++ byte ∷ []) self.new) }
@@ -91,7 +91,7 @@ impl Gathering {
         }
     }
 
-    /// What is kept, once all bytes came; `NotUtf8` where they end within a character.
+    /// What is kept, after all bytes; `NotUtf8` where they end within a character.
     pub(crate) fn finish(self) -> Result<String, TextFault>
         ensures kept { IfOk result (λ text. (seen : List ℕ) → IsGathered seen self
             → IsUtf8 seen × IsKeptOf seen (string_bytes text)) }
@@ -108,7 +108,7 @@ impl Gathering {
     }
 }
 
-/// Keeps a byte, unless what came is refused.
+/// Keeps a byte, unless the text is refused already.
 fn keep(kept: &mut Vec<u8>, standing: Standing, byte: u8) -> Result<(), TextFault>
     ensures added { OnOk result (standing ≢ Behind → kept.new.items ≡ kept.old.items ++ byte ∷ []) }
     ensures same { OnOk result (standing ≡ Behind → kept.new.items ≡ kept.old.items) }
@@ -123,7 +123,7 @@ fn keep(kept: &mut Vec<u8>, standing: Standing, byte: u8) -> Result<(), TextFaul
     }
 }
 
-/// Where a byte of this kind leads, behind which the text's characters are whole or not.
+/// The state after a byte of this kind, with which a character ends or does not.
 fn standing_after(standing: Standing, kind: Kind, is_whole: bool) -> Standing
     ensures { result ≡ standing_after standing kind is_whole }
 {

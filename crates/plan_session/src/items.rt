@@ -16,19 +16,19 @@ use script_words::token::NO_LIMITS;
 use script_words::{Token, cut};
 use std::alloc::Global;
 
-/// What a text lists. An item is spelled by words.
+/// An item that a text lists, spelled by tokens.
 pub(crate) trait Item: Copy {
     ghost use Rattle.std.specs.Prelude.{◌≡◌, ◌≢◌, ℕ, List, ◌++◌, IfOk, IfErr};
     ghost use Rattle.plan_session.specs.declared.event_fault.EventFault.TheVariants.{Memory};
     ghost use Rattle.plan_session.specs.Items.{TellsApart, HasWords};
 
-    /// The words that spell it.
+    /// The tokens that spell it.
     ghost spelled: { Self → List (List ℕ) };
 
     /// Whether its numbers are in their ranges.
     ghost is_item: { Self → Type 0 };
 
-    /// The law of items: their words tell them apart. The function does nothing; its contract is the law.
+    /// The law of items: their tokens distinguish them. The function does nothing; its contract is the law.
     fn told()
         ensures apart { TellsApart spelled is_item }
         ensures some { HasWords spelled };
@@ -42,7 +42,7 @@ pub(crate) trait Item: Copy {
         ensures named { IfErr result (λ e. e ≢ Memory) };
 }
 
-/// The fault of a wrong word where a number must stand: `Number` for an atom, `Expected` for a brace.
+/// The fault of a wrong token in place of a number: `Number` for an atom, `Expected` for a brace.
 fn no_number(words: &Words, word: &[u8]) -> EventFault
     ensures { result ≢ Memory }
 {
@@ -78,7 +78,7 @@ pub(crate) fn number(words: &mut Words, low: u32, high: u32) -> Result<u32, Even
     Ok(value)
 }
 
-/// What a word says of a contact: `closed`, or `open`.
+/// The level that a token names: `closed`, or `open`.
 fn level_of(word: &[u8]) -> Option<bool>
     ensures found { IfSome result (λ closed. word.now ≡ contact_word closed) }
     ensures none { IfNone result ((closed : Bool) → word.now ≢ contact_word closed) }
@@ -107,7 +107,7 @@ fn level(words: &mut Words) -> Result<bool, EventFault>
     Ok(closed)
 }
 
-/// A contact and its level, as they follow the word `contact`.
+/// A contact and its level, as they follow `contact`.
 pub(crate) fn change(words: &mut Words) -> Result<(ContactId, bool), EventFault>
     ensures read { IfOk result (λ c.
         words.old ≡ decimal c.0 ∷ contact_word c.1 ∷ words.new) }
@@ -154,12 +154,12 @@ fn items_of<T: Item>(alloc: Global, text: &[u8], tokens: &[Token]) -> Result<Vec
     Ok(items)
 }
 
-/// The items of a text: its words, between blanks and comments as in scripts, spell them one after another.
+/// The items of a text: its tokens, between blanks and comments as in scripts, spell them one after another.
 ///
 /// # Errors
 ///
-/// First `Byte` for a byte outside comments that has no place in a text; then from the front the fault of the first item
-/// that can't be read; `Memory` where memory is refused. No other fault comes where the text holds a list of items.
+/// First `Byte` for a byte outside comments that is not allowed; then from the front the fault of the first item that
+/// can't be read; `Memory` where memory is refused. There is no other fault where the text lists items.
 pub(crate) fn read_items<T: Item>(alloc: Global, text: &str) -> Result<Vec<T>, EventFault>
     ensures found { IfOk result (λ v. HoldsItems T.spelled T.is_item text.now v.items) }
     ensures only { IfErr result (λ e. e ≢ Memory → (all : List T)

@@ -1,11 +1,11 @@
-//! Sessions: what a plan is played with, read from files, and the plan played.
+//! Sessions: loading a plan, its event file or command file, and playing it.
 //!
-//! [`typed_code`] makes the code in a file one that can be played; [`read_text`] reads the text of an event file or of a
-//! command file, and keeps no more of it than its answer depends on; [`read_events`] reads the one into its list of
-//! [`Step`]s, [`read_commands`] the other into its list of [`Command`]s. [`play`] plays such a code over the text of an
-//! event file into a sink, [`run`] a code's file, and [`run_into`] too, by few large pieces. What a text holds is defined
-//! in `specs/Events.antt` and `specs/Commands.antt`, what is kept of one in `specs/Kept.antt`; what a playback is asked
-//! for, what it delivers and its faults in `specs/Playback.antt`.
+//! [`typed_code`] loads a code that can be played; [`read_text`] reads the text of an event file or of a command file,
+//! and keeps no more of it than the result depends on; [`read_events`] parses the one into [`Step`]s, [`read_commands`]
+//! the other into [`Command`]s. [`play`] plays such a code over the text of an event file into a sink, [`run`] a code's
+//! file, and [`run_into`] too, in large pieces. What a text lists is defined in `specs/Events.antt` and
+//! `specs/Commands.antt`, what is kept of one in `specs/Kept.antt`; a playback, what it delivers and its faults in
+//! `specs/Playback.antt`.
 #![tactic(auto)]
 
 mod block;

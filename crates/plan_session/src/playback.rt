@@ -1,4 +1,4 @@
-//! A code's file and the text of an event file, played.
+//! Playing a code's file over the text of an event file.
 
 ghost use Rattle.std.specs.Prelude.{◌≡◌, List, false, IfErr, OnOk};
 ghost use Rattle.plan_player.specs.Playing.{Playing};
@@ -35,14 +35,13 @@ pub(crate) fn start_with(code: &Verified, count: u16, day: u32, contacts: Contac
 }
 
 /// Plays a typed code from this start over the events of a text; each frame is put into the sink, which must not have
-/// failed. How many frames were made is the result. Events are not kept one by one: a step of many frames takes no more
-/// memory than one of a single frame.
+/// failed. Returns how many frames were made. A step of many frames takes no more memory than one of a single frame.
 ///
 /// # Errors
 ///
-/// The first of these: `Start` where the count is 5000 or more, or the frame of the day 3,600,000 or more; `Events` where
-/// the text holds no events, or memory for them is refused; `Write` where the sink fails, with what went out. At every
-/// other fault nothing was written.
+/// The first of these: `Start` where the count is 5000 or more, or the frame of the day 3,600,000 or more; `Events`
+/// where the text is no event file, or memory for it is refused; `Write` where the sink fails, with what it took. At
+/// every other fault nothing was written.
 pub fn play<K: Sink>(
     alloc: Global,
     code: &Verified,
@@ -82,14 +81,14 @@ pub fn play<K: Sink>(
 }
 
 /// Plays the code in a file over the events of a text: the player starts at this CIF count and frame of the day, with
-/// these contacts closed, and each frame is put into the sink, which must not have failed. How many frames were made is
-/// the result.
+/// these contacts closed, and each frame is put into the sink, which must not have failed. Returns how many frames were
+/// made.
 ///
 /// # Errors
 ///
 /// The first of these: `Code` where the bytes are no code file, or memory for it is refused; `Refused` where the code
 /// is not typed; `Start` where the count is 5000 or more, or the frame of the day 3,600,000 or more; `Events` where the
-/// text holds no events, or memory for them is refused; `Write` where the sink fails, with what went out. At every other
+/// text is no event file, or memory for it is refused; `Write` where the sink fails, with what it took. At every other
 /// fault nothing was written.
 pub fn run<K: Sink>(
     alloc: Global,

@@ -1,4 +1,4 @@
-//! The steps of an event file, played into a sink.
+//! Playing the steps of an event file into a sink.
 
 ghost use Rattle.std.specs.Prelude.{◌≡◌, false, true, replicate, IfOk, OnOk, IfErr, OnErr};
 ghost use Rattle.std.specs.List.{AllByRecursion};
@@ -10,14 +10,14 @@ use crate::step::Step;
 use mux_config::Store;
 use plan_player::{Event, PlayFault, Player, Sink, play, play_frames};
 
-/// How far playing came where the sink failed: this many frames went out whole, and this many bytes of the one after them.
+/// What a sink took before it failed: this many whole frames, and this many bytes of the one after them.
 #[derive(Clone, Copy, Debug, PartialEq, Eq)]
 pub(crate) struct Cut {
     pub(crate) frames: u128,
     pub(crate) bytes: usize,
 }
 
-/// Plays some events, as a number of frames or where they were cut.
+/// Plays events. Returns how many frames were made, or what the sink took before it failed.
 fn play_events<'a, S: Store, K: Sink>(
     player: &mut Player<'a, S>,
     events: &[Event],

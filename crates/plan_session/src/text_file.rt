@@ -1,4 +1,4 @@
-//! Reading the text of an event file or of a command file, without keeping what its answer does not depend on.
+//! Reading the text of an event file or of a command file, without keeping what the result does not depend on.
 
 ghost use Rattle.std.specs.Prelude.{◌≡◌, ◌≢◌, IfOk, IfErr, IfSome, IsUtf8, string_bytes};
 ghost use Rattle.plan_session.specs.declared.text_fault.TextFault.TheVariants.{NotUtf8};
@@ -9,18 +9,18 @@ use crate::text_fault::TextFault;
 use std::alloc::Global;
 use std::io::{self, ErrorKind, Read};
 
-/// How many bytes are read at a time, at the most.
+/// The most bytes that are read at a time.
 const PIECE: usize = 65_536;
 
-/// The text of an event file or of a command file, from what a reader has left: all of it, or, where a character outside
-/// comments has no place in such a text, as much as the end of the first such character. What is kept so answers as the
-/// whole text does ([`laws::kept_texts`](crate::laws::kept_texts)), and however long the text goes on, it takes no more
-/// memory. All of it is read, and must be UTF-8.
+/// The text of an event file or of a command file, from what a reader has left: all of it, or, where a character
+/// outside comments is not allowed, up to the end of the first such character. What is kept has the same result as the
+/// whole text ([`laws::kept_texts`](crate::laws::kept_texts)), and the rest of the text takes no memory. All of it is
+/// read, and must be UTF-8.
 ///
 /// # Errors
 ///
-/// `NotUtf8` where the text is not UTF-8, once four bytes came from where no character begins, or all that there are;
-/// `Failed` where the reader fails before that; `Memory` where there is no memory for what is kept.
+/// `NotUtf8` where the text is not UTF-8, as soon as four bytes were read from where no character begins, or all that
+/// there are; `Failed` where the reader fails before that; `Memory` where memory for what is kept is refused.
 pub fn read_text<R: Read + Drop>(alloc: Global, source: R) -> Result<String, TextFault>
     ensures text { IfOk result (λ kept. IfSome (R.remaining source) (λ whole. IsUtf8 whole)) }
     ensures kept { IfOk result (λ kept. IfSome (R.remaining source)
@@ -45,7 +45,7 @@ pub fn read_text<R: Read + Drop>(alloc: Global, source: R) -> Result<String, Tex
     Err(TextFault::Failed)
 }
 
-/// What an error of a reader says of its text.
+/// The fault of a text whose reader returns an error.
 fn fault_of(error: &io::Error) -> TextFault
     ensures { result ≢ NotUtf8 }
 {

@@ -1,9 +1,9 @@
-//! The words of a text, one after another.
+//! The tokens of a text, one after another.
 
 use script_words::{Position, Token};
 use std::marker::Model;
 
-/// What is left of the words of a text.
+/// What is left of the tokens of a text.
 #[derive(Drop)]
 pub(crate) struct Words<'a> {
     text: &'a [u8],
@@ -27,7 +27,7 @@ impl<'a> Words<'a> {
     ghost use Rattle.plan_session.specs.Items.{words_of_text};
     ghost use Rattle.plan_session.specs.Words.{AreSpans};
 
-    /// The words of these tokens of a text.
+    /// A reader of all of these tokens of a text.
     pub(crate) fn new(text: &'a [u8], tokens: &'a [Token]) -> Self
         requires { AreSpans (length text.now) tokens.now }
         ensures { result ≡ words_of_text text.now tokens.now }
@@ -35,14 +35,14 @@ impl<'a> Words<'a> {
         Words { text, tokens }
     }
 
-    /// Whether no word is left.
+    /// Whether no token is left.
     pub(crate) fn is_empty(&self) -> bool
         ensures { IsTrue result ↔ (self.now ≡ []) }
     {
         self.tokens.is_empty()
     }
 
-    /// The position of the next word, or just past the text.
+    /// The position of the next token, or just past the text.
     pub(crate) fn position(&self) -> Position {
         match self.tokens.first() {
             None => Position::past(self.text),
@@ -50,7 +50,7 @@ impl<'a> Words<'a> {
         }
     }
 
-    /// The bytes of the next word.
+    /// The bytes of the next token.
     pub(crate) fn peek(&self) -> Option<&'a [u8]>
         ensures { MatchOption result (self.now ≡ []) (λ w.
             (rest : List (List ℕ)) × (self.now ≡ w.now ∷ rest)) }
@@ -61,7 +61,7 @@ impl<'a> Words<'a> {
         }
     }
 
-    /// Passes over the next word.
+    /// Skips the next token.
     pub(crate) fn advance(&mut self)
         ensures { self.new ≡ drop 1 self.old }
     {

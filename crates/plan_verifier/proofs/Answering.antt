@@ -1,4 +1,4 @@
--- A test of the code answers what the test of the walk does, where both decide the same.
+-- A test of the code has the result of the test of the walk, where both decide the same.
 
 use Rattle.std.proofs.Common.{◌≡◌, ℕ, ◌↔◌, Bool, true, false, IsTrue, refl, sym, ap, ◌∙◌, ◌&&◌, length, Option, Some, None, IfSome}
 use Rattle.plan_code.specs.declared.label.Label.{Label}

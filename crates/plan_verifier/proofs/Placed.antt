@@ -1,4 +1,4 @@
--- Where the configurations stand in the table of a code, after an instruction and where a label is fit.
+-- The indices of the configurations in the table of a code, after an instruction and where a label fits.
 use Rattle.std.proofs.Common.{◌≡◌, ℕ, ◌-◌, Bool, true, false, if◌then◌else◌, nat_lt, List, Option, Some, slice_get, refl, sym, subst, ◌∙◌}
 use Rattle.mux_config.specs.Configuration.{Configuration}
 use Rattle.plan_code.specs.declared.plan.Plan.{Plan}

@@ -1,4 +1,4 @@
--- Where configurations stand in a table, and what a wait makes of it: what holds, and what does not.
+-- The indices of configurations in a table, before and after a wait: what holds, and what does not.
 use Rattle.std.proofs.Common.{◌≡◌, List, [], ◌∷◌, length, Some, None, refl, ap, arith}
 use Rattle.mux_config.specs.Configuration.{Configuration, nothing}
 use Rattle.mux_types.specs.declared.numbers.Sid.TheVariants.{Short}

@@ -1,4 +1,4 @@
--- What becomes of a swap in each transmission mode, and what may be done where it may have been made already.
+-- A swap in each transmission mode, and what is allowed where it may have been made already.
 use Rattle.std.proofs.Common.{◌≡◌, ◌<◌, ◌≤◌, true, [], ◌∷◌, inl, inr, refl, ap, arith}
 use Rattle.mux_config.specs.Configuration.{Configuration}
 use Rattle.mux_config.specs.declared.edit.Edit.TheVariants.{DropSub}

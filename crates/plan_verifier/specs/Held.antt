@@ -1,4 +1,4 @@
--- What is known, where its configurations are held in two stores. No public contract needs this to be believed.
+-- What is known, with its configurations in two stores. No public contract needs this to be believed.
 use Rattle.std.specs.Prelude.{◌≡◌, ℕ, if◌then◌else◌, List, Option, Some, IfSome, slice_get}
 use Rattle.mux_config.specs.Configuration.{Configuration}
 use Rattle.plan_code.specs.declared.label.Label.{Label}
@@ -18,9 +18,9 @@ known_of content s =
       allowance = s.allowance;
     }
 
--- ---- where the configurations stand in the table of a code
+-- ---- the indices of the configurations in the table of a code
 
--- a configuration stands at this place, where one is given
+-- a configuration has this index, where one is given
 abbrev pub StandsAt : List Configuration → Option ℕ → Configuration → Type 0
 StandsAt table place c = IfSome place (λ k. c ≡ or_nothing (slice_get table k))
 
@@ -30,7 +30,7 @@ ArePlaced table places t = StandsAt table places.current t.current × StandsAt t
 abbrev pub KnowsPlaces : {S : Type 0} → (S → Configuration) → List Configuration → KnownState S → Type 0
 KnowsPlaces content table s = ArePlaced table s.places (known_of content s)
 
--- where the configurations stand that a label declares
+-- the indices of the configurations that a label declares
 abbrev pub places_of : Label → Places
 places_of label = record { current = Some label.cur; next = Some label.next }
 

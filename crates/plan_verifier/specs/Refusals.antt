@@ -12,9 +12,9 @@ use Rattle.plan_flow.specs.declared.cause.Cause.{Cause}
 use Rattle.plan_flow.specs.declared.cause.Cause.TheVariants.{Target, Table, Config as OfConfig, CounterUnset, Mismatch, Cost, Round, FallsOff}
 use Rattle.plan_verifier.specs.Typing.{Known, pages_alone, leaves, target_of, continues, spent, Declares, Fits, IsInitial, HasOpening, LabelStands, IsAfter, IsFine, Reaches, Arrives, IsTyped}
 
--- ---- at an instruction of which it is known what holds
+-- ---- at an instruction, with what is known there
 
--- a state comes to a label: it doesn't fit it, or it has too small an allowance
+-- a state reaches a label: it doesn't fit it, or its allowance is too small
 abbrev pub FitsLabel : Program → Label → Known → Type 0
 FitsLabel code label t = (declared : Known) × Declares code label declared × Fits t declared
 
@@ -23,12 +23,12 @@ EntryRefused code label t =
     Where (FitsLabel code label t → ⊥) Mismatch
     orelse Where (t.allowance < label.cost) Cost
 
--- a jump, where this label stands at its target, if any
+-- a jump, with the label at its target, if any
 abbrev pub JumpRefused : Program → Option Label → Known → Cause → Type 0
 JumpRefused code None t given = given ≡ Target
 JumpRefused code (Some label) t given = EntryRefused code label t given
 
--- an instruction: where it jumps to a label, or by what is known of the configurations and the swap
+-- an instruction: for the label that it jumps to, or for what is known of the configurations and the swap
 abbrev pub InstrRefused : Program → Instr → Known → Cause → Type 0
 InstrRefused code (Test contact target) t = JumpRefused code (label_at code target) (spent t)
 InstrRefused code (Jump target) t = JumpRefused code (label_at code target) (spent t)
@@ -44,7 +44,7 @@ KnownRefused code pc i t =
     orelse InstrRefused code i t
     orelse Where ((continues i ≡ true) × (pc + 1 ≡ length code.lines)) FallsOff
 
--- ---- where the machine comes to an instruction
+-- ---- where the machine reaches an instruction
 
 -- the state that a label declares is taken
 abbrev pub TakenRefused : Program → ℕ → Instr → Label → Known → Cause → Type 0
@@ -54,8 +54,8 @@ abbrev pub LabelRefused : Program → ℕ → Instr → Label → Cause → Type
 LabelRefused code pc i label given =
     (declared : Known) × Declares code label declared × TakenRefused code pc i label declared given
 
--- at an instruction but the first, with the label that stands there, if any, and what the instruction before
--- leaves, if it continues to this one
+-- at an instruction but the first, with the label there, if any, and what holds after the instruction before, if
+-- it continues to this one
 abbrev pub PlaceRefused : Program → ℕ → Instr → Option Label → Option Known → Cause → Type 0
 PlaceRefused code pc i None None given = given ≡ Table
 PlaceRefused code pc i None (Some t) given = KnownRefused code pc i t given
@@ -71,14 +71,14 @@ OpenedRefused code i label t =
     orelse Where (code.plan.period < pages_alone code.plan t.current) Round
     orelse KnownRefused code 0 i t
 
--- at the first instruction, with the label that stands there, if any
+-- at the first instruction, with the label there, if any
 abbrev pub OpeningRefused : Program → Instr → Option Label → Cause → Type 0
 OpeningRefused code i None given = given ≡ Table
 OpeningRefused code i (Some label) given = (t : Known) × Declares code label t × OpenedRefused code i label t given
 
 -- ---- the first instruction at which a cause holds
 
--- what holds at an instruction below a place: IsSafe, where it continues to the place itself aside
+-- what holds at an instruction below a pc: IsSafe, but for a continuation to that pc itself
 pub record IsSafeBelow (code : Program) (end : ℕ) (typing : List Known) (pc : ℕ) (i : Instr) (t : Known) : Type 0 where
   pub allowance : 1 ≤ t.allowance
   pub fine : IsFine code.plan i t
@@ -86,7 +86,7 @@ pub record IsSafeBelow (code : Program) (end : ℕ) (typing : List Known) (pc : 
   pub onward : continues i ≡ true → pc + 1 < end → Arrives code typing (pc + 1) (label_at code (pc + 1)) (leaves code.plan i t)
   pub targets : (target : ℕ) → target_of i ≡ Some target → Reaches code target (spent t)
 
--- the instructions below a place have a typing
+-- the instructions below a pc have a typing
 pub record IsTypingBelow (code : Program) (end : ℕ) (typing : List Known) : Type 0 where
   pub each : length typing ≡ end
   pub opening : 0 < end → HasOpening code
@@ -94,7 +94,7 @@ pub record IsTypingBelow (code : Program) (end : ℕ) (typing : List Known) : Ty
   pub safe : (pc : ℕ) (i : Instr) (t : Known) → instr_at code pc ≡ Some i → slice_get typing pc ≡ Some t → IsSafeBelow code end typing pc i t
   pub reached : (pc : ℕ) → pc < end → label_at code pc ≡ None → IsAfter code pc
 
--- what an instruction leaves, where it continues
+-- what holds after an instruction, where it continues
 abbrev pub left_by : Plan → Option Instr → Option Known → Option Known
 left_by plan None known = None
 left_by plan (Some i) None = None
@@ -108,7 +108,7 @@ abbrev pub InstructionRefused : Program → List Known → ℕ → Instr → Cau
 InstructionRefused code typing zero i = OpeningRefused code i (label_at code 0)
 InstructionRefused code typing (suc pc) i = PlaceRefused code (suc pc) i (label_at code (suc pc)) (left_before code typing (suc pc))
 
--- the first label at or past the end of the code stands here
+-- the first label at or past the end of the code is here
 pub record IsFirstPast (code : Program) (pc : ℕ) : Type 0 where
   pub label : Label
   pub there : label_at code pc ≡ Some label

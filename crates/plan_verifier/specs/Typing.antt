@@ -1,5 +1,5 @@
--- Typed codes: what is known at each instruction of a code, and when it keeps the code from going wrong.
--- What an instruction needs and leaves is defined with the flow of a plan, and is passed on.
+-- Typed codes: what is known at each instruction of a code, and when it keeps the code from going wrong. What an
+-- instruction needs, and what holds after it, is defined in `plan_flow` and exported again.
 pub use Rattle.plan_flow.specs.Rules.{Known, pages_alone, notice_pages, HasRoom, CanCommit, IsCertain, IsSurelyPending, IsFine, known_after_swap}
 pub use Rattle.plan_flow.specs.Rules.{waited, perhaps_swapped, paused, settled, spent, rested, leaves, HasConfigurationsOf, FitsSwap, target_of, continues}
 use Rattle.std.specs.Prelude.{◌≡◌, ℕ, ◌+◌, ◌<◌, ◌≤◌, true, List, length, slice_get, Contains, Option, Some, None}
@@ -26,7 +26,7 @@ pub record Fits (t declared : Known) : Type 0 where
   pub swap : FitsSwap t.pending declared.pending t declared
   pub counters : Includes t.counters declared.counters
 
--- a state comes to a label: it fits it, and has an allowance for all that may run from there
+-- a state reaches a label: it fits it, and has an allowance for all that may run from there
 pub record ComesTo (code : Program) (label : Label) (t : Known) : Type 0 where
   pub declared : Known
   pub declares : Declares code label declared
@@ -35,7 +35,7 @@ pub record ComesTo (code : Program) (label : Label) (t : Known) : Type 0 where
 
 -- ---- typed codes
 
--- what the code begins with: one configuration, nothing pending and no counter set
+-- the code begins with one configuration, nothing pending and no counter set
 pub record IsInitial (t : Known) : Type 0 where
   pub same : t.current ≡ t.next
   pub idle : t.pending ≡ Idle
@@ -47,12 +47,12 @@ pub record IsOpening (plan : Plan) (t : Known) : Type 0 where
   pub sound : IsSound t.current
   pub within_period : pages_alone plan t.current ≤ plan.period
 
--- a state comes to a pc: it is what is known there, or it comes to the label there
+-- a state reaches a pc: it is what is known there, or it reaches the label there
 abbrev pub Arrives : Program → List Known → ℕ → Option Label → Known → Type 0
 Arrives code typing pc None t = slice_get typing pc ≡ Some t
 Arrives code typing pc (Some label) t = ComesTo code label t
 
--- a label stands at the beginning of the code
+-- there is a label at the beginning of the code
 pub record HasOpening (code : Program) : Type 0 where
   pub label : Label
   pub known : Known
@@ -60,20 +60,20 @@ pub record HasOpening (code : Program) : Type 0 where
   pub declares : Declares code label known
   pub opening : IsOpening code.plan known
 
--- a label stands inside the code, what it declares is known there, and its cost is within the budget
+-- a label is inside the code, what it declares is known there, and its cost is within the budget
 pub record LabelStands (code : Program) (typing : List Known) (label : Label) : Type 0 where
   pub known : Known
   pub there : slice_get typing label.pc ≡ Some known
   pub declares : Declares code label known
   pub within : label.cost ≤ code.plan.budget
 
--- a label stands at the target, and the state comes to it
+-- there is a label at the target, and the state reaches it
 pub record Reaches (code : Program) (target : ℕ) (t : Known) : Type 0 where
   pub label : Label
   pub there : label_at code target ≡ Some label
   pub comes : ComesTo code label t
 
--- the instruction before this place continues to it
+-- the instruction before this pc continues to it
 pub record IsAfter (code : Program) (pc : ℕ) : Type 0 where
   pub before : ℕ
   pub instr : Instr
@@ -81,8 +81,8 @@ pub record IsAfter (code : Program) (pc : ℕ) : Type 0 where
   pub there : instr_at code before ≡ Some instr
   pub onward : continues instr ≡ true
 
--- what holds at an instruction of which this is known: there is an allowance, it can't go wrong, and what it
--- leaves is what is known where the machine continues; the last instruction doesn't continue to the one after it
+-- what holds at an instruction of which this is known: there is an allowance, it can't go wrong, and what holds
+-- after it is what is known where the machine continues; the last instruction doesn't continue to the one after it
 pub record IsSafe (code : Program) (typing : List Known) (pc : ℕ) (i : Instr) (t : Known) : Type 0 where
   pub allowance : 1 ≤ t.allowance
   pub fine : IsFine code.plan i t
@@ -90,7 +90,7 @@ pub record IsSafe (code : Program) (typing : List Known) (pc : ℕ) (i : Instr) 
   pub onward : continues i ≡ true → Arrives code typing (pc + 1) (label_at code (pc + 1)) (leaves code.plan i t)
   pub targets : (target : ℕ) → target_of i ≡ Some target → Reaches code target (spent t)
 
--- what is known at each place of the code, such that nothing goes wrong
+-- what is known at each pc of the code, such that nothing goes wrong
 pub record IsTyping (code : Program) (typing : List Known) : Type 0 where
   pub each : length typing ≡ length code.lines
   pub opening : HasOpening code

@@ -40,7 +40,7 @@ abbrev pub or_nothing : Option Configuration → Configuration
 or_nothing None = nothing
 or_nothing (Some c) = c
 
--- what a label declares: its configurations stand in the table
+-- what a label declares, with its configurations from the table
 abbrev pub declared_by : Program → Label → Known
 declared_by code label =
     record {
@@ -81,7 +81,7 @@ known_cause code pc i t =
     first_or instr_cause code i t
     first_or cause_if (continues i && (pc + 1 == length code.lines)) FallsOff
 
--- ---- where the walk comes to an instruction: what is known there, or the cause why it is refused
+-- ---- where the walk reaches an instruction: what is known there, or the cause why it is refused
 
 abbrev pub taken : Option Cause → Known → Result Known Cause
 taken None t = Ok t
@@ -132,14 +132,14 @@ abbrev pub instr_or_end : Option Instr → Instr
 instr_or_end None = End
 instr_or_end (Some i) = i
 
--- an instruction is entered and passed, and this is left
+-- an instruction is entered and passed, and this holds after it
 pub record PassesInstr (code : Program) (pc : ℕ) (i : Instr) (came : Option Known) (left : Known) : Type 0 where
   pub known : Known
   pub enters : entered code pc came ≡ Ok known
   pub none : known_cause code pc i known ≡ None
   pub leaves_it : left ≡ leaves code.plan i known
 
--- where no cause holds here, what comes of the rest
+-- where no cause holds here, the result of the rest
 abbrev pub or_after : ℕ → Option Cause → Option Refusal → Option Refusal
 or_after pc None rest = rest
 or_after pc (Some cause) rest = refused_at pc cause

@@ -12,17 +12,17 @@ use plan_code::{Counters, Instr, Swap};
 use plan_flow::Flow;
 use plan_flow::flow::is_idle;
 
-/// Where the two configurations stand in the table of a code, as far as it is known: there they need not be looked
-/// at.
+/// The indices of the two configurations in the table of a code, as far as they are known: with the index known, the
+/// configurations need not be compared.
 #[derive(Clone, Copy)]
 pub(crate) struct Places {
-    /// A place of the current configuration.
+    /// An index of the current configuration.
     pub(crate) current: Option<u16>,
-    /// A place of the next configuration.
+    /// An index of the next configuration.
     pub(crate) next: Option<u16>,
 }
 
-/// What is known whenever the machine comes to an instruction, with the configurations held in two stores.
+/// What is known whenever the machine reaches an instruction, with the configurations in two stores.
 #[derive(Drop)]
 pub(crate) struct KnownState<S: Store> {
     /// What is known of the configurations and of the swap.
@@ -31,7 +31,7 @@ pub(crate) struct KnownState<S: Store> {
     pub(crate) counters: Counters,
     /// How many instructions may still run in this frame, this one included.
     pub(crate) allowance: u8,
-    /// Where the configurations stand in the code's table.
+    /// The indices of the configurations in the code's table.
     pub(crate) places: Places,
 }
 
@@ -49,7 +49,7 @@ fn has_swapped(before: Swap, after: Swap) -> bool
     !is_idle(before) && is_idle(after)
 }
 
-/// Where the configurations stand after a wait.
+/// The indices of the configurations after a wait.
 fn places_after_wait(before: Swap, after: Swap, places: Places) -> Places
     ensures { (table : List Configuration) (t u : Known) → MovesOn before after t u
         → ArePlaced table places t → ArePlaced table result u }
@@ -63,7 +63,7 @@ fn places_after_wait(before: Swap, after: Swap, places: Places) -> Places
     places
 }
 
-/// Where the configurations stand after an instruction that leaves this swap of that one.
+/// The indices of the configurations after an instruction, with the swap before it and after it.
 fn places_after(instr: Instr, before: Swap, after: Swap, places: Places) -> Places
     ensures { (plan : Plan) (table : List Configuration) (t : Known) → before ≡ t.pending
         → after ≡ (leaves plan instr t).pending → ArePlaced table places t
@@ -92,7 +92,7 @@ fn places_after(instr: Instr, before: Swap, after: Swap, places: Places) -> Plac
     }
 }
 
-/// Notes where the configurations stand after an instruction that has left the swap of this state.
+/// Updates the indices of the configurations after an instruction; the swap of this state is that after it.
 pub(crate) fn note_places<S: Store>(instr: Instr, before: Swap, state: &mut KnownState<S>)
     ensures kept { known_of S.content state.new ≡ known_of S.content state.old }
     ensures allowance { state.new.allowance ≡ state.old.allowance }

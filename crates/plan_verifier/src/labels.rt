@@ -1,4 +1,4 @@
-//! What is known where the machine comes to a label.
+//! What is known where the machine reaches a label.
 
 ghost use Rattle.std.specs.Prelude.{◌≡◌, ℕ, ◌<◌, ◌↔◌, ◌&&◌, length, slice_get, true, Some, IsTrue, IfSome};
 ghost use Rattle.plan_code.specs.Program.{IsProgram, IsLabel, label_at};
@@ -29,14 +29,14 @@ fn config_at(code: &Code, place: u16) -> &Config
     &code.configs()[usize::from(place)]
 }
 
-/// Whether this is the place that is known.
+/// Whether this is the known index.
 fn is_at(known: Option<u16>, place: u16) -> bool
     ensures { IsTrue result ↔ (known ≡ Some place) }
 {
     known == Some(place)
 }
 
-/// Whether a store holds the configuration of a place, where it is known at which one its own stands, if at any.
+/// Whether a store holds the configuration of an index; `known` is the index of its own, if that is known.
 fn holds<S: Store>(code: &Code, store: &S, known: Option<u16>, place: u16) -> bool
     requires within { place < length code.now.configurations }
     requires known { StandsAt code.now.configurations known (S.content store.now) }
@@ -46,7 +46,7 @@ fn holds<S: Store>(code: &Code, store: &S, known: Option<u16>, place: u16) -> bo
     is_at(known, place) || is_same(store, config_at(code, place))
 }
 
-/// Whether what is known has the configurations of these places.
+/// Whether what is known has the configurations of these indices.
 fn has<S: Store>(code: &Code, current: u16, next: u16, state: &KnownState<S>) -> bool
     requires current_within { current < length code.now.configurations }
     requires next_within { next < length code.now.configurations }
@@ -103,8 +103,8 @@ fn may_have_swapped(pending: Swap, declared: Swap) -> bool
     is_idle(pending) && !is_idle(declared)
 }
 
-/// Where the configurations of what fits a label stand: where the label's do, but for the current one where the swap may
-/// have been made.
+/// The indices of the configurations of what fits a label: those of the label's, but for the current one where the swap
+/// may have been made.
 fn fit_places(code: &Code, label: &Label, pending: Swap) -> Places
     ensures { (t : Known) → pending ≡ t.pending
         → is_fit t (declared_by code.now label.now) ≡ true
@@ -122,7 +122,7 @@ fn fit_places(code: &Code, label: &Label, pending: Swap) -> Places
     }
 }
 
-/// Whether what is known fits what a label declares; then it is known where its configurations stand. Refused are
+/// Whether what is known fits what a label declares; then the indices of its configurations are known. Refusals:
 /// `Mismatch`, where it does not, and `Cost`, where this allowance is below the label's cost.
 pub(crate) fn test_entry<S: Store>(
     code: &Code,
@@ -148,7 +148,7 @@ pub(crate) fn test_entry<S: Store>(
     Ok(())
 }
 
-/// Whether a label's cost is within the budget; else `Cost` is refused.
+/// Whether a label's cost is within the budget. Refusal: `Cost`.
 pub(crate) fn test_cost(code: &Code, label: &Label) -> Result<(), Cause>
     ensures { result ≡ unless (label_cause code.now label.now) }
 {
@@ -158,7 +158,7 @@ pub(crate) fn test_cost(code: &Code, label: &Label) -> Result<(), Cause>
     Ok(())
 }
 
-/// Takes what a label declares, but for its configurations, and notes where these stand.
+/// Takes what a label declares, but for its configurations, and notes the indices of these.
 fn take_rest<S: Store>(label: &Label, state: &mut KnownState<S>)
     ensures value { known_of S.content state.new ≡ refitted label.now
         (known_of S.content state.old) }
@@ -173,7 +173,7 @@ fn take_rest<S: Store>(label: &Label, state: &mut KnownState<S>)
     };
 }
 
-/// Takes the configuration of a place into a store, where it is known at which one its own stands, if at any.
+/// Copies the configuration of an index into a store; `known` is the index of its own, if that is known.
 fn put<S: Store>(code: &Code, place: u16, known: Option<u16>, store: &mut S)
     requires within { place < length code.now.configurations }
     requires known { StandsAt code.now.configurations known (S.content store.old) }
@@ -201,8 +201,8 @@ pub(crate) fn take<S: Store>(code: &Code, label: &Label, state: &mut KnownState<
     take_rest(label, state);
 }
 
-/// Takes what a label declares, where what is known fits it: then the configurations stand there already, but
-/// for the current one of a label at which the swap may have been made.
+/// Takes what a label declares, where what is known fits it: then the configurations are the same already, but for the
+/// current one of a label at which the swap may have been made.
 pub(crate) fn refit<S: Store>(code: &Code, label: &Label, state: &mut KnownState<S>)
     requires within { IsLabel (length code.now.configurations) label.now }
     requires placed { KnowsPlaces S.content code.now.configurations state.old }

@@ -1,4 +1,4 @@
-//! One instruction: why it is refused, and what it leaves.
+//! Checking one instruction.
 
 ghost use Rattle.std.specs.Prelude.{◌≡◌, ◌≤◌, ◌+◌, ◌==◌, ◌&&◌, OnOk, length};
 ghost use Rattle.plan_code.specs.Program.{instr_at, label_at};
@@ -14,7 +14,7 @@ use plan_code::{Code, Instr, Plan};
 use plan_flow::Cause;
 use plan_flow::ways::continues;
 
-/// Jumps to the label at the target: refused are `Target`, where none stands there, `Mismatch` and `Cost`.
+/// Checks a jump to the label at the target. Refusals: `Target`, where there is none, `Mismatch` and `Cost`.
 fn test_jump<S: Store>(code: &Code, target: u16, state: &mut KnownState<S>) -> Result<(), Cause>
     requires allowance { 1 ≤ state.old.allowance }
     requires placed { KnowsPlaces S.content code.now.configurations state.old }
@@ -30,7 +30,7 @@ fn test_jump<S: Store>(code: &Code, target: u16, state: &mut KnownState<S>) -> R
     }
 }
 
-/// Whether an instruction can jump where it does, if it jumps: refused are `CounterUnset`, where a loop's counter may not
+/// Whether an instruction can jump where it does, if it jumps. Refusals: `CounterUnset`, where a loop's counter may not
 /// be set, `Target`, `Mismatch` and `Cost`.
 fn test_target<S: Store>(code: &Code, instr: Instr, state: &mut KnownState<S>) -> Result<(), Cause>
     requires allowance { 1 ≤ state.old.allowance }
@@ -63,7 +63,7 @@ fn test_target<S: Store>(code: &Code, instr: Instr, state: &mut KnownState<S>) -
     }
 }
 
-/// What an instruction leaves of the configurations and the swap, or the first cause why they refuse it.
+/// Updates the configurations and the swap by an instruction, or returns the first cause why they refuse it.
 fn advance<S: Store>(plan: &Plan, instr: Instr, state: &mut KnownState<S>) -> Result<(), Cause>
     ensures cause { result ≡ unless (flow_cause plan.now instr (known_of S.content state.old)) }
     ensures left { OnOk result (known_of S.content state.new ≡ known_with (moved plan.now instr
@@ -74,8 +74,7 @@ fn advance<S: Store>(plan: &Plan, instr: Instr, state: &mut KnownState<S>) -> Re
     state.flow.apply(plan, instr)
 }
 
-/// Takes account of the counters that an instruction sets or unsets, and of the instructions that may still run in the
-/// frame of the next one.
+/// Updates the counters that are set, and the allowance of the next instruction.
 fn account<S: Store>(plan: &Plan, instr: Instr, state: &mut KnownState<S>)
     requires { 1 ≤ state.old.allowance }
     ensures value { known_of S.content state.new ≡ known_with (flow_of
@@ -106,7 +105,7 @@ fn account<S: Store>(plan: &Plan, instr: Instr, state: &mut KnownState<S>)
     }
 }
 
-/// An instruction that has an allowance: why it is refused, or what it leaves.
+/// Checks one instruction that has an allowance, and updates the known state.
 fn step<S: Store>(code: &Code, instr: &Instr, state: &mut KnownState<S>) -> Result<(), Cause>
     requires allowance { 1 ≤ state.old.allowance }
     requires placed { KnowsPlaces S.content code.now.configurations state.old }
@@ -135,7 +134,7 @@ pub(crate) fn instr_at(code: &Code, pc: u16) -> Instr
     }
 }
 
-/// Whether the instruction here continues to the one after it, and is the last.
+/// Whether the instruction here is the last one, and continues to the one after it.
 fn falls_off(code: &Code, pc: u16) -> bool
     ensures { result ≡ (continues (instr_or_end (instr_at code.now pc)) &&
         (pc + 1 == length code.now.lines)) }
@@ -143,7 +142,7 @@ fn falls_off(code: &Code, pc: u16) -> bool
     continues(instr_at(code, pc)) && usize::from(pc) + 1 == code.lines().len()
 }
 
-/// An instruction of which it is known what holds: why it is refused, from the allowance on, or what it leaves.
+/// Checks one instruction, allowance first, and updates the known state.
 pub(crate) fn judge<S: Store>(code: &Code, pc: u16, state: &mut KnownState<S>) -> Result<(), Cause>
     requires { KnowsPlaces S.content code.now.configurations state.old }
     ensures cause { result ≡ unless (known_cause code.now pc (instr_or_end (instr_at code.now pc))

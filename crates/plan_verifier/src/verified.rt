@@ -1,4 +1,4 @@
-//! Codes that the verifier has judged.
+//! Accepted and refused codes.
 
 ghost use Rattle.std.specs.Prelude.{◌≡◌, ◌↔◌, IsOk, IfOk, IfErr};
 ghost use Rattle.plan_code.specs.Program.{IsProgram};
@@ -11,7 +11,7 @@ use plan_code::Code;
 use plan_flow::Cause;
 use std::marker::Model;
 
-/// A code that `verify` has accepted: it is typed. Contracts see it as the program that the code stands for.
+/// A code that `verify` has accepted: it is typed. Contracts see it as the program that the code represents.
 #[derive(Drop)]
 pub struct Verified {
     code: Code,
@@ -44,23 +44,22 @@ impl Verified {
 pub struct Refused {
     /// The code that was handed in.
     pub code: Code,
-    /// The instruction at which it is refused, counted from 0; or the place of a label past the last one.
+    /// The instruction at which it is refused, counted from 0; or the pc of a label past the last one.
     pub pc: u16,
     /// Why it is refused there.
     pub cause: Cause,
 }
 
-/// Whether a code is typed: then no run of it goes wrong, whatever frames and contact changes come. The code
-/// is walked over once, from its first instruction on, with the configurations in two stores of this type. No
-/// memory is taken but the stack's.
+/// Whether a code is typed: then no run of it goes wrong, for any frames and contact changes. One pass over the code
+/// from its first instruction on, with the configurations in two stores of this type. It does not allocate.
 ///
-/// `Refused` gives the code back, with the first instruction that has a cause and its first cause, in this
-/// order: where the first instruction has no label `Table`, where its label declares two different
-/// configurations, a pending swap or a counter `Mismatch`, where its cost is over the budget `Cost`, where its
-/// configuration is not sound `Config`, and where its pages take longer than the period `Round`; at another
-/// label `Mismatch` and `Cost`; without a label, after an instruction that does not continue, `Table`; `Cost`
-/// where no allowance is left; then the causes of the instruction itself; `FallsOff` where the last one
-/// continues; and `Table` at the first label past the last instruction.
+/// `Refused` returns the code, with the first instruction that has a cause and its first cause, in this order: where
+/// the first instruction has no label `Table`, where its label declares two different configurations, a pending swap or
+/// a counter `Mismatch`, where its cost is over the budget `Cost`, where its configuration is not sound `Config`, and
+/// where its pages take longer than the period `Round`; at another label `Mismatch` and `Cost`; without a label, after
+/// an instruction that does not continue, `Table`; `Cost` where no allowance is left; then the causes of the
+/// instruction itself; `FallsOff` where the last one continues; and `Table` at the first label past the last
+/// instruction.
 pub fn verify<S: Store>(code: Code) -> Result<Verified, Refused>
     ensures typed { IsOk result ↔ IsTyped code }
     ensures same { IfOk result (λ v. v ≡ code) }

@@ -1,4 +1,4 @@
-//! The walk over a code: what is known at each instruction, and the first that is refused.
+//! The pass over a code: what is known at each instruction, and the first that is refused.
 
 ghost use Rattle.std.specs.Prelude.{◌≡◌, IfErr, OnOk, Ok, Err, Some, None, length};
 ghost use Rattle.plan_code.specs.Program.{IsProgram, instr_at, label_at};
@@ -16,7 +16,7 @@ use plan_flow::flow::{is_idle, is_same};
 use plan_flow::ways::continues;
 use plan_flow::{Cause, Flow, test_opening};
 
-/// Whether the walk can begin so: one configuration, nothing pending and no counter set.
+/// Whether a code can begin with this: one configuration, nothing pending and no counter set.
 fn is_initial<S: Store>(state: &KnownState<S>) -> bool
     ensures { result ≡ is_initial (known_of S.content state.now) }
 {
@@ -25,8 +25,8 @@ fn is_initial<S: Store>(state: &KnownState<S>) -> bool
         && is_same(&state.flow.current, &state.flow.next)
 }
 
-/// Whether what the first label declares can be what a code begins with. Refused are `Mismatch`, `Cost`,
-/// `Config` and `Round`, in this order.
+/// Whether a code can begin with what the first label declares. Refusals, in this order: `Mismatch`, `Cost`, `Config`
+/// and `Round`.
 fn test_first<S: Store>(code: &Code, label: &Label, state: &KnownState<S>) -> Result<(), Cause>
     ensures { result ≡ unless (opening_cause code.now label.now (known_of S.content state.now)) }
 {
@@ -107,7 +107,7 @@ fn enter_at<S: Store>(
     enter(code, pc, comes, state)
 }
 
-/// One instruction of the walk: why it is refused, or what it leaves.
+/// Checks the instruction at a pc of the code, and updates the known state.
 fn visit<S: Store>(
     code: &Code,
     pc: u16,

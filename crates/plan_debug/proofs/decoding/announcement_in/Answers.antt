@@ -1,5 +1,5 @@
 use Rattle.plan_debug.proofs.Headers.{announced_here}
-use Rattle.plan_debug.proofs.heard.announcement_in.Goals as goal
+use Rattle.plan_debug.proofs.decoding.announcement_in.Goals as goal
 
 pub returns : goal.returns
 returns c = λ plan s right.

@@ -3,7 +3,7 @@ use Rattle.std.proofs.lemmas.Grind.{common_steps}
 use Rattle.fib_reader.specs.Raw.{raw_entry}
 use Rattle.mux_entries.specs.declared.entry.Entry.TheVariants.{Ensemble as EnsembleOf}
 use Rattle.plan_debug.proofs.Headers.{header_held}
-use Rattle.plan_debug.proofs.heard.announcement_in_fib.Goals as goal
+use Rattle.plan_debug.proofs.decoding.announcement_in_fib.Goals as goal
 
 pub returns-in-Err-clause-headed : goal.returns-in-Err-clause-headed
 returns-in-Err-clause-headed c = λ header others e fib inside.

@@ -1,4 +1,4 @@
-//! The announcement that the bytes of a frame make.
+//! Decoding the announcement of a frame.
 
 ghost use Rattle.std.specs.Prelude.{◌≡◌, Some, None, List, ◌∷◌, false};
 ghost use Rattle.std.specs.List.{AllByRecursion};
@@ -41,7 +41,10 @@ fn announcement_of_entry(entry: &RawEntry) -> Option<Announcement>
 {
     match entry.value() {
         Entry::Ensemble(ensemble) => announcement_of(ensemble),
-        _ => None,
+        Entry::Sub(_) => None,
+        Entry::Short(_) => None,
+        Entry::Service(_) => None,
+        Entry::Packet(_) => None,
     }
 }
 
