@@ -15,7 +15,7 @@ use Rattle.plan_code.specs.Program.{IsEdit, IsNewSub, IsNewPacket, IsCarrier}
 use Rattle.script_tokens.specs.declared.keyword.Keyword.{Keyword}
 use Rattle.script_tokens.specs.declared.keyword.Keyword.TheVariants as the
 use Rattle.script_tokens.specs.Words.{the as is, letters}
-use Rattle.script_words.specs.Spelling.{sid_word, time_word}
+use Rattle.script_tokens.specs.Spelling.{sid_word, time_word}
 use Rattle.std.proofs.lemmas.Bool.{false≢true}
 use Rattle.script_front.specs.declared.tree.Act.{Act}
 use Rattle.script_front.specs.declared.tree.Act.TheVariants.{Edit as Edits, Wait, WaitContact, Until, CommitIn, CommitAt, Join, Settle}

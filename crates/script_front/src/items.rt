@@ -24,10 +24,10 @@ ghost use Rattle.mux_types.specs.declared.parts.Carrier.{Carrier};
 
 use crate::tree::{Act, Item};
 use mux_config::{Carrier, Component, Edit, NewSub, Packet, ScTy, Sid, SubId};
-use script_words::fault::ScriptFault;
-use script_words::keyword::Keyword;
-use script_words::reader::Reader;
-use script_words::values::{
+use script_tokens::fault::ScriptFault;
+use script_tokens::keyword::Keyword;
+use script_tokens::reader::Reader;
+use script_tokens::values::{
     contact, delay, frames, profile, sc_id, sc_ty, sid, start, sub_id, time, word,
 };
 use std::alloc::Global;

@@ -13,10 +13,10 @@ use crate::items::act;
 use crate::make::{acting, applying, choosing, conditional, ending, looping, repeating};
 use crate::names::Names;
 use crate::tree::{BlockId, Statement};
-use script_words::fault::ScriptFault;
-use script_words::keyword::Keyword;
-use script_words::reader::Reader;
-use script_words::values::{contact, name, times};
+use script_tokens::fault::ScriptFault;
+use script_tokens::keyword::Keyword;
+use script_tokens::reader::Reader;
+use script_tokens::values::{contact, name, times};
 use std::alloc::Global;
 
 /// A statement; `left` is how many more items and statements a script may have, and `depth` how many more

@@ -1,8 +1,11 @@
+pub mod Atoms
 pub mod Braces
 pub mod Digits
 pub mod Ending
 pub mod Keys
 mod Lexing
+mod Numerals
 pub mod Pieces
 pub mod Spans
 mod Vectors
+pub mod Wording

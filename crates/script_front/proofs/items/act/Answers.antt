@@ -1,6 +1,6 @@
 use Rattle.std.proofs.Common.{◌∷◌, sym, ap, ◌∙◌}
 use Rattle.script_tokens.specs.Words.{letters}
-use Rattle.script_words.proofs.Atoms.{told}
+use Rattle.script_tokens.proofs.Atoms.{told}
 use Rattle.script_front.proofs.Refusing.{no_until, no_other_act}
 use Rattle.script_front.proofs.items.act.Goals as goal
 

@@ -1,6 +1,6 @@
 use Rattle.std.proofs.Common.{◌∷◌, sym, ap, ◌∙◌}
 use Rattle.script_tokens.specs.Words.{letters}
-use Rattle.script_words.proofs.Atoms.{told}
+use Rattle.script_tokens.proofs.Atoms.{told}
 use Rattle.script_front.proofs.Refusing.{no_sound, no_stream, no_carried}
 use Rattle.script_front.proofs.items.carried.Goals as goal
 

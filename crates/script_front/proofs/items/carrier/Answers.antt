@@ -2,7 +2,7 @@ use Rattle.std.proofs.Common.{sym, ◌∙◌, subst}
 use Rattle.script_tokens.specs.declared.keyword.Keyword.TheVariants as the
 use Rattle.script_tokens.specs.Words.{letters}
 use Rattle.script_tokens.specs.Reading.{BeginsWith}
-use Rattle.script_words.proofs.Atoms.{told}
+use Rattle.script_tokens.proofs.Atoms.{told}
 use Rattle.script_tokens.proofs.Keys.{found_is}
 use Rattle.script_front.proofs.Refusing.{no_carrier, no_by_sub, no_by_packet}
 use Rattle.script_front.proofs.items.carrier.Goals as goal

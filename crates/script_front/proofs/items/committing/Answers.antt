@@ -2,7 +2,7 @@ use Rattle.std.proofs.Common.{◌∷◌, sym, ap, ◌∙◌, subst}
 use Rattle.script_tokens.specs.declared.keyword.Keyword.TheVariants as the
 use Rattle.script_tokens.specs.Words.{letters}
 use Rattle.script_tokens.specs.Reading.{Spelled, BeginsWith}
-use Rattle.script_words.proofs.Atoms.{told}
+use Rattle.script_tokens.proofs.Atoms.{told}
 use Rattle.script_tokens.proofs.Keys.{found_is}
 use Rattle.script_front.proofs.Refusing.{no_commit, no_commit_in, no_commit_at}
 use Rattle.script_front.proofs.items.committing.Goals as goal

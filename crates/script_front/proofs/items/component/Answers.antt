@@ -1,5 +1,5 @@
 use Rattle.script_tokens.specs.Reading.{behind}
-use Rattle.script_words.proofs.Atoms.{told}
+use Rattle.script_tokens.proofs.Atoms.{told}
 use Rattle.script_front.proofs.Refusing.{no_place}
 use Rattle.script_front.proofs.items.component.Goals as goal
 

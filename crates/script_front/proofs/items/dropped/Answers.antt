@@ -2,7 +2,7 @@ use Rattle.std.proofs.Common.{◌∷◌, sym, ap, ◌∙◌, subst}
 use Rattle.script_tokens.specs.declared.keyword.Keyword.TheVariants as the
 use Rattle.script_tokens.specs.Words.{letters}
 use Rattle.script_tokens.specs.Reading.{Spelled, BeginsWith}
-use Rattle.script_words.proofs.Atoms.{told, handed_on}
+use Rattle.script_tokens.proofs.Atoms.{told, handed_on}
 use Rattle.script_tokens.proofs.Keys.{found_is}
 use Rattle.script_front.proofs.Refusing.{no_dropped, no_drop_service, no_drop_component, no_drop_other, no_carried_by, no_dropped_place}
 use Rattle.script_front.proofs.items.dropped.Goals as goal

@@ -1,4 +1,4 @@
-use Rattle.script_words.proofs.Atoms.{handed_on}
+use Rattle.script_tokens.proofs.Atoms.{handed_on}
 use Rattle.script_front.proofs.Refusing.{no_move_at, no_rate_at, no_other_edit}
 use Rattle.script_front.proofs.items.edit.Goals as goal
 

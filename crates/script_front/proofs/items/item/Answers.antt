@@ -1,6 +1,6 @@
 use Rattle.std.proofs.Common.{◌∷◌, sym, ap, ◌∙◌}
 use Rattle.script_tokens.specs.Words.{letters}
-use Rattle.script_words.proofs.Atoms.{told, handed_on}
+use Rattle.script_tokens.proofs.Atoms.{told, handed_on}
 use Rattle.script_front.proofs.Refusing.{no_new_sub, no_new_service, no_new_packet, no_other_item}
 use Rattle.script_front.proofs.items.item.Goals as goal
 
