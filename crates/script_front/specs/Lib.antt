@@ -6,6 +6,7 @@ pub mod Printing
 pub mod Spelled
 pub mod Tree
 pub use Rattle.script_tokens.specs.Bytes
+pub use Rattle.script_tokens.specs.First
 pub use Rattle.script_tokens.specs.Lexing
 pub use Rattle.script_tokens.specs.Reading
 pub use Rattle.script_tokens.specs.Spelling

@@ -2,6 +2,7 @@ pub mod Atoms
 pub mod Braces
 pub mod Digits
 pub mod Ending
+mod First
 pub mod Keys
 mod Lexing
 mod Numerals

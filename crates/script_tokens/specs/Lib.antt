@@ -1,4 +1,5 @@
 pub mod Bytes
+pub mod First
 pub mod Lexing
 pub mod Reading
 pub mod Spelling

@@ -7,6 +7,7 @@
 #![tactic(auto)]
 
 pub mod fault;
+pub mod first_keyword;
 pub mod keyword;
 pub mod laws;
 pub mod lexer;
@@ -17,6 +18,7 @@ pub mod token;
 pub mod values;
 
 pub use fault::{Position, ScriptFault};
+pub use first_keyword::{ActKeyword, ComponentKeyword, EditKeyword, ItemKeyword, StatementKeyword};
 pub use keyword::Keyword;
 pub use lexer::{cut, lex};
 pub use reader::Reader;
