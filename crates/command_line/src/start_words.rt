@@ -1,14 +1,14 @@
 //! How a code is asked to start: the words of `play`, `debug` and `live` for its first frame.
 
 ghost use Rattle.std.specs.Prelude.{◌≡◌, ◌≢◌, ◌<◌, ℕ, None, IfSome};
-ghost use Rattle.script_words.specs.Spelling.{time_word};
-ghost use Rattle.script_words.specs.Times.{frame_at};
+ghost use Rattle.script_tokens.specs.Spelling.{time_word};
+ghost use Rattle.script_tokens.specs.Times.{frame_at};
 
 use crate::words::UsageError;
 use clap::{Arg, ArgMatches, value_parser};
 use console::hexadecimal::word_of;
 use plan_code::Contacts;
-use script_words::number;
+use script_tokens::number;
 use std::alloc::{AllocError, Global};
 
 /// How a code starts to be played, which the code does not say.

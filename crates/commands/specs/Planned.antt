@@ -15,7 +15,7 @@ use Rattle.script_front.specs.Denoting.{Denotes}
 use Rattle.script_front.specs.Printing.{text_of_lines, tree_lines}
 use Rattle.script_front.specs.Tree.{Tree, IsScript}
 use Rattle.script_opening.specs.Plain.{IsPlain}
-use Rattle.script_scheme.specs.Compiled.{IsAccepted, IsCodeOf}
+use Rattle.script_meaning.specs.Compiled.{IsAccepted, IsCodeOf}
 
 -- the text denotes the plan from one opening to another, laid out as scripts are printed; the plan is accepted, and its
 -- code is typed

@@ -5,7 +5,7 @@ ghost use Rattle.script_tokens.specs.declared.fault.ScriptFault.TheVariants.{Mem
 ghost use Rattle.plan_session.specs.declared.event_fault.EventFault.TheVariants.{Memory};
 ghost use Rattle.plan_session.specs.Kept.{told};
 
-use script_words::{Position, ScriptFault};
+use script_tokens::{Position, ScriptFault};
 use std::alloc::AllocError;
 use thiserror::Error;
 

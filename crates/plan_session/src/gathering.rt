@@ -10,7 +10,7 @@ ghost use Rattle.plan_session.specs.Kept.{IsKeptOf};
 use crate::characters::take_byte;
 use crate::text_fault::TextFault;
 use arrayvec::ArrayVec;
-use script_words::token::Kind;
+use script_tokens::token::Kind;
 use std::alloc::Global;
 
 /// The state after the bytes so far.

@@ -11,9 +11,9 @@ ghost use Rattle.plan_session.specs.Words.{AreSpans};
 use crate::event_fault::{EventFault, fault_of};
 use crate::words::Words;
 use plan_code::ContactId;
-use script_words::number::decimal;
-use script_words::token::NO_LIMITS;
-use script_words::{Token, cut};
+use script_tokens::number::decimal;
+use script_tokens::token::NO_LIMITS;
+use script_tokens::{Token, cut};
 use std::alloc::Global;
 
 /// An item that a text lists, spelled by tokens.

@@ -1,6 +1,6 @@
 //! The tokens of a text, one after another.
 
-use script_words::{Position, Token};
+use script_tokens::{Position, Token};
 use std::marker::Model;
 
 /// What is left of the tokens of a text.

@@ -8,12 +8,12 @@ use Rattle.plan_code.specs.declared.plan.Plan.{Plan}
 use Rattle.plan_code.specs.Program.{Program, IsProgram}
 use Rattle.plan_flow.specs.Rules.{pages_alone}
 use Rattle.script_front.specs.Tree.{Tree}
-use Rattle.script_scheme.specs.declared.flow.Mark.{Mark}
-use Rattle.script_scheme.specs.Scheme.{marks_of}
-use Rattle.script_scheme.specs.Judged.{IsJudged}
-use Rattle.script_scheme.specs.Need.{IsWithinBudget}
-use Rattle.script_scheme.specs.Compiled.{plan_of, opening_of, beginning, body_of, places_of, lines_of_places, instrs_of, nested, AreFine, Tabled, AreLabelsOf, IsCodeOf, IsAccepted}
-use Rattle.script_scheme.proofs.OneCode.{tabled_once}
+use Rattle.script_meaning.specs.declared.flow.Mark.{Mark}
+use Rattle.script_meaning.specs.Scheme.{marks_of}
+use Rattle.script_meaning.specs.Judged.{IsJudged}
+use Rattle.script_meaning.specs.Need.{IsWithinBudget}
+use Rattle.script_meaning.specs.Compiled.{plan_of, opening_of, beginning, body_of, places_of, lines_of_places, instrs_of, nested, AreFine, Tabled, AreLabelsOf, IsCodeOf, IsAccepted}
+use Rattle.script_meaning.proofs.OneCode.{tabled_once}
 use Rattle.script_compiler.proofs.Laid.{length_lines}
 
 pub labels_length : (table : List Configuration) (ms : List Mark) (ls : List Label) → AreLabelsOf table ms ls → length ls ≡ length ms

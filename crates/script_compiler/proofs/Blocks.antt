@@ -2,7 +2,7 @@
 use Rattle.std.proofs.Common.{◌≡◌, ℕ, zero, suc, ◌+◌, ◌<◌, Bool, List, [], ◌∷◌, ◌++◌, length, map, take, get_or, Vec, Global, refl, sym, ap, ◌∙◌, arith}
 use Rattle.script_front.specs.declared.tree.Statement.{Statement}
 use Rattle.script_front.specs.Block.{Block, block_of, table_of}
-use Rattle.script_scheme.specs.Scheme.{falls_out}
+use Rattle.script_meaning.specs.Scheme.{falls_out}
 use Rattle.script_compiler.specs.Laying.{tables, lays_nothing}
 
 table_more : (table : List Block) (bs : List (List Statement)) (b : List Statement) → table_of table (bs ++ b ∷ []) ≡ table_of table bs ++ block_of (table_of table bs) b ∷ []

@@ -9,9 +9,9 @@ use Rattle.plan_code.specs.declared.plan.Plan.{Plan}
 use Rattle.plan_flow.specs.Rules.{Known, IsFine, known_after_swap, waited, paused, perhaps_swapped, settled}
 use Rattle.plan_flow.specs.Flows.{Flow, known_at, moved, widest}
 use Rattle.script_front.specs.Block.{Block, nothing, basic, stop, when, either, repeat, forever, apply}
-use Rattle.script_scheme.specs.declared.flow.Spot.{Spot}
-use Rattle.script_scheme.specs.Scheme.{Place, past, at_label, meet, join, onward, head, spot_after, place_of_instr, alone, places, instr_of_act, falls_out}
-use Rattle.script_scheme.specs.Judged.{IsJudged, Reached}
+use Rattle.script_meaning.specs.declared.flow.Spot.{Spot}
+use Rattle.script_meaning.specs.Scheme.{Place, past, at_label, meet, join, onward, head, spot_after, place_of_instr, alone, places, instr_of_act, falls_out}
+use Rattle.script_meaning.specs.Judged.{IsJudged, Reached}
 
 -- the least is 1 or more, and not above the greatest
 abbrev pub IsBounded : Swap → Type 0

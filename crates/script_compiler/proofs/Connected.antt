@@ -7,8 +7,8 @@ use Rattle.plan_flow.specs.Flows.{moved}
 use Rattle.script_front.specs.declared.tree.Act.{Act}
 use Rattle.script_front.specs.declared.tree.Act.TheVariants.{Edit as Edits, Wait as Waits, WaitContact as WaitsContact, Until as WaitsUntil, CommitIn as CommitsIn, CommitAt as CommitsAt, Join as Joins, Settle as Settles}
 use Rattle.script_front.specs.Block.{Block, nothing, basic, stop, when, either, repeat, forever, apply}
-use Rattle.script_scheme.specs.declared.flow.Spot.{Spot}
-use Rattle.script_scheme.specs.Scheme.{Place, past, at_label, meet, join, onward, head, spot_after, place_of_instr, alone, places, all_places, instr_of_act, falls_out}
+use Rattle.script_meaning.specs.declared.flow.Spot.{Spot}
+use Rattle.script_meaning.specs.Scheme.{Place, past, at_label, meet, join, onward, head, spot_after, place_of_instr, alone, places, all_places, instr_of_act, falls_out}
 
 -- what comes before continues to this spot, or a label stands there
 abbrev pub Follows : Bool → Spot → Type 0

@@ -5,9 +5,9 @@ use Rattle.plan_code.specs.declared.plan.Plan.{Plan}
 use Rattle.plan_flow.specs.Flows.{moved}
 use Rattle.script_front.specs.Block.{Block, nothing, basic, stop, when, either, repeat, forever, apply}
 use Rattle.script_front.specs.Tree.{Tree}
-use Rattle.script_scheme.specs.declared.flow.Spot.{Spot}
-use Rattle.script_scheme.specs.Scheme.{Place, past, at_label, meet, join, onward, head, spot_after, place_of_instr, alone, places, mark_of, marks_of, instr_of_act, falls_out}
-use Rattle.script_scheme.specs.Compiled.{nested, body_of, beginning, opening_of, plan_of, places_of, IsAccepted}
+use Rattle.script_meaning.specs.declared.flow.Spot.{Spot}
+use Rattle.script_meaning.specs.Scheme.{Place, past, at_label, meet, join, onward, head, spot_after, place_of_instr, alone, places, mark_of, marks_of, instr_of_act, falls_out}
+use Rattle.script_meaning.specs.Compiled.{nested, body_of, beginning, opening_of, plan_of, places_of, IsAccepted}
 use Rattle.script_compiler.specs.Room.{HasRoomFor, IsDeepAtMost, named_by}
 use Rattle.script_compiler.proofs.Rooms.{room_from}
 

@@ -3,8 +3,8 @@ use Rattle.std.proofs.Common.{◌≡◌, ℕ, ◌+◌, ◌⊎◌, inl, inr, Bool
 use Rattle.plan_code.specs.declared.instr.Instr.TheVariants.{End, Jump}
 use Rattle.plan_code.specs.declared.plan.Plan.{Plan}
 use Rattle.script_front.specs.Block.{Block, nothing, basic, stop, when, either, repeat, forever, apply}
-use Rattle.script_scheme.specs.declared.flow.Spot.{Spot}
-use Rattle.script_scheme.specs.Scheme.{Place, onward, head, spot_after, place_of_instr, alone, places, all_places, falls_out}
+use Rattle.script_meaning.specs.declared.flow.Spot.{Spot}
+use Rattle.script_meaning.specs.Scheme.{Place, onward, head, spot_after, place_of_instr, alone, places, all_places, falls_out}
 
 -- it is what is known before the block, and a label stands there if one stands before the block
 pub record Begins (s : Spot) (all : List Place) : Type 0 where

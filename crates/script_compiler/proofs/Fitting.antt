@@ -9,10 +9,10 @@ use Rattle.plan_flow.specs.Flows.{merged}
 use Rattle.script_front.specs.declared.tree.Act.{Act}
 use Rattle.script_front.specs.declared.tree.Statement.{Statement}
 use Rattle.script_front.specs.Block.{Block, nothing, basic, stop, when, either, repeat, forever, apply, before, block_of}
-use Rattle.script_scheme.specs.declared.flow.Spot.{Spot}
-use Rattle.script_scheme.specs.Scheme.{Place, past, at_label, meet, join, onward, head, spot_after, place_of_instr, alone, places, all_places, instr_of_act, falls_out}
-use Rattle.script_scheme.specs.Judged.{IsJudged, WaysAgree, BranchesAgree}
-use Rattle.script_scheme.specs.Compiled.{Tabled, lines_of_places, nested}
+use Rattle.script_meaning.specs.declared.flow.Spot.{Spot}
+use Rattle.script_meaning.specs.Scheme.{Place, past, at_label, meet, join, onward, head, spot_after, place_of_instr, alone, places, all_places, instr_of_act, falls_out}
+use Rattle.script_meaning.specs.Judged.{IsJudged, WaysAgree, BranchesAgree}
+use Rattle.script_meaning.specs.Compiled.{Tabled, lines_of_places, nested}
 use Rattle.script_compiler.specs.Working.{Work}
 use Rattle.script_compiler.specs.declared.fault.CompileFault.{CompileFault}
 use Rattle.script_compiler.specs.declared.fault.CompileFault.TheVariants.{Limit}

@@ -11,11 +11,11 @@ use Rattle.plan_flow.specs.Flows.{known_at, moved}
 use Rattle.plan_flow.specs.Rules.{IsFine}
 use Rattle.script_front.specs.declared.tree.Act.{Act}
 use Rattle.script_front.specs.Block.{Block, nothing, basic, stop, when, either, repeat, forever, apply}
-use Rattle.script_scheme.specs.declared.flow.Spot.{Spot}
-use Rattle.script_scheme.specs.Scheme.{Place, past, at_label, meet, join, onward, head, spot_after, place_of_instr, alone, places, mark_of, marks_of, instr_of_act, falls_out}
-use Rattle.script_scheme.specs.Judged.{IsJudged, Reached, WaysAgree, BranchesAgree, ComesRound}
-use Rattle.script_scheme.specs.Refused.{IsRefusedIn, IsRefusedAfter}
-use Rattle.script_scheme.specs.Compiled.{lines_of_places, nested}
+use Rattle.script_meaning.specs.declared.flow.Spot.{Spot}
+use Rattle.script_meaning.specs.Scheme.{Place, past, at_label, meet, join, onward, head, spot_after, place_of_instr, alone, places, mark_of, marks_of, instr_of_act, falls_out}
+use Rattle.script_meaning.specs.Judged.{IsJudged, Reached, WaysAgree, BranchesAgree, ComesRound}
+use Rattle.script_meaning.specs.Refused.{IsRefusedIn, IsRefusedAfter}
+use Rattle.script_meaning.specs.Compiled.{lines_of_places, nested}
 use Rattle.script_compiler.specs.Working.{Work}
 use Rattle.script_compiler.specs.Laying.{Lays, Left, Forks, ClosesIf, Turns, GoesRound, IsAfterBranches, aimed_at, line_of_instr, way, spots_of}
 use Rattle.script_compiler.proofs.Leading.{after_falls}

@@ -9,11 +9,11 @@ use Rattle.plan_code.specs.declared.label.Label.{Label}
 use Rattle.plan_code.specs.declared.plan.Plan.{Plan}
 use Rattle.plan_flow.specs.Rules.{pages_alone}
 use Rattle.script_front.specs.Tree.{Tree}
-use Rattle.script_scheme.specs.declared.flow.Mark.{Mark}
-use Rattle.script_scheme.specs.Scheme.{all_places, marks_of}
-use Rattle.script_scheme.specs.Judged.{IsJudged}
-use Rattle.script_scheme.specs.Need.{IsWithinBudget}
-use Rattle.script_scheme.specs.Compiled.{plan_of, body_of, beginning, opening_of, places_of, lines_of_places, instrs_of, nested, AreFine, Tabled, AreLabelsOf, IsCodeOf, CostsItsNeeds, IsAccepted}
+use Rattle.script_meaning.specs.declared.flow.Mark.{Mark}
+use Rattle.script_meaning.specs.Scheme.{all_places, marks_of}
+use Rattle.script_meaning.specs.Judged.{IsJudged}
+use Rattle.script_meaning.specs.Need.{IsWithinBudget}
+use Rattle.script_meaning.specs.Compiled.{plan_of, body_of, beginning, opening_of, places_of, lines_of_places, instrs_of, nested, AreFine, Tabled, AreLabelsOf, IsCodeOf, CostsItsNeeds, IsAccepted}
 use Rattle.script_compiler.specs.Space.{AreFew}
 use Rattle.script_compiler.specs.Longest.{longest, Priced}
 use Rattle.script_compiler.proofs.Deep.{accepted_room}

@@ -4,9 +4,9 @@ use Rattle.std.proofs.lemmas.Option.{slice_get_within}
 use Rattle.std.specs.Prelude.{slice_get, slice_index, OnOk, IfOk, IfErr}
 use Rattle.mux_config.specs.Configuration.{Configuration}
 use Rattle.plan_code.specs.declared.label.Label.{Label}
-use Rattle.script_scheme.specs.declared.flow.Mark.{Mark}
-use Rattle.script_scheme.specs.Scheme.{Place, mark_of, marks_of}
-use Rattle.script_scheme.specs.Compiled.{Added, Tabled, AreLabelsOf}
+use Rattle.script_meaning.specs.declared.flow.Mark.{Mark}
+use Rattle.script_meaning.specs.Scheme.{Place, mark_of, marks_of}
+use Rattle.script_meaning.specs.Compiled.{Added, Tabled, AreLabelsOf}
 use Rattle.script_compiler.specs.declared.fault.CompileFault.{CompileFault}
 use Rattle.script_compiler.specs.declared.short.ShortMark.{ShortMark}
 use Rattle.script_compiler.specs.Longest.{Priced}

@@ -5,7 +5,7 @@ use Rattle.mux_config.specs.Configuration.{Configuration}
 use Rattle.mux_types.proofs.Walking.{cut}
 use Rattle.script_compiler.specs.Fingerprint.{print_of}
 use Rattle.plan_flow.specs.Flows.{Flow}
-use Rattle.script_scheme.specs.declared.flow.Spot.{Spot}
+use Rattle.script_meaning.specs.declared.flow.Spot.{Spot}
 use Rattle.script_compiler.specs.declared.numbers.Numbers.{Numbers}
 use Rattle.script_compiler.specs.declared.short.ShortSpot.{ShortSpot}
 use Rattle.script_compiler.specs.Marked.{configuration_at}

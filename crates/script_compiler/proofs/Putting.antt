@@ -3,8 +3,8 @@ use Rattle.std.proofs.Common.{◌≡◌, ℕ, List, [], ◌∷◌, ◌++◌, len
 use Rattle.std.specs.Prelude.{OnOk}
 use Rattle.std.proofs.lemmas.List.{append_cancel_left}
 use Rattle.plan_code.specs.declared.instr.Instr.{Instr}
-use Rattle.script_scheme.specs.declared.flow.Spot.{Spot}
-use Rattle.script_scheme.specs.Scheme.{alone, marks_of}
+use Rattle.script_meaning.specs.declared.flow.Spot.{Spot}
+use Rattle.script_meaning.specs.Scheme.{alone, marks_of}
 use Rattle.script_compiler.specs.Working.{Work}
 use Rattle.script_compiler.specs.Laying.{Lays, line_of_instr}
 

@@ -14,9 +14,9 @@ use Rattle.plan_code.specs.declared.plan.Plan.{Plan}
 use Rattle.plan_flow.specs.Rules.{Known, known_after_swap, waited, paused, perhaps_swapped, settled}
 use Rattle.plan_flow.specs.Flows.{Flow, known_at, moved, widest}
 use Rattle.script_front.specs.Block.{Block, nothing, basic, stop, when, either, repeat, forever, apply}
-use Rattle.script_scheme.specs.declared.flow.Spot.{Spot}
-use Rattle.script_scheme.specs.Scheme.{Place, past, at_label, meet, join, onward, head, spot_after, place_of_instr, alone, places, all_places, instr_of_act, falls_out}
-use Rattle.script_scheme.specs.Compiled.{lines_of_places}
+use Rattle.script_meaning.specs.declared.flow.Spot.{Spot}
+use Rattle.script_meaning.specs.Scheme.{Place, past, at_label, meet, join, onward, head, spot_after, place_of_instr, alone, places, all_places, instr_of_act, falls_out}
+use Rattle.script_meaning.specs.Compiled.{lines_of_places}
 
 -- the greatest is below 65536
 abbrev pub IsRanged : Swap → Type 0

@@ -12,14 +12,14 @@ use Rattle.plan_flow.specs.Rules.{pages_alone}
 use Rattle.mux_config.specs.Configuration.{Configuration}
 use Rattle.mux_config.specs.Sound.{IsSound}
 use Rattle.script_front.specs.Tree.{Tree}
-use Rattle.script_scheme.specs.Compiled.{plan_of, opening_of}
+use Rattle.script_meaning.specs.Compiled.{plan_of, opening_of}
 use Rattle.script_front.specs.declared.tree.Act.{Act}
 use Rattle.script_front.specs.declared.tree.Statement.{Statement}
 use Rattle.script_front.specs.Block.{Block, nothing, basic, when, either, repeat, forever, apply, before, block_of}
-use Rattle.script_scheme.specs.declared.flow.Spot.{Spot}
-use Rattle.script_scheme.specs.Scheme.{past, at_label, head, instr_of_act, spot_after, falls_out}
-use Rattle.script_scheme.specs.Judged.{WaysAgree, BranchesAgree, ComesRound}
-use Rattle.script_scheme.specs.Refused.{IsRefusedIn, IsRefusedAfter, IsUnreached}
+use Rattle.script_meaning.specs.declared.flow.Spot.{Spot}
+use Rattle.script_meaning.specs.Scheme.{past, at_label, head, instr_of_act, spot_after, falls_out}
+use Rattle.script_meaning.specs.Judged.{WaysAgree, BranchesAgree, ComesRound}
+use Rattle.script_meaning.specs.Refused.{IsRefusedIn, IsRefusedAfter, IsUnreached}
 use Rattle.script_compiler.specs.Working.{Work}
 use Rattle.script_compiler.specs.declared.fault.CompileFault.{CompileFault}
 use Rattle.script_compiler.specs.declared.fault.CompileFault.TheVariants.{Refused, Limit, Memory}

@@ -9,13 +9,13 @@ use Rattle.script_front.specs.declared.tree.Act.{Act}
 use Rattle.script_front.specs.declared.tree.Statement.{Statement}
 use Rattle.script_front.specs.declared.tree.Statement.TheOpen.{Statement-F}
 use Rattle.script_front.specs.Block.{Block, nothing, basic, when, either, repeat, forever, apply, Before, statement_step, before, block_of}
-use Rattle.script_scheme.specs.declared.flow.Spot.{Spot}
-use Rattle.script_scheme.specs.Scheme.{past, at_label, head, instr_of_act, spot_after, falls_out}
-use Rattle.script_scheme.specs.Judged.{IsJudged, IsDone, Reached, WaysAgree, BranchesAgree, ComesRound}
+use Rattle.script_meaning.specs.declared.flow.Spot.{Spot}
+use Rattle.script_meaning.specs.Scheme.{past, at_label, head, instr_of_act, spot_after, falls_out}
+use Rattle.script_meaning.specs.Judged.{IsJudged, IsDone, Reached, WaysAgree, BranchesAgree, ComesRound}
 use Rattle.script_compiler.specs.Working.{Work}
 use Rattle.plan_code.specs.declared.instr.Line.{Line}
-use Rattle.script_scheme.specs.Compiled.{instrs_of}
-use Rattle.script_scheme.specs.Need.{IsWithinBudget}
+use Rattle.script_meaning.specs.Compiled.{instrs_of}
+use Rattle.script_meaning.specs.Need.{IsWithinBudget}
 use Rattle.script_compiler.specs.Longest.{longest}
 use Rattle.script_compiler.specs.declared.fault.CompileFault.{CompileFault}
 use Rattle.script_compiler.proofs.Paths.{need_most}

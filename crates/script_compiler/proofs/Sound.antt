@@ -18,10 +18,10 @@ use Rattle.plan_flow.proofs.Finding.{commit_fine}
 use Rattle.script_front.specs.declared.tree.Act.{Act}
 use Rattle.script_front.specs.declared.tree.Act.TheVariants.{Edit as Edits, Wait as Waits, WaitContact as WaitsContact, Until as WaitsUntil, CommitIn as CommitsIn, CommitAt as CommitsAt, Join as Joins, Settle as Settles}
 use Rattle.script_front.specs.Block.{Block, nothing, basic, stop, when, either, repeat, forever, apply}
-use Rattle.script_scheme.specs.declared.flow.Spot.{Spot}
-use Rattle.script_scheme.specs.Scheme.{Place, past, at_label, meet, join, onward, head, spot_after, place_of_instr, alone, places, all_places, instr_of_act, falls_out}
-use Rattle.script_scheme.specs.Judged.{IsJudged, WaysAgree, BranchesAgree, ComesRound, Reached}
-use Rattle.script_scheme.specs.Compiled.{first_counters, nested}
+use Rattle.script_meaning.specs.declared.flow.Spot.{Spot}
+use Rattle.script_meaning.specs.Scheme.{Place, past, at_label, meet, join, onward, head, spot_after, place_of_instr, alone, places, all_places, instr_of_act, falls_out}
+use Rattle.script_meaning.specs.Judged.{IsJudged, WaysAgree, BranchesAgree, ComesRound, Reached}
+use Rattle.script_meaning.specs.Compiled.{first_counters, nested}
 use Rattle.script_compiler.proofs.Leading.{after_falls}
 
 -- ---- stretches of a code

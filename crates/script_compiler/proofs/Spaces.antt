@@ -10,10 +10,10 @@ use Rattle.plan_code.specs.declared.plan.Plan.{Plan}
 use Rattle.plan_flow.specs.Flows.{Flow, known_at, merged, FitsFlow}
 use Rattle.plan_flow.specs.Rules.{FitsSwap}
 use Rattle.script_front.specs.Block.{Block}
-use Rattle.script_scheme.specs.declared.flow.Mark.{Mark}
-use Rattle.script_scheme.specs.declared.flow.Spot.{Spot}
-use Rattle.script_scheme.specs.Scheme.{Place, place_of_instr, alone, onward, at_label, meet, spot_after, places, mark_of, marks_of}
-use Rattle.script_scheme.specs.Compiled.{StandsIn, Added, Tabled, lines_of_places}
+use Rattle.script_meaning.specs.declared.flow.Mark.{Mark}
+use Rattle.script_meaning.specs.declared.flow.Spot.{Spot}
+use Rattle.script_meaning.specs.Scheme.{Place, place_of_instr, alone, onward, at_label, meet, spot_after, places, mark_of, marks_of}
+use Rattle.script_meaning.specs.Compiled.{StandsIn, Added, Tabled, lines_of_places}
 use Rattle.script_compiler.specs.Working.{Work}
 use Rattle.script_compiler.specs.declared.fault.CompileFault.{CompileFault}
 use Rattle.script_compiler.specs.Laying.{Lays, jumping, way}

@@ -8,10 +8,10 @@ use Rattle.plan_flow.specs.Rules.{IsFine}
 use Rattle.script_front.specs.declared.tree.Act.{Act}
 use Rattle.script_front.specs.declared.tree.Statement.{Statement}
 use Rattle.script_front.specs.Block.{Block, nothing, basic, stop, when, either, repeat, forever, apply, named_at, before, block_of}
-use Rattle.script_scheme.specs.declared.flow.Spot.{Spot}
-use Rattle.script_scheme.specs.Scheme.{past, onward, alone, spot_after, places, instr_of_act, falls_out}
-use Rattle.script_scheme.specs.Judged.{IsJudged, Reached}
-use Rattle.script_scheme.specs.Compiled.{nested}
+use Rattle.script_meaning.specs.declared.flow.Spot.{Spot}
+use Rattle.script_meaning.specs.Scheme.{past, onward, alone, spot_after, places, instr_of_act, falls_out}
+use Rattle.script_meaning.specs.Judged.{IsJudged, Reached}
+use Rattle.script_meaning.specs.Compiled.{nested}
 use Rattle.script_compiler.specs.Working.{Work}
 use Rattle.script_compiler.specs.declared.fault.CompileFault.{CompileFault}
 use Rattle.script_compiler.specs.Laying.{Lays, Left, Forks, ClosesIf, Turns, GoesRound, IsAfterBranches, spots_of, way, tables, lays_nothing}

@@ -21,11 +21,11 @@ use Rattle.plan_flow.proofs.Leaving.{leaves_known}
 use Rattle.plan_verifier.specs.Typing.{Declares, ComesTo, Arrives, HasOpening, LabelStands, Reaches, IsAfter, IsSafe, IsTyped}
 use Rattle.script_front.specs.Block.{Block}
 use Rattle.script_front.specs.Tree.{Tree}
-use Rattle.script_scheme.specs.declared.flow.Spot.{Spot}
-use Rattle.script_scheme.specs.Scheme.{Place, past, all_places, mark_of, marks_of}
-use Rattle.script_scheme.specs.Judged.{IsJudged}
-use Rattle.script_scheme.specs.Need.{GoesTo, IsNeed, IsWithinBudget}
-use Rattle.script_scheme.specs.Compiled.{beginning, plan_of, opening_of, body_of, places_of, lines_of_places, instrs_of, first_counters, nested, IsLabelOf, AreLabelsOf, IsCodeOf, CostsItsNeeds, IsAccepted}
+use Rattle.script_meaning.specs.declared.flow.Spot.{Spot}
+use Rattle.script_meaning.specs.Scheme.{Place, past, all_places, mark_of, marks_of}
+use Rattle.script_meaning.specs.Judged.{IsJudged}
+use Rattle.script_meaning.specs.Need.{GoesTo, IsNeed, IsWithinBudget}
+use Rattle.script_meaning.specs.Compiled.{beginning, plan_of, opening_of, body_of, places_of, lines_of_places, instrs_of, first_counters, nested, IsLabelOf, AreLabelsOf, IsCodeOf, CostsItsNeeds, IsAccepted}
 use Rattle.script_compiler.specs.Longest.{longest}
 use Rattle.script_compiler.proofs.Paths.{one_least, need_most, need_onward, is_need}
 use Rattle.script_compiler.proofs.Laid.{length_lines}

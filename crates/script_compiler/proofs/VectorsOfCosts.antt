@@ -5,7 +5,7 @@ use Rattle.plan_code.specs.declared.instr.Instr.{Instr}
 use Rattle.plan_code.specs.declared.instr.Instr.TheVariants.{Wait, Settle, End, Jump}
 use Rattle.plan_code.specs.declared.instr.Line.{Line}
 use Rattle.plan_flow.specs.Rules.{suspends, target_of}
-use Rattle.script_scheme.specs.Need.{GoesTo}
+use Rattle.script_meaning.specs.Need.{GoesTo}
 use Rattle.script_compiler.specs.Costs.{Leads, ComesBack, ClosesCycle, IsOver, IsCostlyAt, HasCostAt}
 
 -- `forever { settle }`: the jump at its end is the first end of a loop that is gone round without a suspension

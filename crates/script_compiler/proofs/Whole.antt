@@ -3,10 +3,10 @@ use Rattle.std.proofs.Common.{◌≡◌, ℕ, ◌+◌, ◌≤◌, Bool, [], ◌+
 use Rattle.plan_code.specs.declared.instr.Instr.TheVariants.{End}
 use Rattle.plan_code.specs.declared.plan.Plan.{Plan}
 use Rattle.script_front.specs.Block.{Block, nothing}
-use Rattle.script_scheme.specs.declared.flow.Spot.{Spot}
-use Rattle.script_scheme.specs.Scheme.{onward, spot_after, alone, places, all_places, marks_of}
-use Rattle.script_scheme.specs.Judged.{IsJudged}
-use Rattle.script_scheme.specs.Compiled.{lines_of_places, nested}
+use Rattle.script_meaning.specs.declared.flow.Spot.{Spot}
+use Rattle.script_meaning.specs.Scheme.{onward, spot_after, alone, places, all_places, marks_of}
+use Rattle.script_meaning.specs.Judged.{IsJudged}
+use Rattle.script_meaning.specs.Compiled.{lines_of_places, nested}
 use Rattle.script_compiler.specs.Working.{Work}
 use Rattle.script_compiler.specs.Laying.{Lays, Left, way}
 use Rattle.script_compiler.proofs.Laid.{whole_of, lines_both, marks_both, length_lines}

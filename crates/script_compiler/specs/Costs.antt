@@ -4,8 +4,8 @@ use Rattle.plan_code.specs.declared.instr.Instr.{Instr}
 use Rattle.plan_code.specs.declared.instr.Line.{Line}
 use Rattle.plan_flow.specs.Rules.{target_of}
 use Rattle.script_front.specs.Tree.{Tree}
-use Rattle.script_scheme.specs.Need.{GoesTo, HasPath}
-use Rattle.script_scheme.specs.Compiled.{places_of, lines_of_places, instrs_of}
+use Rattle.script_meaning.specs.Need.{GoesTo, HasPath}
+use Rattle.script_meaning.specs.Compiled.{places_of, lines_of_places, instrs_of}
 
 -- the machine can go from one pc to another in this many steps of one frame
 abbrev pub Leads : List Instr → ℕ → ℕ → ℕ → Type 0

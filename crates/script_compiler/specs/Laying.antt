@@ -8,11 +8,11 @@ use Rattle.plan_code.specs.declared.instr.Line.{Line}
 use Rattle.plan_flow.specs.declared.cause.Cause.{Cause}
 use Rattle.script_front.specs.declared.tree.Statement.{Statement}
 use Rattle.script_front.specs.Block.{Block, nothing, apply, table_of}
-use Rattle.script_scheme.specs.declared.flow.Spot.{Spot}
-use Rattle.script_scheme.specs.Scheme.{Place, onward, spot_after, places, marks_of, alone, past, at_label, meet, join}
-use Rattle.script_scheme.specs.Judged.{IsJudged, Reached, WaysAgree, BranchesAgree, ComesRound}
-use Rattle.script_scheme.specs.Refused.{IsRefusedIn, IsRefusedAfter}
-use Rattle.script_scheme.specs.Compiled.{lines_of_places, nested}
+use Rattle.script_meaning.specs.declared.flow.Spot.{Spot}
+use Rattle.script_meaning.specs.Scheme.{Place, onward, spot_after, places, marks_of, alone, past, at_label, meet, join}
+use Rattle.script_meaning.specs.Judged.{IsJudged, Reached, WaysAgree, BranchesAgree, ComesRound}
+use Rattle.script_meaning.specs.Refused.{IsRefusedIn, IsRefusedAfter}
+use Rattle.script_meaning.specs.Compiled.{lines_of_places, nested}
 use Rattle.script_compiler.specs.Working.{Work}
 
 -- the meanings of defined blocks

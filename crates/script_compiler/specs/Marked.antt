@@ -2,8 +2,8 @@
 use Rattle.std.specs.Prelude.{ℕ, zero, suc, ◌<◌, ◌≤◌, List, [], ◌∷◌, slice_index}
 use Rattle.mux_config.specs.Configuration.{Configuration, nothing}
 use Rattle.plan_code.specs.declared.label.Label.{Label}
-use Rattle.script_scheme.specs.declared.flow.Mark.{Mark}
-use Rattle.script_scheme.specs.Compiled.{first_counters}
+use Rattle.script_meaning.specs.declared.flow.Mark.{Mark}
+use Rattle.script_meaning.specs.Compiled.{first_counters}
 use Rattle.script_compiler.specs.declared.short.ShortMark.{ShortMark}
 
 -- marks, and the table of the configurations that they name

@@ -2,8 +2,8 @@
 use Rattle.std.specs.Prelude.{◌≡◌, ℕ, ◌<◌, List, [], ◌∷◌, ◌++◌, Option, Some, IfSome, slice_get}
 use Rattle.mux_config.specs.Configuration.{Configuration}
 use Rattle.plan_flow.specs.Flows.{Flow}
-use Rattle.script_scheme.specs.declared.flow.Mark.{Mark}
-use Rattle.script_scheme.specs.declared.flow.Spot.{Spot}
+use Rattle.script_meaning.specs.declared.flow.Mark.{Mark}
+use Rattle.script_meaning.specs.declared.flow.Spot.{Spot}
 use Rattle.script_compiler.specs.declared.numbers.Numbers.{Numbers}
 use Rattle.script_compiler.specs.declared.short.ShortSpot.{ShortSpot}
 use Rattle.script_compiler.specs.Marked.{configuration_at}

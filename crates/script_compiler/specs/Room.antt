@@ -1,8 +1,8 @@
 -- Whether a table of configurations has room for more. No public contract needs this to be believed.
 use Rattle.std.specs.Prelude.{ℕ, ◌+◌, ◌≤◌, List, [], ◌∷◌, ◌++◌, length}
 use Rattle.mux_config.specs.Configuration.{Configuration}
-use Rattle.script_scheme.specs.declared.flow.Mark.{Mark}
-use Rattle.script_scheme.specs.Compiled.{StandsIn}
+use Rattle.script_meaning.specs.declared.flow.Mark.{Mark}
+use Rattle.script_meaning.specs.Compiled.{StandsIn}
 
 -- some of these configurations, each once, of which none stands in the table
 abbrev pub AreNew : List Configuration → List Configuration → List Configuration → Type 0

@@ -4,10 +4,10 @@ use Rattle.mux_config.specs.Configuration.{Configuration}
 use Rattle.plan_code.specs.declared.plan.Plan.{Plan}
 use Rattle.plan_flow.specs.Flows.{Flow}
 use Rattle.script_front.specs.Block.{Block}
-use Rattle.script_scheme.specs.declared.flow.Spot.{Spot}
-use Rattle.script_scheme.specs.Scheme.{Place, spot_after, places, marks_of}
-use Rattle.script_scheme.specs.Judged.{IsJudged}
-use Rattle.script_scheme.specs.Compiled.{StandsIn, Tabled, nested}
+use Rattle.script_meaning.specs.declared.flow.Spot.{Spot}
+use Rattle.script_meaning.specs.Scheme.{Place, spot_after, places, marks_of}
+use Rattle.script_meaning.specs.Judged.{IsJudged}
+use Rattle.script_meaning.specs.Compiled.{StandsIn, Tabled, nested}
 use Rattle.script_compiler.specs.Working.{Work}
 use Rattle.script_compiler.specs.Room.{HasRoomFor, Leaves, named_by}
 

@@ -2,7 +2,7 @@
 use Rattle.std.specs.Prelude.{List}
 use Rattle.mux_config.specs.Configuration.{Configuration}
 use Rattle.plan_code.specs.declared.instr.Line.{Line}
-use Rattle.script_scheme.specs.declared.flow.Spot.{Spot}
+use Rattle.script_meaning.specs.declared.flow.Spot.{Spot}
 use Rattle.script_compiler.specs.Marked.{MarkedTable}
 
 pub record Lines : Type 0 where

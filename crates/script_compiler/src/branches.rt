@@ -2,10 +2,10 @@
 
 ghost use Rattle.std.specs.Prelude.{◌≡◌, ℕ, ◌+◌, ◌<◌, ◌≤◌, true, if◌then◌else◌, [], ◌∷◌, ◌++◌, length, List, Option, Some, is_some, OnOk, IfOk, IfErr};
 ghost use Rattle.plan_code.specs.declared.instr.Instr.{Instr};
-ghost use Rattle.script_scheme.specs.declared.flow.Spot.{Spot};
-ghost use Rattle.script_scheme.specs.Scheme.{Place, past, alone, onward, meet, join, marks_of};
-ghost use Rattle.script_scheme.specs.Judged.{WaysAgree, BranchesAgree, ComesRound};
-ghost use Rattle.script_scheme.specs.Compiled.{lines_of_places};
+ghost use Rattle.script_meaning.specs.declared.flow.Spot.{Spot};
+ghost use Rattle.script_meaning.specs.Scheme.{Place, past, alone, onward, meet, join, marks_of};
+ghost use Rattle.script_meaning.specs.Judged.{WaysAgree, BranchesAgree, ComesRound};
+ghost use Rattle.script_meaning.specs.Compiled.{lines_of_places};
 ghost use Rattle.plan_flow.specs.declared.cause.Cause.TheVariants.{Mismatch};
 ghost use Rattle.script_compiler.specs.Pool.{Extends, IsInPool, spot_in};
 ghost use Rattle.script_compiler.specs.Refusals.{IsRefusal, IfRefused};

@@ -3,7 +3,7 @@
 ghost use Rattle.std.specs.Prelude.{◌≡◌, ◌↔◌, IsOk, IfErr, OnOk};
 ghost use Rattle.plan_flow.specs.Rules.{IsFine};
 ghost use Rattle.plan_flow.specs.Flows.{known_at, moved};
-ghost use Rattle.script_scheme.specs.Scheme.{instr_of_act};
+ghost use Rattle.script_meaning.specs.Scheme.{instr_of_act};
 ghost use Rattle.script_compiler.specs.Refusals.{IsRefusedAs};
 
 use crate::fault::CompileFault;

@@ -1,7 +1,7 @@
 //! The labels of a code.
 
 ghost use Rattle.std.specs.Prelude.{◌≡◌, ℕ, ◌<◌, ◌≤◌, None, [], ◌∷◌, ◌++◌, map, slice_index, OnOk, IfOk, IfErr, IfSome};
-ghost use Rattle.script_scheme.specs.Compiled.{first_counters};
+ghost use Rattle.script_meaning.specs.Compiled.{first_counters};
 ghost use Rattle.script_compiler.specs.Marked.{label_of_mark, AreShallow};
 ghost use Rattle.script_compiler.specs.Refusals.{IsRefusal};
 ghost use Rattle.script_compiler.specs.declared.fault.CompileFault.TheVariants.{Limit, Memory};

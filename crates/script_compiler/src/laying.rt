@@ -5,7 +5,7 @@ ghost use Rattle.plan_code.specs.declared.instr.Instr.{Instr};
 ghost use Rattle.plan_code.specs.declared.instr.Instr.TheVariants.{End};
 ghost use Rattle.plan_flow.specs.Flows.{known_at, moved};
 ghost use Rattle.plan_flow.specs.Rules.{IsFine};
-ghost use Rattle.script_scheme.specs.Scheme.{Place, past, at_label, alone, onward, marks_of, instr_of_act};
+ghost use Rattle.script_meaning.specs.Scheme.{Place, past, at_label, alone, onward, marks_of, instr_of_act};
 ghost use Rattle.plan_flow.specs.Causes.{FlowRefused};
 ghost use Rattle.script_compiler.specs.Pool.{Extends, IsInPool, spot_in};
 ghost use Rattle.script_compiler.specs.Refusals.{IsRefusal, IfRefused};

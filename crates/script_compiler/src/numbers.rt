@@ -15,7 +15,7 @@ use crate::short::ShortSpot;
 use mux_tables::Tables;
 use plan_code::{Instr, Swap};
 use plan_flow::flow::{is_idle, is_same};
-use script_scheme::Spot;
+use script_meaning::Spot;
 
 /// The numbers of the two configurations of a flow, as far as they are known: an edit changes a configuration, and then
 /// its number is not known any more.

@@ -2,10 +2,10 @@
 
 ghost use Rattle.std.specs.Prelude.{◌≡◌, ◌≤◌, ◌<◌, List, length, map, OnOk, IfOk, IfErr};
 ghost use Rattle.script_front.specs.Block.{Block, nothing, when, either, repeat, forever, block_of, before};
-ghost use Rattle.script_scheme.specs.Scheme.{falls_out};
+ghost use Rattle.script_meaning.specs.Scheme.{falls_out};
 ghost use Rattle.plan_flow.specs.declared.cause.Cause.TheVariants.{Table};
-ghost use Rattle.script_scheme.specs.Judged.{IsJudged};
-ghost use Rattle.script_scheme.specs.Refused.{IsRefusedIn, IsUnreached};
+ghost use Rattle.script_meaning.specs.Judged.{IsJudged};
+ghost use Rattle.script_meaning.specs.Refused.{IsRefusedIn, IsUnreached};
 ghost use Rattle.script_compiler.specs.Laying.{Left, tables, lays_nothing};
 ghost use Rattle.script_compiler.specs.Refusals.{IsRefusal, IfRefused};
 ghost use Rattle.script_compiler.specs.Space.{HasTable, CanLay};

@@ -1,7 +1,7 @@
 //! The table of configurations that labels name, each content once.
 
 ghost use Rattle.std.specs.Prelude.{◌≡◌, ◌≢◌, ◌≤◌, ◌<◌, ℕ, [], ◌∷◌, ◌++◌, length, map, slice_get, false, true, Some, None, OnOk, IfOk, IfErr, IfSome};
-ghost use Rattle.script_scheme.specs.Compiled.{Added};
+ghost use Rattle.script_meaning.specs.Compiled.{Added};
 ghost use Rattle.script_compiler.specs.Marked.{configuration_at};
 ghost use Rattle.script_compiler.specs.Pool.{AreBelow, Extends, IsDistinct};
 ghost use Rattle.script_compiler.specs.Refusals.{IsRefusal};

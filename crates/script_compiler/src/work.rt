@@ -4,10 +4,10 @@ ghost use Rattle.std.specs.Prelude.{◌≡◌, ◌↔◌, ◌+◌, ◌<◌, true
 ghost use Rattle.plan_code.specs.declared.instr.Instr.{Instr};
 ghost use Rattle.plan_flow.specs.Flows.{known_at, merged, moved, FitsFlow};
 ghost use Rattle.plan_flow.specs.Rules.{IsFine};
-ghost use Rattle.script_scheme.specs.declared.flow.Spot.{Spot};
-ghost use Rattle.script_scheme.specs.Scheme.{past, meet, instr_of_act};
-ghost use Rattle.script_scheme.specs.Judged.{WaysAgree};
-ghost use Rattle.script_scheme.specs.Compiled.{beginning};
+ghost use Rattle.script_meaning.specs.declared.flow.Spot.{Spot};
+ghost use Rattle.script_meaning.specs.Scheme.{past, meet, instr_of_act};
+ghost use Rattle.script_meaning.specs.Judged.{WaysAgree};
+ghost use Rattle.script_meaning.specs.Compiled.{beginning};
 ghost use Rattle.script_compiler.specs.Pool.{Extends, IsInPool, spot_in};
 ghost use Rattle.script_compiler.specs.Refusals.{IsRefusal, IsRefusedAs};
 ghost use Rattle.script_compiler.specs.Space.{HasTable};
@@ -26,7 +26,7 @@ use plan_code::limits::{MOST_INSTRUCTIONS, MOST_LABELS};
 use plan_code::{ContactId, Instr, Line, Plan};
 use plan_flow::Cause;
 use script_front::Act;
-use script_scheme::Spot;
+use script_meaning::Spot;
 use std::alloc::Global;
 use std::marker::Model;
 

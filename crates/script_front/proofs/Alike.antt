@@ -11,7 +11,7 @@ use Rattle.script_front.specs.declared.tree.Item.{Item}
 use Rattle.script_front.specs.declared.tree.Statement.{Statement}
 use Rattle.script_tokens.specs.declared.keyword.Keyword.TheVariants as the
 use Rattle.script_tokens.specs.Words.{Word, the as grammar, letters}
-use Rattle.script_words.specs.Spelling.{hex_word}
+use Rattle.script_tokens.specs.Spelling.{hex_word}
 use Rattle.script_front.specs.Block.{Block, nothing, basic, stop, when, either, repeat, forever, apply, block_of}
 use Rattle.script_front.specs.Tree.{IsHeader, IsItem, AreNamedApart, IsInBounds}
 use Rattle.script_front.specs.Spelled.{name_at, act_words, braced, block_words, mode_words, header_words, items_words, defined_words, begin_words}

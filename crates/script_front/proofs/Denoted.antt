@@ -26,7 +26,7 @@ use Rattle.script_front.specs.Spelled.{carrier_words, in_words, groups_word, edi
 use Rattle.script_front.specs.Printing.{Line, line, text_of_lines, closing, block_lines, header_lines, items_lines, defined_lines, tree_lines}
 use Rattle.script_front.specs.Denoting.{HasWords, Denotes}
 use Rattle.script_front.proofs.Lined.{IsLine, AreLines, all_words, lines_have}
-use Rattle.script_words.proofs.Wording.{IsWord, AreWords, decimal_word, hex_word_word, sid_word_word, profile_word_word, time_word_word, keyword_word, name_word}
+use Rattle.script_tokens.proofs.Wording.{IsWord, AreWords, decimal_word, hex_word_word, sid_word_word, profile_word_word, time_word_word, keyword_word, name_word}
 use Rattle.script_tokens.specs.Reading.{Spelled}
 
 -- ---- edits and acts

@@ -9,7 +9,7 @@ use Rattle.mux_eep.specs.Sizes.{Profile}
 use Rattle.mux_types.specs.declared.numbers.Sid.{Sid}
 use Rattle.mux_types.specs.declared.numbers.Sid.TheVariants.{Short, Long}
 use Rattle.mux_config.specs.Configuration.{IsSid}
-use Rattle.script_words.specs.Spelling.{hex_digit, hex_word, sid_word, set_letter, profile_word, two_digits, time_word}
+use Rattle.script_tokens.specs.Spelling.{hex_digit, hex_word, sid_word, set_letter, profile_word, two_digits, time_word}
 use Rattle.script_tokens.proofs.Digits.{own, read_on}
 
 abbrev pub number : List ℕ → ℕ

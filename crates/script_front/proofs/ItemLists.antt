@@ -117,6 +117,6 @@ all_items is js i j after h k none read stops e =
     let empty = none_here j.words g.more after g.formed stops g.words_are in
     (g.words_are ∙ ap (λ (xs : List Item). items_words xs ++ after) empty, (let c = g.counts in let l = ap length empty in omega (arith, c, l)))
 
--- no word of the grammar stands there
-pub no_item_word : (i : Input) → ((k : Keyword) (rest : Spelled) → i.words ≢ letters k ∷ rest) → NoneOf Edit (λ e. IsEdit e × Adds e) edit_words i
-no_item_word i none e rest h eq = none (edit_key e) _ (eq ∙ edit_begins e rest)
+-- no item begins there
+pub no_item_here : (i : Input) → ((k : Keyword) (rest : Spelled) → begins_item k ≡ true → i.words ≢ letters k ∷ rest) → NoneOf Edit (λ e. IsEdit e × Adds e) edit_words i
+no_item_here i none e rest h eq = none (edit_key e) _ (adds_first e h.1) (eq ∙ edit_begins e rest)

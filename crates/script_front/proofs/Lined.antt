@@ -7,7 +7,7 @@ use Rattle.script_tokens.specs.Texts.{blank, brace, atom}
 use Rattle.script_tokens.specs.Reading.{Spelled}
 use Rattle.script_front.specs.Printing.{Line, line, indent, each_behind, spaced, line_text, text_of_lines}
 use Rattle.script_front.specs.Denoting.{HasWords}
-use Rattle.script_words.proofs.Wording.{IsWord, AreWords}
+use Rattle.script_tokens.proofs.Wording.{IsWord, AreWords}
 
 abbrev pub IsBlank : ℕ → Type 0
 IsBlank b = (kind_of b ≡ Blank) ⊎ (kind_of b ≡ LineEnd)

@@ -18,7 +18,7 @@ use Rattle.script_front.specs.declared.tree.Item.{Item}
 use Rattle.script_front.specs.declared.tree.Statement.{Statement}
 use Rattle.script_tokens.specs.declared.keyword.Keyword.TheVariants as the
 use Rattle.script_tokens.specs.Words.{letters}
-use Rattle.script_words.specs.Spelling.{hex_byte, hex_word, time_word}
+use Rattle.script_tokens.specs.Spelling.{hex_byte, hex_word, time_word}
 use Rattle.script_front.specs.Block.{Block, Before, nothing, basic, stop, when, either, repeat, forever, apply, before, block_of}
 use Rattle.script_front.specs.Spelled.{carried_words, carrier_words, in_words, edit_words, act_words, name_at, mode_words}
 use Rattle.script_front.specs.Tree.{Tree}

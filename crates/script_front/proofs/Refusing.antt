@@ -14,8 +14,17 @@ use Rattle.mux_config.specs.Configuration.{IsSid, IsComponent}
 use Rattle.plan_code.specs.Program.{IsEdit, IsNewSub, IsNewPacket, IsCarrier}
 use Rattle.script_tokens.specs.declared.keyword.Keyword.{Keyword}
 use Rattle.script_tokens.specs.declared.keyword.Keyword.TheVariants as the
-use Rattle.script_tokens.specs.Words.{the as is, letters}
-use Rattle.script_words.specs.Spelling.{sid_word, time_word}
+use Rattle.script_tokens.specs.Words.{the as is, letters, begins_item}
+use Rattle.script_tokens.specs.First.{component_keyword, item_keyword, edit_keyword, act_keyword}
+use Rattle.script_tokens.specs.declared.first_keyword.ComponentKeyword.{ComponentKeyword}
+use Rattle.script_tokens.specs.declared.first_keyword.ComponentKeyword.TheVariants as component
+use Rattle.script_tokens.specs.declared.first_keyword.ItemKeyword.{ItemKeyword}
+use Rattle.script_tokens.specs.declared.first_keyword.ItemKeyword.TheVariants as item
+use Rattle.script_tokens.specs.declared.first_keyword.EditKeyword.{EditKeyword}
+use Rattle.script_tokens.specs.declared.first_keyword.EditKeyword.TheVariants as edit
+use Rattle.script_tokens.specs.declared.first_keyword.ActKeyword.{ActKeyword}
+use Rattle.script_tokens.specs.declared.first_keyword.ActKeyword.TheVariants as act
+use Rattle.script_tokens.specs.Spelling.{sid_word, time_word}
 use Rattle.std.proofs.lemmas.Bool.{false≢true}
 use Rattle.script_front.specs.declared.tree.Act.{Act}
 use Rattle.script_front.specs.declared.tree.Act.TheVariants.{Edit as Edits, Wait, WaitContact, Until, CommitIn, CommitAt, Join, Settle}
@@ -43,19 +52,23 @@ left_over ws vs i j rest len p e = dropped ws vs j.words rest len (sym p.0 ∙ e
 abbrev pub Found : Spelled → Keyword → Type 0
 Found words found = (k : Keyword) (rest : Spelled) → words ≡ letters k ∷ rest → found ≡ k
 
-pub no_groups : (words : Spelled) (found : Keyword) → Found words found → (found ≡ the.Groups → ⊥) → (found ≡ the.Raw → ⊥) → (a : Bool) (rest : Spelled) → words ≡ groups_word a ∷ rest → ⊥
-no_groups words found h g r false rest e = g (h the.Groups rest e)
-no_groups words found h g r true rest e = r (h the.Raw rest e)
+-- this keyword is not next
+abbrev pub NoneNext : Spelled → Keyword → Type 0
+NoneNext words k = (rest : Spelled) → words ≢ letters k ∷ rest
 
-pub no_level : (words : Spelled) (found : Keyword) → Found words found → (found ≡ the.Closed → ⊥) → (found ≡ the.Open → ⊥) → (a : Bool) (rest : Spelled) → words ≡ level_word a ∷ rest → ⊥
-no_level words found h g r true rest e = g (h the.Closed rest e)
-no_level words found h g r false rest e = r (h the.Open rest e)
+pub no_groups : (words : Spelled) → NoneNext words the.Groups → NoneNext words the.Raw → (a : Bool) (rest : Spelled) → words ≡ groups_word a ∷ rest → ⊥
+no_groups words g r false rest e = g rest e
+no_groups words g r true rest e = r rest e
+
+pub no_level : (words : Spelled) → NoneNext words the.Closed → NoneNext words the.Open → (a : Bool) (rest : Spelled) → words ≡ level_word a ∷ rest → ⊥
+no_level words g r true rest e = g rest e
+no_level words g r false rest e = r rest e
 
 -- ---- what is carried, and what carries
 
-pub no_carrier : (words : Spelled) (found : Keyword) → Found words found → (found ≡ the.Sub → ⊥) → (found ≡ the.Packet → ⊥) → (m : Carrier) (rest : Spelled) → words ≡ carrier_words m ++ rest → ⊥
-no_carrier words found h g r (BySub id) rest e = g (h the.Sub (decimal id ∷ rest) e)
-no_carrier words found h g r (ByPacket scid) rest e = r (h the.Packet (decimal scid ∷ rest) e)
+pub no_carrier : (words : Spelled) → NoneNext words the.Sub → NoneNext words the.Packet → (m : Carrier) (rest : Spelled) → words ≡ carrier_words m ++ rest → ⊥
+no_carrier words g r (BySub id) rest e = g (decimal id ∷ rest) e
+no_carrier words g r (ByPacket scid) rest e = r (decimal scid ∷ rest) e
 
 pub no_by_sub : (ws : Spelled) → ((n : ℕ) (rest : Spelled) → n < 64 → ws ≢ decimal n ∷ rest) → (m : Carrier) (rest : Spelled) → IsCarrier m → letters the.Sub ∷ ws ≡ carrier_words m ++ rest → ⊥
 no_by_sub ws none (BySub id) rest h e = none id rest h (rest_is _ _ _ _ e)
@@ -82,11 +95,6 @@ pub no_packets : (ws : Spelled) → ((n : ℕ) (rest : Spelled) → n < 4096 →
 no_packets ws none (InPackets scid) rest h e = none scid rest h (rest_is _ _ _ _ e)
 no_packets ws none (Sound ty sub) rest h e = let f = same_key the.Carry the.Audio _ _ e in absurd cc
 no_packets ws none (Stream ty sub) rest h e = let f = same_key the.Carry the.Data _ _ e in absurd cc
-
-pub no_carried : (first : Keyword) (ws : Spelled) → (first ≡ the.Audio → ⊥) → (first ≡ the.Data → ⊥) → (first ≡ the.Carry → ⊥) → (m : Component) (rest : Spelled) → letters first ∷ ws ≡ carried_words m ++ rest → ⊥
-no_carried first ws a b c (Sound ty sub) rest e = a (same_key first the.Audio _ _ e)
-no_carried first ws a b c (Stream ty sub) rest e = b (same_key first the.Data _ _ e)
-no_carried first ws a b c (InPackets scid) rest e = c (same_key first the.Carry _ _ e)
 
 -- a component, from what is carried and where
 pub no_place : (i j : Input) (m : Component) → IsComponent m → Passes (carried_words m) i j → NoneOf Sid IsSid in_words j
@@ -163,34 +171,60 @@ edit_begins (DropPacket scid) rest = refl
 pub key_of_edit : (first : Keyword) (ws : Spelled) (e : Edit) (rest : Spelled) → letters first ∷ ws ≡ edit_words e ++ rest → first ≡ edit_key e
 key_of_edit first ws e rest eq = same_key first (edit_key e) ws (drop 1 (edit_words e ++ rest)) (eq ∙ edit_begins e rest)
 
-pub no_other_item : (first : Keyword) (i : Input) → (first ≡ the.Sub → ⊥) → (first ≡ the.Service → ⊥) → (first ≡ the.Packet → ⊥)
-    → NoneOf (Sid × Component) (λ p. IsSid p.0 × IsComponent p.1) (λ p. edit_words (AddComponent p.0 p.1)) (behind first i) → NoneOf Edit (λ e. IsEdit e × Adds e) edit_words (behind first i)
-no_other_item first i a b c none (AddSub s) rest h eq = a (key_of_edit first i.words (AddSub s) rest eq)
-no_other_item first i a b c none (AddService sid) rest h eq = b (key_of_edit first i.words (AddService sid) rest eq)
-no_other_item first i a b c none (AddPacket p) rest h eq = c (key_of_edit first i.words (AddPacket p) rest eq)
-no_other_item first i a b c none (AddComponent sid m) rest h eq = none (sid, m) rest h.0 eq
-no_other_item first i a b c none (DropSub id) rest h eq = absurd h.1
-no_other_item first i a b c none (MoveSub id start) rest h eq = absurd h.1
-no_other_item first i a b c none (RateSub id kbits) rest h eq = absurd h.1
-no_other_item first i a b c none (DropService sid) rest h eq = absurd h.1
-no_other_item first i a b c none (DropComponent sid m) rest h eq = absurd h.1
-no_other_item first i a b c none (DropPacket scid) rest h eq = absurd h.1
+-- no other edit begins with the keyword of a component, or of an item
+abbrev begins_component : Keyword → Bool
+begins_component the.Audio = true
+begins_component the.Data = true
+begins_component the.Carry = true
+begins_component _ = false
+
+component_begins : (k : ComponentKeyword) → begins_component (component_keyword k) ≡ true
+component_begins component.Audio = refl
+component_begins component.Data = refl
+component_begins component.Carry = refl
+
+no_component_key : (k : ComponentKeyword) (other : Keyword) → begins_component other ≡ false → component_keyword k ≡ other → ⊥
+no_component_key k other none same = false≢true (sym none ∙ ap begins_component (sym same) ∙ component_begins k)
+
+pub item_begins : (k : ItemKeyword) → begins_item (item_keyword k) ≡ true
+item_begins item.Sub = refl
+item_begins item.Service = refl
+item_begins item.Packet = refl
+item_begins (item.Component component.Audio) = refl
+item_begins (item.Component component.Data) = refl
+item_begins (item.Component component.Carry) = refl
+
+no_item_key : (k : ItemKeyword) (other : Keyword) → begins_item other ≡ false → item_keyword k ≡ other → ⊥
+no_item_key k other none same = false≢true (sym none ∙ ap begins_item (sym same) ∙ item_begins k)
+
+pub no_other_item : (k : ComponentKeyword) (i : Input)
+    → NoneOf (Sid × Component) (λ p. IsSid p.0 × IsComponent p.1) (λ p. edit_words (AddComponent p.0 p.1)) (behind (component_keyword k) i)
+    → NoneOf Edit (λ e. IsEdit e × Adds e) edit_words (behind (component_keyword k) i)
+no_other_item k i none (AddSub s) rest h eq = no_component_key k the.Sub refl (key_of_edit (component_keyword k) i.words (AddSub s) rest eq)
+no_other_item k i none (AddService sid) rest h eq = no_component_key k the.Service refl (key_of_edit (component_keyword k) i.words (AddService sid) rest eq)
+no_other_item k i none (AddPacket p) rest h eq = no_component_key k the.Packet refl (key_of_edit (component_keyword k) i.words (AddPacket p) rest eq)
+no_other_item k i none (AddComponent sid m) rest h eq = none (sid, m) rest h.0 eq
+no_other_item k i none (DropSub id) rest h eq = absurd h.1
+no_other_item k i none (MoveSub id start) rest h eq = absurd h.1
+no_other_item k i none (RateSub id kbits) rest h eq = absurd h.1
+no_other_item k i none (DropService sid) rest h eq = absurd h.1
+no_other_item k i none (DropComponent sid m) rest h eq = absurd h.1
+no_other_item k i none (DropPacket scid) rest h eq = absurd h.1
 
 pub no_item : (i : Input) → NoneOf Edit IsEdit edit_words i → NoneOf Edit (λ e. IsEdit e × Adds e) edit_words i
 no_item i none e rest h eq = none e rest h.0 eq
 
-pub no_other_edit : (first : Keyword) (i : Input) → (first ≡ the.Drop → ⊥) → (first ≡ the.Move → ⊥) → (first ≡ the.Rate → ⊥)
-    → NoneOf Edit (λ e. IsEdit e × Adds e) edit_words (behind first i) → NoneOf Edit IsEdit edit_words (behind first i)
-no_other_edit first i a b c none (AddSub s) rest h eq = none (AddSub s) rest (h, tt) eq
-no_other_edit first i a b c none (AddService sid) rest h eq = none (AddService sid) rest (h, tt) eq
-no_other_edit first i a b c none (AddPacket p) rest h eq = none (AddPacket p) rest (h, tt) eq
-no_other_edit first i a b c none (AddComponent sid m) rest h eq = none (AddComponent sid m) rest (h, tt) eq
-no_other_edit first i a b c none (DropSub id) rest h eq = a (key_of_edit first i.words (DropSub id) rest eq)
-no_other_edit first i a b c none (MoveSub id start) rest h eq = b (key_of_edit first i.words (MoveSub id start) rest eq)
-no_other_edit first i a b c none (RateSub id kbits) rest h eq = c (key_of_edit first i.words (RateSub id kbits) rest eq)
-no_other_edit first i a b c none (DropService sid) rest h eq = a (key_of_edit first i.words (DropService sid) rest eq)
-no_other_edit first i a b c none (DropComponent sid m) rest h eq = a (key_of_edit first i.words (DropComponent sid m) rest eq)
-no_other_edit first i a b c none (DropPacket scid) rest h eq = a (key_of_edit first i.words (DropPacket scid) rest eq)
+pub no_other_edit : (k : ItemKeyword) (i : Input) → NoneOf Edit (λ e. IsEdit e × Adds e) edit_words (behind (item_keyword k) i) → NoneOf Edit IsEdit edit_words (behind (item_keyword k) i)
+no_other_edit k i none (AddSub s) rest h eq = none (AddSub s) rest (h, tt) eq
+no_other_edit k i none (AddService sid) rest h eq = none (AddService sid) rest (h, tt) eq
+no_other_edit k i none (AddPacket p) rest h eq = none (AddPacket p) rest (h, tt) eq
+no_other_edit k i none (AddComponent sid m) rest h eq = none (AddComponent sid m) rest (h, tt) eq
+no_other_edit k i none (DropSub id) rest h eq = no_item_key k the.Drop refl (key_of_edit (item_keyword k) i.words (DropSub id) rest eq)
+no_other_edit k i none (MoveSub id start) rest h eq = no_item_key k the.Move refl (key_of_edit (item_keyword k) i.words (MoveSub id start) rest eq)
+no_other_edit k i none (RateSub id kbits) rest h eq = no_item_key k the.Rate refl (key_of_edit (item_keyword k) i.words (RateSub id kbits) rest eq)
+no_other_edit k i none (DropService sid) rest h eq = no_item_key k the.Drop refl (key_of_edit (item_keyword k) i.words (DropService sid) rest eq)
+no_other_edit k i none (DropComponent sid m) rest h eq = no_item_key k the.Drop refl (key_of_edit (item_keyword k) i.words (DropComponent sid m) rest eq)
+no_other_edit k i none (DropPacket scid) rest h eq = no_item_key k the.Drop refl (key_of_edit (item_keyword k) i.words (DropPacket scid) rest eq)
 
 -- ---- what follows `drop`
 
@@ -231,20 +265,20 @@ no_drop_component ws none (AddComponent sid (Sound ty sub)) rest h eq = let f = 
 no_drop_component ws none (AddComponent sid (Stream ty sub)) rest h eq = let f = key_of_edit the.Drop _ (AddComponent sid (Stream ty sub)) rest eq in absurd cc
 no_drop_component ws none (AddComponent sid (InPackets scid)) rest h eq = let f = key_of_edit the.Drop _ (AddComponent sid (InPackets scid)) rest eq in absurd cc
 
-pub no_drop_other : (words : Spelled) (found : Keyword) → Found words found → (found ≡ the.Service → ⊥) → (found ≡ the.Component → ⊥)
+pub no_drop_other : (words : Spelled) → NoneNext words the.Service → NoneNext words the.Component
     → ((m : Carrier) (rest : Spelled) → IsCarrier m → words ≢ carrier_words m ++ rest) → NoDropped words
-no_drop_other words found first a b none (DropService sid) rest h eq = a (first the.Service (sid_word sid ∷ rest) (rest_is _ _ _ _ eq))
-no_drop_other words found first a b none (DropComponent sid m) rest h eq = b (first the.Component _ (rest_is _ _ _ _ eq))
-no_drop_other words found first a b none (DropSub id) rest h eq = none (BySub id) rest h (rest_is _ _ _ _ eq)
-no_drop_other words found first a b none (DropPacket scid) rest h eq = none (ByPacket scid) rest h (rest_is _ _ _ _ eq)
-no_drop_other words found first a b none (AddSub s) rest h eq = let f = key_of_edit the.Drop _ (AddSub s) rest eq in absurd cc
-no_drop_other words found first a b none (AddService sid) rest h eq = let f = key_of_edit the.Drop _ (AddService sid) rest eq in absurd cc
-no_drop_other words found first a b none (AddPacket p) rest h eq = let f = key_of_edit the.Drop _ (AddPacket p) rest eq in absurd cc
-no_drop_other words found first a b none (MoveSub id start) rest h eq = let f = key_of_edit the.Drop _ (MoveSub id start) rest eq in absurd cc
-no_drop_other words found first a b none (RateSub id kbits) rest h eq = let f = key_of_edit the.Drop _ (RateSub id kbits) rest eq in absurd cc
-no_drop_other words found first a b none (AddComponent sid (Sound ty sub)) rest h eq = let f = key_of_edit the.Drop _ (AddComponent sid (Sound ty sub)) rest eq in absurd cc
-no_drop_other words found first a b none (AddComponent sid (Stream ty sub)) rest h eq = let f = key_of_edit the.Drop _ (AddComponent sid (Stream ty sub)) rest eq in absurd cc
-no_drop_other words found first a b none (AddComponent sid (InPackets scid)) rest h eq = let f = key_of_edit the.Drop _ (AddComponent sid (InPackets scid)) rest eq in absurd cc
+no_drop_other words a b none (DropService sid) rest h eq = a (sid_word sid ∷ rest) (rest_is _ _ _ _ eq)
+no_drop_other words a b none (DropComponent sid m) rest h eq = b _ (rest_is _ _ _ _ eq)
+no_drop_other words a b none (DropSub id) rest h eq = none (BySub id) rest h (rest_is _ _ _ _ eq)
+no_drop_other words a b none (DropPacket scid) rest h eq = none (ByPacket scid) rest h (rest_is _ _ _ _ eq)
+no_drop_other words a b none (AddSub s) rest h eq = let f = key_of_edit the.Drop _ (AddSub s) rest eq in absurd cc
+no_drop_other words a b none (AddService sid) rest h eq = let f = key_of_edit the.Drop _ (AddService sid) rest eq in absurd cc
+no_drop_other words a b none (AddPacket p) rest h eq = let f = key_of_edit the.Drop _ (AddPacket p) rest eq in absurd cc
+no_drop_other words a b none (MoveSub id start) rest h eq = let f = key_of_edit the.Drop _ (MoveSub id start) rest eq in absurd cc
+no_drop_other words a b none (RateSub id kbits) rest h eq = let f = key_of_edit the.Drop _ (RateSub id kbits) rest eq in absurd cc
+no_drop_other words a b none (AddComponent sid (Sound ty sub)) rest h eq = let f = key_of_edit the.Drop _ (AddComponent sid (Sound ty sub)) rest eq in absurd cc
+no_drop_other words a b none (AddComponent sid (Stream ty sub)) rest h eq = let f = key_of_edit the.Drop _ (AddComponent sid (Stream ty sub)) rest eq in absurd cc
+no_drop_other words a b none (AddComponent sid (InPackets scid)) rest h eq = let f = key_of_edit the.Drop _ (AddComponent sid (InPackets scid)) rest eq in absurd cc
 
 -- the carrier is none, or where it is carried
 pub no_carried_by : (ws : Spelled) → ((m : Carrier) (rest : Spelled) → IsCarrier m → ws ≢ carrier_words m ++ rest) → NoPlaced ws
@@ -370,16 +404,29 @@ no_commit words x y (Until second) rest h eq = let g = key_of_act the.Commit wor
 no_commit words x y Join rest h eq = let g = key_of_act the.Commit words Join rest eq in absurd cc
 no_commit words x y Settle rest h eq = let g = key_of_act the.Commit words Settle rest eq in absurd cc
 
-pub no_other_act : (first : Keyword) (ws : Spelled) → (first ≡ the.Wait → ⊥) → (first ≡ the.Until → ⊥) → (first ≡ the.Commit → ⊥) → (first ≡ the.Join → ⊥) → (first ≡ the.Settle → ⊥)
-    → ((e : Edit) (rest : Spelled) → IsEdit e → letters first ∷ ws ≢ edit_words e ++ rest) → NoAct first ws
-no_other_act first ws a b c d f none (Edits e) rest h eq = none e rest h eq
-no_other_act first ws a b c d f none (Wait frames) rest h eq = a (key_of_act first ws (Wait frames) rest eq)
-no_other_act first ws a b c d f none (WaitContact contact closed) rest h eq = a (key_of_act first ws (WaitContact contact closed) rest eq)
-no_other_act first ws a b c d f none (Until second) rest h eq = b (key_of_act first ws (Until second) rest eq)
-no_other_act first ws a b c d f none (CommitIn delay) rest h eq = c (key_of_act first ws (CommitIn delay) rest eq)
-no_other_act first ws a b c d f none (CommitAt count) rest h eq = c (key_of_act first ws (CommitAt count) rest eq)
-no_other_act first ws a b c d f none Join rest h eq = d (key_of_act first ws Join rest eq)
-no_other_act first ws a b c d f none Settle rest h eq = f (key_of_act first ws Settle rest eq)
+begins_as_edit : (k : EditKeyword) → begins_edit (edit_keyword k) ≡ true
+begins_as_edit edit.Drop = refl
+begins_as_edit edit.Move = refl
+begins_as_edit edit.Rate = refl
+begins_as_edit (edit.Item item.Sub) = refl
+begins_as_edit (edit.Item item.Service) = refl
+begins_as_edit (edit.Item item.Packet) = refl
+begins_as_edit (edit.Item (item.Component component.Audio)) = refl
+begins_as_edit (edit.Item (item.Component component.Data)) = refl
+begins_as_edit (edit.Item (item.Component component.Carry)) = refl
+
+no_edit_key : (k : EditKeyword) (other : Keyword) → begins_edit other ≡ false → edit_keyword k ≡ other → ⊥
+no_edit_key k other none same = false≢true (sym none ∙ ap begins_edit (sym same) ∙ begins_as_edit k)
+
+pub no_other_act : (k : EditKeyword) (ws : Spelled) → ((e : Edit) (rest : Spelled) → IsEdit e → letters (edit_keyword k) ∷ ws ≢ edit_words e ++ rest) → NoAct (edit_keyword k) ws
+no_other_act k ws none (Edits e) rest h eq = none e rest h eq
+no_other_act k ws none (Wait frames) rest h eq = no_edit_key k the.Wait refl (key_of_act (edit_keyword k) ws (Wait frames) rest eq)
+no_other_act k ws none (WaitContact contact closed) rest h eq = no_edit_key k the.Wait refl (key_of_act (edit_keyword k) ws (WaitContact contact closed) rest eq)
+no_other_act k ws none (Until second) rest h eq = no_edit_key k the.Until refl (key_of_act (edit_keyword k) ws (Until second) rest eq)
+no_other_act k ws none (CommitIn delay) rest h eq = no_edit_key k the.Commit refl (key_of_act (edit_keyword k) ws (CommitIn delay) rest eq)
+no_other_act k ws none (CommitAt count) rest h eq = no_edit_key k the.Commit refl (key_of_act (edit_keyword k) ws (CommitAt count) rest eq)
+no_other_act k ws none Join rest h eq = no_edit_key k the.Join refl (key_of_act (edit_keyword k) ws Join rest eq)
+no_other_act k ws none Settle rest h eq = no_edit_key k the.Settle refl (key_of_act (edit_keyword k) ws Settle rest eq)
 
 -- ---- modes
 
@@ -421,13 +468,25 @@ mode_alone words h rest e = mode_front words h rest e ∙ sym (append_assoc (mod
 
 -- ---- where a call's answer is handed on
 
-pub no_move_at : (first : Keyword) (i : Input) → first ≡ the.Move → NoneOf (ℕ × ℕ) (λ p. (p.0 < 64) × (p.1 < 1024)) (λ p. edit_words (MoveSub p.0 p.1)) (behind the.Move i) → NoneOf Edit IsEdit edit_words (behind first i)
-no_move_at first i same none e rest h eq = no_move i none e rest h (ap (λ k. letters k ∷ i.words) (sym same) ∙ eq)
+-- the same first keyword
+pub behind_same : (A : Type 0) (In : A → Type 0) (words : A → Spelled) (i : Input) (j k : Keyword) → j ≡ k → NoneOf A In words (behind k i) → NoneOf A In words (behind j i)
+behind_same A In words i j k same none a rest h eq = none a rest h (ap (λ x. letters x ∷ i.words) (sym same) ∙ eq)
 
-pub no_rate_at : (first : Keyword) (i : Input) → first ≡ the.Rate → NoneOf (ℕ × ℕ) (λ p. (p.0 < 64) × (p.1 < 65536)) (λ p. edit_words (RateSub p.0 p.1)) (behind the.Rate i) → NoneOf Edit IsEdit edit_words (behind first i)
-no_rate_at first i same none e rest h eq = no_rate i none e rest h (ap (λ k. letters k ∷ i.words) (sym same) ∙ eq)
+pub no_move_at : (first : EditKeyword) (i : Input) → first ≡ edit.Move → NoneOf (ℕ × ℕ) (λ p. (p.0 < 64) × (p.1 < 1024)) (λ p. edit_words (MoveSub p.0 p.1)) (behind the.Move i) → NoneOf Edit IsEdit edit_words (behind (edit_keyword first) i)
+no_move_at first i same none = behind_same Edit IsEdit edit_words i (edit_keyword first) the.Move (ap edit_keyword same) (no_move i none)
 
-pub no_dropped : (words : Spelled) → ((k : Keyword) (rest : Spelled) → words ≢ letters k ∷ rest) → NoDropped words
-no_dropped words none e rest h eq =
-    let found : Found words the.Begin = λ k more f. absurd (none k more f) in
-    no_drop_other words the.Begin found (λ f. cc) (λ f. cc) (λ m more good f. no_carrier words the.Begin found (λ g. cc) (λ g. cc) m more f) e rest h eq
+pub no_rate_at : (first : EditKeyword) (i : Input) → first ≡ edit.Rate → NoneOf (ℕ × ℕ) (λ p. (p.0 < 64) × (p.1 < 65536)) (λ p. edit_words (RateSub p.0 p.1)) (behind the.Rate i) → NoneOf Edit IsEdit edit_words (behind (edit_keyword first) i)
+no_rate_at first i same none = behind_same Edit IsEdit edit_words i (edit_keyword first) the.Rate (ap edit_keyword same) (no_rate i none)
+
+pub no_other_item_at : (first : ItemKeyword) (k : ComponentKeyword) (i : Input) → first ≡ item.Component k
+    → NoneOf (Sid × Component) (λ p. IsSid p.0 × IsComponent p.1) (λ p. edit_words (AddComponent p.0 p.1)) (behind (component_keyword k) i)
+    → NoneOf Edit (λ e. IsEdit e × Adds e) edit_words (behind (item_keyword first) i)
+no_other_item_at first k i same none = behind_same Edit (λ e. IsEdit e × Adds e) edit_words i (item_keyword first) (component_keyword k) (ap item_keyword same) (no_other_item k i none)
+
+pub no_other_edit_at : (first : EditKeyword) (k : ItemKeyword) (i : Input) → first ≡ edit.Item k → NoneOf Edit (λ e. IsEdit e × Adds e) edit_words (behind (item_keyword k) i)
+    → NoneOf Edit IsEdit edit_words (behind (edit_keyword first) i)
+no_other_edit_at first k i same none = behind_same Edit IsEdit edit_words i (edit_keyword first) (item_keyword k) (ap edit_keyword same) (no_other_edit k i none)
+
+pub no_other_act_at : (first : ActKeyword) (k : EditKeyword) (i : Input) → first ≡ act.Edit k → NoneOf Edit IsEdit edit_words (behind (edit_keyword k) i)
+    → NoneOf Act IsAct act_words (behind (act_keyword first) i)
+no_other_act_at first k i same none = behind_same Act IsAct act_words i (act_keyword first) (edit_keyword k) (ap act_keyword same) (no_other_act k i.words none)

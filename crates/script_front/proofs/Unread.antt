@@ -6,14 +6,22 @@ use Rattle.script_tokens.specs.declared.fault.ScriptFault.{ScriptFault}
 use Rattle.script_tokens.specs.declared.fault.ScriptFault.TheVariants.{Memory}
 use Rattle.script_tokens.specs.declared.keyword.Keyword.{Keyword}
 use Rattle.script_tokens.specs.declared.keyword.Keyword.TheVariants as the
-use Rattle.script_tokens.specs.Words.{letters, begins_item, begins_statement}
+use Rattle.script_tokens.specs.Words.{letters, begins_statement}
+use Rattle.script_tokens.specs.First.{edit_keyword, act_keyword}
+use Rattle.script_tokens.specs.declared.first_keyword.ComponentKeyword.TheVariants as component
+use Rattle.script_tokens.specs.declared.first_keyword.ItemKeyword.TheVariants as item
+use Rattle.script_tokens.specs.declared.first_keyword.EditKeyword.{EditKeyword}
+use Rattle.script_tokens.specs.declared.first_keyword.EditKeyword.TheVariants as edit
+use Rattle.script_tokens.specs.declared.first_keyword.ActKeyword.{ActKeyword}
+use Rattle.script_tokens.specs.declared.first_keyword.ActKeyword.TheVariants as act
+use Rattle.std.proofs.lemmas.Bool.{false≢true}
 use Rattle.script_front.specs.Block.{Block, Before, nothing, basic, stop, when, either, repeat, forever, apply}
 use Rattle.script_front.specs.Tree.{IsInBounds, counted}
 use Rattle.script_tokens.specs.Reading.{Spelled, Input, Passes, BeginsWith, behind}
 use Rattle.script_front.specs.Spelled.{name_at, act_words, block_words}
-use Rattle.script_front.specs.Parsing.{Stops, CanBe, NoBlock, NoBody, NoApplied, BeginsNoItem, IsRead, IsBraced}
+use Rattle.script_front.specs.Parsing.{Stops, CanBe, NoBlock, NoBody, NoApplied, IsRead, IsBraced}
 use Rattle.script_tokens.proofs.Keys.{first_is, rest_is}
-use Rattle.script_front.proofs.Refusing.{Found, NoAct}
+use Rattle.script_front.proofs.Refusing.{NoAct}
 use Rattle.script_front.proofs.Blocks.{key, begins_act, act_key_begins, key_is, key_first, all_read, after_apply, after_forever, after_repeat, after_if, no_else}
 
 pub refused : {X T : Type 0} (r : Result X ScriptFault) → T → IfErr r (λ e. e ≢ Memory → T)
@@ -80,16 +88,11 @@ key_begins (apply line number named r) some = refl
 not_empty : (names : List (List ℕ)) (depth : ℕ) (words : Spelled) (b : Block) (rest : Spelled) → (Stops words → ⊥) → CanBe names depth words b rest → b ≡ nothing → ⊥
 not_empty names depth words b rest go can is = go (subst Stops (sym (can.spelled ∙ ap (λ (x : Block). block_words names x ++ rest) is)) can.stops)
 
-pub no_word : (names : List (List ℕ)) (depth left : ℕ) (words : Spelled) → (Stops words → ⊥) → ((k : Keyword) (rest : Spelled) → words ≢ letters k ∷ rest) → NoBlock names depth left words
-no_word names depth left words go none named b rest few can =
-    none (key b) _ (can.spelled ∙ key_first names b rest (not_empty names depth words b rest go can))
-
-pub no_start : (names : List (List ℕ)) (depth left : ℕ) (words : Spelled) (found : Keyword) → (Stops words → ⊥) → Found words found → begins_statement found ≡ false → NoBlock names depth left words
-no_start names depth left words found go is other named b rest few can =
+pub no_start : (names : List (List ℕ)) (depth left : ℕ) (words : Spelled) → (Stops words → ⊥)
+    → ((k : Keyword) (rest : Spelled) → begins_statement k ≡ true → words ≢ letters k ∷ rest) → NoBlock names depth left words
+no_start names depth left words go none named b rest few can =
     let some = not_empty names depth words b rest go can in
-    let same : found ≡ key b = is (key b) _ (can.spelled ∙ key_first names b rest some) in
-    let e : false ≡ true = sym other ∙ ap begins_statement same ∙ key_begins b some in
-    absurd cc
+    none (key b) _ (key_begins b some) (can.spelled ∙ key_first names b rest some)
 
 some_counted : (b : Block) → counted b ≤ 0 → b ≡ nothing
 some_counted nothing le = refl
@@ -110,21 +113,43 @@ no_block_at names depth n m words vs e f none named b rest few can =
 
 -- ---- each kind of statement
 
-act_only : (names : List (List ℕ)) (depth : ℕ) (first : Keyword) (ws : Spelled) → NoAct first ws → (first ≡ the.End → ⊥) → (first ≡ the.If → ⊥) → (first ≡ the.Repeat → ⊥) → (first ≡ the.Forever → ⊥)
-    → (first ≡ the.Apply → ⊥) → (b : Block) (rest : Spelled) → IsInBounds (length names) depth b → (b ≡ nothing → ⊥) → key b ≡ first → letters first ∷ ws ≡ block_words names b ++ rest → ⊥
-act_only names depth first ws none p q r s t (basic line a next) rest f some same eq = none a _ f.0 (eq ∙ append_assoc (act_words a) (block_words names next) rest)
-act_only names depth first ws none p q r s t nothing rest f some same eq = some refl
-act_only names depth first ws none p q r s t (stop line next) rest f some same eq = p (sym same)
-act_only names depth first ws none p q r s t (when line contact one next) rest f some same eq = q (sym same)
-act_only names depth first ws none p q r s t (either line contact one two next) rest f some same eq = q (sym same)
-act_only names depth first ws none p q r s t (repeat line times body next) rest f some same eq = r (sym same)
-act_only names depth first ws none p q r s t (forever line body next) rest f some same eq = s (sym same)
-act_only names depth first ws none p q r s t (apply line number named next) rest f some same eq = t (sym same)
+edit_begins_act : (k : EditKeyword) → begins_act (edit_keyword k) ≡ true
+edit_begins_act edit.Drop = refl
+edit_begins_act edit.Move = refl
+edit_begins_act edit.Rate = refl
+edit_begins_act (edit.Item item.Sub) = refl
+edit_begins_act (edit.Item item.Service) = refl
+edit_begins_act (edit.Item item.Packet) = refl
+edit_begins_act (edit.Item (item.Component component.Audio)) = refl
+edit_begins_act (edit.Item (item.Component component.Data)) = refl
+edit_begins_act (edit.Item (item.Component component.Carry)) = refl
 
-pub no_act_block : (names : List (List ℕ)) (depth left : ℕ) (first : Keyword) (words ws : Spelled) → (Stops words → ⊥) → words ≡ letters first ∷ ws → NoAct first ws
-    → (first ≡ the.End → ⊥) → (first ≡ the.If → ⊥) → (first ≡ the.Repeat → ⊥) → (first ≡ the.Forever → ⊥) → (first ≡ the.Apply → ⊥) → NoBlock names depth left words
-no_act_block names depth left first words ws go is none p q r s t named b rest few can =
-    act_only names depth first ws none p q r s t b rest can.fits (not_empty names depth words b rest go can) (key_is names b rest first ws can.stops (sym can.spelled ∙ is)) (sym is ∙ can.spelled)
+begins_as_act : (k : ActKeyword) → begins_act (act_keyword k) ≡ true
+begins_as_act act.Wait = refl
+begins_as_act act.Until = refl
+begins_as_act act.Commit = refl
+begins_as_act act.Join = refl
+begins_as_act act.Settle = refl
+begins_as_act (act.Edit k) = edit_begins_act k
+
+no_act_key : (k : ActKeyword) (other : Keyword) → begins_act other ≡ false → other ≡ act_keyword k → ⊥
+no_act_key k other none same = false≢true (sym none ∙ ap begins_act same ∙ begins_as_act k)
+
+act_only : (names : List (List ℕ)) (depth : ℕ) (k : ActKeyword) (ws : Spelled) → NoAct (act_keyword k) ws
+    → (b : Block) (rest : Spelled) → IsInBounds (length names) depth b → (b ≡ nothing → ⊥) → key b ≡ act_keyword k → letters (act_keyword k) ∷ ws ≡ block_words names b ++ rest → ⊥
+act_only names depth k ws none (basic line a next) rest f some same eq = none a _ f.0 (eq ∙ append_assoc (act_words a) (block_words names next) rest)
+act_only names depth k ws none nothing rest f some same eq = some refl
+act_only names depth k ws none (stop line next) rest f some same eq = no_act_key k the.End refl same
+act_only names depth k ws none (when line contact one next) rest f some same eq = no_act_key k the.If refl same
+act_only names depth k ws none (either line contact one two next) rest f some same eq = no_act_key k the.If refl same
+act_only names depth k ws none (repeat line times body next) rest f some same eq = no_act_key k the.Repeat refl same
+act_only names depth k ws none (forever line body next) rest f some same eq = no_act_key k the.Forever refl same
+act_only names depth k ws none (apply line number named next) rest f some same eq = no_act_key k the.Apply refl same
+
+pub no_act_block : (names : List (List ℕ)) (depth left : ℕ) (k : ActKeyword) (words ws : Spelled) → (Stops words → ⊥) → words ≡ letters (act_keyword k) ∷ ws → NoAct (act_keyword k) ws
+    → NoBlock names depth left words
+no_act_block names depth left k words ws go is none named b rest few can =
+    act_only names depth k ws none b rest can.fits (not_empty names depth words b rest go can) (key_is names b rest (act_keyword k) ws can.stops (sym can.spelled ∙ is)) (sym is ∙ can.spelled)
 
 pub no_apply_block : (names : List (List ℕ)) (depth left : ℕ) (words ws : Spelled) → words ≡ letters the.Apply ∷ ws → NoApplied names ws → NoBlock names depth left words
 no_apply_block names depth left words ws is none named b rest few can =
@@ -210,6 +235,3 @@ not_known names words name h new named number rest lt e =
 
 pub passes_behind : (k : Keyword) (ws : Spelled) (i j l : Input) → Passes (letters k ∷ []) i j → Passes ws (behind k j) l → Passes ws i l
 passes_behind k ws i j l p q = (p.0 ∙ q.0, q.1 ∙ p.1)
-
-pub no_item_begins : (words : Spelled) (first : Keyword) → Found words first → begins_item first ≡ false → BeginsNoItem words
-no_item_begins words first is other k rest among e = let f : false ≡ true = sym other ∙ ap begins_item (is k rest e) ∙ among in absurd cc

@@ -6,9 +6,10 @@ pub mod Printing
 pub mod Spelled
 pub mod Tree
 pub use Rattle.script_tokens.specs.Bytes
+pub use Rattle.script_tokens.specs.First
 pub use Rattle.script_tokens.specs.Lexing
 pub use Rattle.script_tokens.specs.Reading
-pub use Rattle.script_words.specs.Spelling
+pub use Rattle.script_tokens.specs.Spelling
 pub use Rattle.script_tokens.specs.Texts
-pub use Rattle.script_words.specs.Times
+pub use Rattle.script_tokens.specs.Times
 pub use Rattle.script_tokens.specs.Words

@@ -17,7 +17,7 @@ use Rattle.script_front.specs.declared.tree.Item.{Item}
 use Rattle.script_front.specs.declared.tree.Statement.{Statement}
 use Rattle.script_tokens.specs.declared.keyword.Keyword.TheVariants as the
 use Rattle.script_tokens.specs.Words.{letters}
-use Rattle.script_words.specs.Spelling.{hex_word, sid_word, profile_word, time_word}
+use Rattle.script_tokens.specs.Spelling.{hex_word, sid_word, profile_word, time_word}
 use Rattle.script_front.specs.Block.{Block, nothing, basic, stop, when, either, repeat, forever, apply, block_of}
 use Rattle.script_tokens.specs.Reading.{Spelled, line_of_left, line_of}
 use Rattle.script_front.specs.Tree.{Tree}

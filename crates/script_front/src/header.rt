@@ -15,10 +15,10 @@ ghost use Rattle.fib_codec.specs.declared.modes.Mode.TheVariants.{I};
 
 use crate::tree::Header;
 use fib_codec::Mode;
-use script_words::fault::ScriptFault;
-use script_words::keyword::Keyword;
-use script_words::reader::Reader;
-use script_words::values::{decimal, eid};
+use script_tokens::fault::ScriptFault;
+use script_tokens::keyword::Keyword;
+use script_tokens::reader::Reader;
+use script_tokens::values::{decimal, eid};
 
 /// A number from `low` to `high` behind this word.
 fn declared(reader: &mut Reader, keyword: Keyword, low: u8, high: u8) -> Result<u8, ScriptFault>

@@ -8,6 +8,7 @@ ghost use Rattle.std.specs.Fmt.{decimal};
 ghost use Rattle.mux_config.specs.declared.edit.Edit.TheVariants.{AddSub, AddPacket, AddComponent, MoveSub, RateSub};
 ghost use Rattle.script_tokens.specs.declared.keyword.Keyword.TheVariants as the;
 ghost use Rattle.script_tokens.specs.Words.{letters};
+ghost use Rattle.script_tokens.specs.First.{component_keyword, item_keyword, edit_keyword, act_keyword};
 ghost use Rattle.script_tokens.specs.Reading.{Passes, behind};
 ghost use Rattle.script_front.specs.Spelled.{in_words, groups_word, carried_words, carrier_words, edit_words, level_word, act_words};
 ghost use Rattle.script_front.specs.Tree.{IsAct, IsItem, Adds};
@@ -24,10 +25,11 @@ ghost use Rattle.mux_types.specs.declared.parts.Carrier.{Carrier};
 
 use crate::tree::{Act, Item};
 use mux_config::{Carrier, Component, Edit, NewSub, Packet, ScTy, Sid, SubId};
-use script_words::fault::ScriptFault;
-use script_words::keyword::Keyword;
-use script_words::reader::Reader;
-use script_words::values::{
+use script_tokens::fault::ScriptFault;
+use script_tokens::first_keyword::{ActKeyword, ComponentKeyword, EditKeyword, ItemKeyword};
+use script_tokens::keyword::Keyword;
+use script_tokens::reader::Reader;
+use script_tokens::values::{
     contact, delay, frames, profile, sc_id, sc_ty, sid, start, sub_id, time, word,
 };
 use std::alloc::Global;
@@ -105,20 +107,12 @@ fn data_groups(reader: &mut Reader) -> Result<bool, ScriptFault>
     ensures none { OnErr result (NoneOf Bool (λ b. Unit {0}) (λ b. groups_word b ∷ []) reader.old) }
     ensures shorter { OnOk result (length reader.new.words < length reader.old.words) }
 {
-    let Some(found) = reader.keyword() else {
-        return Err(reader.expected());
-    };
-    match found {
-        Keyword::Groups => {
-            reader.advance();
-            Ok(false)
-        }
-        Keyword::Raw => {
-            reader.advance();
-            Ok(true)
-        }
-        _ => Err(reader.expected()),
+    if reader.is_next(Keyword::Groups) {
+        reader.advance();
+        return Ok(false);
     }
+    reader.expect(Keyword::Raw)?;
+    Ok(true)
 }
 
 /// `TYPE sub ID`
@@ -136,12 +130,12 @@ fn typed_sub(reader: &mut Reader) -> Result<(ScTy, SubId), ScriptFault>
 }
 
 /// `audio`, `data` or `carry` with what follows
-fn component(reader: &mut Reader, first: Keyword) -> Result<Edit, ScriptFault>
-    ensures spells { IfOk result (λ e. Passes (edit_words e) (behind first reader.old) reader.new) }
+fn component(reader: &mut Reader, first: ComponentKeyword) -> Result<Edit, ScriptFault>
+    ensures spells { IfOk result (λ e. Passes (edit_words e) (behind (component_keyword first) reader.old) reader.new) }
     ensures range { IfOk result IsEdit }
     ensures adds { IfOk result Adds }
     ensures none { OnErr result (NoneOf (Sid × Component) (λ p. IsSid p.0 × IsComponent p.1) (λ
-        p. edit_words (AddComponent p.0 p.1)) (behind first reader.old)) }
+        p. edit_words (AddComponent p.0 p.1)) (behind (component_keyword first) reader.old)) }
     ensures shorter { OnOk result (length reader.new.words < length reader.old.words) }
 {
     let component = carried(reader, first)?;
@@ -150,54 +144,53 @@ fn component(reader: &mut Reader, first: Keyword) -> Result<Edit, ScriptFault>
 }
 
 /// What is carried, up to before `in`
-fn carried(reader: &mut Reader, first: Keyword) -> Result<Component, ScriptFault>
-    ensures spells { IfOk result (λ m. Passes (carried_words m) (behind first reader.old)
+fn carried(reader: &mut Reader, first: ComponentKeyword) -> Result<Component, ScriptFault>
+    ensures spells { IfOk result (λ m. Passes (carried_words m) (behind (component_keyword first) reader.old)
         reader.new) }
     ensures range { IfOk result IsComponent }
-    ensures none { OnErr result (NoneOf Component IsComponent carried_words (behind first
+    ensures none { OnErr result (NoneOf Component IsComponent carried_words (behind (component_keyword first)
         reader.old)) }
     ensures shorter { OnOk result (length reader.new.words < length reader.old.words) }
 {
     match first {
-        Keyword::Audio => {
+        ComponentKeyword::Audio => {
             let (ty, sub) = typed_sub(reader)?;
             Ok(Component::Sound { ty, sub })
         }
-        Keyword::Data => {
+        ComponentKeyword::Data => {
             let (ty, sub) = typed_sub(reader)?;
             Ok(Component::Stream { ty, sub })
         }
-        Keyword::Carry => {
+        ComponentKeyword::Carry => {
             let scid = sc_id(reader)?;
             Ok(Component::Packet { scid })
         }
-        _ => Err(reader.expected()),
     }
 }
 
 /// An item after its first word.
-fn item(reader: &mut Reader, first: Keyword) -> Result<Edit, ScriptFault>
-    ensures spells { IfOk result (λ e. Passes (edit_words e) (behind first reader.old) reader.new) }
+fn item(reader: &mut Reader, first: ItemKeyword) -> Result<Edit, ScriptFault>
+    ensures spells { IfOk result (λ e. Passes (edit_words e) (behind (item_keyword first) reader.old) reader.new) }
     ensures range { IfOk result IsEdit }
     ensures adds { IfOk result Adds }
-    ensures none { OnErr result (NoneOf Edit (λ e. IsEdit e × Adds e) edit_words (behind first
+    ensures none { OnErr result (NoneOf Edit (λ e. IsEdit e × Adds e) edit_words (behind (item_keyword first)
         reader.old)) }
     ensures shorter { OnOk result (length reader.new.words < length reader.old.words) }
 {
     match first {
-        Keyword::Sub => {
+        ItemKeyword::Sub => {
             let sub = new_sub(reader)?;
             Ok(Edit::AddSub(sub))
         }
-        Keyword::Service => {
+        ItemKeyword::Service => {
             let sid = sid(reader)?;
             Ok(Edit::AddService(sid))
         }
-        Keyword::Packet => {
+        ItemKeyword::Packet => {
             let packet = new_packet(reader)?;
             Ok(Edit::AddPacket(packet))
         }
-        _ => component(reader, first),
+        ItemKeyword::Component(keyword) => component(reader, keyword),
     }
 }
 
@@ -208,22 +201,14 @@ fn carrier(reader: &mut Reader) -> Result<Carrier, ScriptFault>
     ensures none { OnErr result (NoneOf Carrier IsCarrier carrier_words reader.old) }
     ensures shorter { OnOk result (length reader.new.words < length reader.old.words) }
 {
-    let Some(found) = reader.keyword() else {
-        return Err(reader.expected());
-    };
-    match found {
-        Keyword::Sub => {
-            reader.advance();
-            let id = sub_id(reader)?;
-            Ok(Carrier::Sub(id))
-        }
-        Keyword::Packet => {
-            reader.advance();
-            let scid = sc_id(reader)?;
-            Ok(Carrier::Packet(scid))
-        }
-        _ => Err(reader.expected()),
+    if reader.is_next(Keyword::Sub) {
+        reader.advance();
+        let id = sub_id(reader)?;
+        return Ok(Carrier::Sub(id));
     }
+    reader.expect(Keyword::Packet)?;
+    let scid = sc_id(reader)?;
+    Ok(Carrier::Packet(scid))
 }
 
 /// What follows `drop`
@@ -234,23 +219,18 @@ fn dropped(reader: &mut Reader) -> Result<Edit, ScriptFault>
     ensures none { OnErr result (NoneOf Edit IsEdit edit_words (behind the.Drop reader.old)) }
     ensures shorter { OnOk result (length reader.new.words < length reader.old.words) }
 {
-    let Some(found) = reader.keyword() else {
-        return Err(reader.expected());
-    };
-    match found {
-        Keyword::Service => {
-            reader.advance();
-            let sid = sid(reader)?;
-            Ok(Edit::DropService(sid))
-        }
-        Keyword::Component => {
-            reader.advance();
-            let carrier = carrier(reader)?;
-            let sid = in_service(reader)?;
-            Ok(Edit::DropComponent { sid, carrier })
-        }
-        _ => dropped_carrier(reader),
+    if reader.is_next(Keyword::Service) {
+        reader.advance();
+        let sid = sid(reader)?;
+        return Ok(Edit::DropService(sid));
     }
+    if !reader.is_next(Keyword::Component) {
+        return dropped_carrier(reader);
+    }
+    reader.advance();
+    let carrier = carrier(reader)?;
+    let sid = in_service(reader)?;
+    Ok(Edit::DropComponent { sid, carrier })
 }
 
 /// `sub ID` or `packet SCID` after `drop`
@@ -297,17 +277,17 @@ fn rated(reader: &mut Reader) -> Result<Edit, ScriptFault>
 }
 
 /// An edit after its first word.
-fn edit(reader: &mut Reader, first: Keyword) -> Result<Edit, ScriptFault>
-    ensures spells { IfOk result (λ e. Passes (edit_words e) (behind first reader.old) reader.new) }
+fn edit(reader: &mut Reader, first: EditKeyword) -> Result<Edit, ScriptFault>
+    ensures spells { IfOk result (λ e. Passes (edit_words e) (behind (edit_keyword first) reader.old) reader.new) }
     ensures range { IfOk result IsEdit }
-    ensures none { OnErr result (NoneOf Edit IsEdit edit_words (behind first reader.old)) }
+    ensures none { OnErr result (NoneOf Edit IsEdit edit_words (behind (edit_keyword first) reader.old)) }
     ensures shorter { OnOk result (length reader.new.words < length reader.old.words) }
 {
     match first {
-        Keyword::Drop => dropped(reader),
-        Keyword::Move => moved(reader),
-        Keyword::Rate => rated(reader),
-        _ => item(reader, first),
+        EditKeyword::Drop => dropped(reader),
+        EditKeyword::Move => moved(reader),
+        EditKeyword::Rate => rated(reader),
+        EditKeyword::Item(keyword) => item(reader, keyword),
     }
 }
 
@@ -335,20 +315,12 @@ fn level(reader: &mut Reader) -> Result<bool, ScriptFault>
     ensures none { OnErr result (NoneOf Bool (λ b. Unit {0}) (λ b. level_word b ∷ []) reader.old) }
     ensures shorter { OnOk result (length reader.new.words < length reader.old.words) }
 {
-    let Some(found) = reader.keyword() else {
-        return Err(reader.expected());
-    };
-    match found {
-        Keyword::Closed => {
-            reader.advance();
-            Ok(true)
-        }
-        Keyword::Open => {
-            reader.advance();
-            Ok(false)
-        }
-        _ => Err(reader.expected()),
+    if reader.is_next(Keyword::Closed) {
+        reader.advance();
+        return Ok(true);
     }
+    reader.expect(Keyword::Open)?;
+    Ok(false)
 }
 
 /// `in K` or `at COUNT` after `commit`
@@ -359,42 +331,34 @@ fn committing(reader: &mut Reader) -> Result<Act, ScriptFault>
     ensures none { OnErr result (NoneOf Act IsAct act_words (behind the.Commit reader.old)) }
     ensures shorter { OnOk result (length reader.new.words < length reader.old.words) }
 {
-    let Some(found) = reader.keyword() else {
-        return Err(reader.expected());
-    };
-    match found {
-        Keyword::In => {
-            reader.advance();
-            let delay = delay(reader)?;
-            Ok(Act::CommitIn(delay))
-        }
-        Keyword::At => {
-            reader.advance();
-            let count = word(reader)?;
-            Ok(Act::CommitAt(count))
-        }
-        _ => Err(reader.expected()),
+    if reader.is_next(Keyword::In) {
+        reader.advance();
+        let delay = delay(reader)?;
+        return Ok(Act::CommitIn(delay));
     }
+    reader.expect(Keyword::At)?;
+    let count = word(reader)?;
+    Ok(Act::CommitAt(count))
 }
 
 /// A statement without a block, after its first word.
-pub fn act(reader: &mut Reader, first: Keyword) -> Result<Act, ScriptFault>
-    ensures spells { IfOk result (λ a. Passes (act_words a) (behind first reader.old) reader.new) }
+pub fn act(reader: &mut Reader, first: ActKeyword) -> Result<Act, ScriptFault>
+    ensures spells { IfOk result (λ a. Passes (act_words a) (behind (act_keyword first) reader.old) reader.new) }
     ensures range { IfOk result IsAct }
-    ensures none { OnErr result (NoneOf Act IsAct act_words (behind first reader.old)) }
+    ensures none { OnErr result (NoneOf Act IsAct act_words (behind (act_keyword first) reader.old)) }
     ensures shorter { OnOk result (length reader.new.words ≤ length reader.old.words) }
 {
     match first {
-        Keyword::Wait => waiting(reader),
-        Keyword::Until => {
+        ActKeyword::Wait => waiting(reader),
+        ActKeyword::Until => {
             let time = time(reader)?;
             Ok(Act::Until(time))
         }
-        Keyword::Commit => committing(reader),
-        Keyword::Join => Ok(Act::Join),
-        Keyword::Settle => Ok(Act::Settle),
-        _ => {
-            let edit = edit(reader, first)?;
+        ActKeyword::Commit => committing(reader),
+        ActKeyword::Join => Ok(Act::Join),
+        ActKeyword::Settle => Ok(Act::Settle),
+        ActKeyword::Edit(keyword) => {
+            let edit = edit(reader, keyword)?;
             Ok(Act::Edit(edit))
         }
     }
@@ -405,10 +369,7 @@ pub fn begins_item(reader: &Reader) -> bool
     ensures begins { result ≡ true → BeginsItem reader.now.words }
     ensures none { result ≡ false → BeginsNoItem reader.now.words }
 {
-    match reader.keyword() {
-        None => false,
-        Some(first) => first.begins_item(),
-    }
+    reader.item_keyword().is_some()
 }
 
 /// Items, up to what is none; `left` is how many more items and statements a script may have.
@@ -437,7 +398,7 @@ fn one_more(reader: &mut Reader, list: &mut Vec<Item>) -> Result<(), ScriptFault
         reader.old) }
     ensures shorter { OnOk result (length reader.new.words < length reader.old.words) }
 {
-    let Some(first) = reader.keyword() else {
+    let Some(first) = reader.item_keyword() else {
         return Err(reader.expected());
     };
     let line = reader.line();

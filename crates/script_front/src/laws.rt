@@ -2,7 +2,7 @@
 
 ghost use Rattle.script_front.specs.Alike.{ScriptsHaveTheirOwnTokens, TextsAreOfOneScript};
 
-pub use script_words::laws::texts;
+pub use script_tokens::laws::texts;
 
 /// Two scripts have the same tokens only where they are alike: their headers, what their items add, the names of
 /// their blocks, and the statements of each block and after `begin` are the same, lines aside.

@@ -22,7 +22,7 @@ pub use names::Names;
 pub use parser::parse;
 pub use printer::print;
 pub use script::Script;
-pub use script_words::{
+pub use script_tokens::{
     Keyword, Limits, Position, ScriptFault, TimeOfDay, Token, cut, fault, keyword, lex, lexer,
     number, reader, time, token, values,
 };

@@ -16,11 +16,11 @@ use crate::names::Names;
 use crate::script::Script;
 use crate::statements::{block, statements};
 use crate::tree::Statement;
-use script_words::fault::ScriptFault;
-use script_words::keyword::Keyword;
-use script_words::lexer::lex;
-use script_words::reader::Reader;
-use script_words::values::name;
+use script_tokens::fault::ScriptFault;
+use script_tokens::keyword::Keyword;
+use script_tokens::lexer::lex;
+use script_tokens::reader::Reader;
+use script_tokens::values::name;
 use std::alloc::Global;
 
 /// The most items and statements of a script.

@@ -13,10 +13,11 @@ use crate::items::act;
 use crate::make::{acting, applying, choosing, conditional, ending, looping, repeating};
 use crate::names::Names;
 use crate::tree::{BlockId, Statement};
-use script_words::fault::ScriptFault;
-use script_words::keyword::Keyword;
-use script_words::reader::Reader;
-use script_words::values::{contact, name, times};
+use script_tokens::fault::ScriptFault;
+use script_tokens::first_keyword::StatementKeyword;
+use script_tokens::keyword::Keyword;
+use script_tokens::reader::Reader;
+use script_tokens::values::{contact, name, times};
 use std::alloc::Global;
 
 /// A statement; `left` is how many more items and statements a script may have, and `depth` how many more
@@ -37,12 +38,9 @@ fn statement(
         reader.old.words) }
     ensures shorter { OnOk result (length reader.new.words < length reader.old.words) }
 {
-    let Some(first) = reader.keyword() else {
+    let Some(first) = reader.statement_keyword() else {
         return Err(reader.expected());
     };
-    if !first.begins_statement() {
-        return Err(reader.expected());
-    }
     if *left == 0 {
         return Err(ScriptFault::Limit(reader.position()));
     }
@@ -50,25 +48,25 @@ fn statement(
     let line = reader.line();
     reader.advance();
     match first {
-        Keyword::End => Ok(ending(line)),
-        Keyword::If => {
+        StatementKeyword::End => Ok(ending(line)),
+        StatementKeyword::If => {
             let chosen = choice(alloc, reader, names, left, depth, line)?;
             Ok(chosen)
         }
-        Keyword::Repeat => {
+        StatementKeyword::Repeat => {
             let repeated = repetition(alloc, reader, names, left, depth, line)?;
             Ok(repeated)
         }
-        Keyword::Forever => {
+        StatementKeyword::Forever => {
             let endless = endless(alloc, reader, names, left, depth, line)?;
             Ok(endless)
         }
-        Keyword::Apply => {
+        StatementKeyword::Apply => {
             let applied = application(reader, names, line)?;
             Ok(applied)
         }
-        _ => {
-            let act = act(reader, first)?;
+        StatementKeyword::Act(keyword) => {
+            let act = act(reader, keyword)?;
             Ok(acting(line, act))
         }
     }

@@ -5,7 +5,7 @@ ghost use Rattle.std.specs.Prelude.{◌≡◌, ◌<◌, ◌↔◌, IsSome, IfSom
 use fib_codec::Mode;
 use mux_config::Edit;
 use plan_code::{ContactId, Delay, Frames, Times};
-use script_words::time::TimeOfDay;
+use script_tokens::time::TimeOfDay;
 use std::marker::Model;
 
 /// What a script declares for the whole of its run.

@@ -4,7 +4,7 @@ ghost use Rattle.std.specs.Prelude.{◌≡◌, ◌++◌, ◌<◌, OnOk, string_b
 ghost use Rattle.std.specs.Fmt.{decimal};
 ghost use Rattle.mux_config.specs.declared.edit.Edit.TheVariants.{AddSub, AddPacket, AddComponent, DropComponent};
 ghost use Rattle.script_front.specs.declared.tree.Act.TheVariants.{Until, WaitContact};
-ghost use Rattle.script_words.specs.Spelling.{hex_byte, hex_word, sid_word, profile_word, two_digits, time_word};
+ghost use Rattle.script_tokens.specs.Spelling.{hex_byte, hex_word, sid_word, profile_word, two_digits, time_word};
 ghost use Rattle.script_front.specs.Spelled.{carried_words, carrier_words, in_words, edit_words, act_words, mode_words};
 ghost use Rattle.script_front.specs.Printing.{spaced, each_behind, limits_line, header_lines, line_text, text_of_lines};
 
@@ -13,7 +13,7 @@ use fib_codec::Mode;
 use mux_config::{Carrier, Component, Edit, NewSub, Packet, ScTy, Sid, SubId};
 use mux_eep::{EepSet, Protection};
 use plan_code::ContactId;
-use script_words::time::TimeOfDay;
+use script_tokens::time::TimeOfDay;
 use std::alloc::AllocError;
 use std::fmt::Write;
 

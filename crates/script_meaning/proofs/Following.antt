@@ -11,8 +11,8 @@ use Rattle.plan_code.specs.Machine.{State, effect, effect_of, step, IsAllowed, S
 use Rattle.plan_flow.specs.Flows.{moved}
 use Rattle.plan_runs.specs.Frames.{is_running}
 use Rattle.script_front.specs.Block.{Block, nothing, basic, stop, when, either, repeat, forever, apply}
-use Rattle.script_scheme.specs.declared.flow.Spot.{Spot}
-use Rattle.script_scheme.specs.Scheme.{Place, past, at_label, meet, join, onward, head, falls_out, instr_of_act, spot_after, place_of_instr, alone, places}
+use Rattle.script_meaning.specs.declared.flow.Spot.{Spot}
+use Rattle.script_meaning.specs.Scheme.{Place, past, at_label, meet, join, onward, head, falls_out, instr_of_act, spot_after, place_of_instr, alone, places}
 use Rattle.script_meaning.specs.Meaning.{acts_as, Scene, Reading, reading, scene_of, followed, first_done, IsFineToDo, Performs}
 use Rattle.script_meaning.proofs.Scenes.{acts_as_compiled, act_scene, act_place, act_fine}
 use Rattle.script_meaning.proofs.Places.{Stand, stand_front, stand_back, after_falls, jump_length, meets_some, joins_first, joins_second}

@@ -10,9 +10,9 @@ use Rattle.plan_code.specs.Program.{Program, label_at}
 use Rattle.plan_flow.specs.Flows.{Flow}
 use Rattle.script_front.specs.Block.{Block, nothing, basic, stop, when, either, repeat, forever, apply}
 use Rattle.script_front.specs.Tree.{Tree}
-use Rattle.script_scheme.specs.declared.flow.Spot.{Spot}
-use Rattle.script_scheme.specs.Scheme.{Place, onward, head, falls_out, spot_after, alone, places, all_places, mark_of, marks_of}
-use Rattle.script_scheme.specs.Compiled.{IsCodeOf, AreLabelsOf, plan_of, body_of, opening_of, places_of, beginning}
+use Rattle.script_meaning.specs.declared.flow.Spot.{Spot}
+use Rattle.script_meaning.specs.Scheme.{Place, onward, head, falls_out, spot_after, alone, places, all_places, mark_of, marks_of}
+use Rattle.script_meaning.specs.Compiled.{IsCodeOf, AreLabelsOf, plan_of, body_of, opening_of, places_of, beginning}
 
 -- a stretch of places that begins at a label where this is known
 abbrev BeginsAt : Flow → List Place → Type 0

@@ -19,9 +19,9 @@ use Rattle.plan_runs.proofs.Reached.{starts_are_reached}
 use Rattle.plan_runs.proofs.TypedRuns.{typed_code_runs}
 use Rattle.script_front.specs.Block.{Block, nothing, basic, stop, when, either, repeat, forever, apply}
 use Rattle.script_front.specs.Tree.{Tree}
-use Rattle.script_scheme.specs.declared.flow.Spot.{Spot}
-use Rattle.script_scheme.specs.Scheme.{Place, place_of_instr, alone, onward, spot_after, places, all_places}
-use Rattle.script_scheme.specs.Compiled.{IsCodeOf, plan_of, body_of, opening_of, lines_of_places, beginning}
+use Rattle.script_meaning.specs.declared.flow.Spot.{Spot}
+use Rattle.script_meaning.specs.Scheme.{Place, place_of_instr, alone, onward, spot_after, places, all_places}
+use Rattle.script_meaning.specs.Compiled.{IsCodeOf, plan_of, body_of, opening_of, lines_of_places, beginning}
 use Rattle.script_meaning.specs.Meaning.{Scene, Reading, reading, scene_of, followed, first_done, Performs, opens, closes, PerformsFrame, PerformsEvent, PerformsAll, begins, ScriptsPlayAsTheyRead}
 use Rattle.script_meaning.proofs.Scenes.{ready_scene, ready_place, shown_scene}
 use Rattle.script_meaning.proofs.Places.{Stand, stand_front, stand_back, stand_all}

@@ -8,7 +8,7 @@ use Rattle.plan_code.specs.Machine.{State, effect, settle, IsAllowed}
 use Rattle.plan_runs.specs.Frames.{is_due, with_swap, with_due_swap, is_here, with_hold_ended, ready, after_burst, is_first_noticed, shown}
 use Rattle.script_front.specs.declared.tree.Act.{Act}
 use Rattle.script_front.specs.declared.tree.Act.TheVariants.{Edit, Wait, WaitContact, Until, CommitIn, CommitAt, Join, Settle}
-use Rattle.script_scheme.specs.Scheme.{instr_of_act}
+use Rattle.script_meaning.specs.Scheme.{instr_of_act}
 use Rattle.script_meaning.specs.Meaning.{acts_as, scene_of, state_of_scene, acts, opens, ScenesSuffice}
 
 -- a state with the same scene, and nothing else of this one

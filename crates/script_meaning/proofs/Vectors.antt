@@ -23,7 +23,7 @@ use Rattle.plan_runs.specs.Runs.{StartIsInRange, IsStart}
 use Rattle.script_front.specs.declared.tree.Act.TheVariants.{Edit, Wait, Join, Settle}
 use Rattle.script_front.specs.Block.{Block, nothing, basic, when, either, repeat, forever, apply}
 use Rattle.script_front.specs.Tree.{Tree}
-use Rattle.script_scheme.specs.Compiled.{IsCodeOf}
+use Rattle.script_meaning.specs.Compiled.{IsCodeOf}
 use Rattle.script_meaning.specs.Meaning.{Scene, Reading, reading, Performs, PerformsAll, begins, PlaysAsItReads}
 use Rattle.script_meaning.proofs.Playing.{performs_one, all_one, scripts_play}
 

@@ -1,1 +1,6 @@
+pub mod Scheme
+pub mod Judged
+pub mod Need
+pub mod Compiled
+pub mod Refused
 pub mod Meaning

@@ -23,7 +23,7 @@ use Rattle.script_front.specs.declared.tree.Act.TheVariants.{Edit, Wait, WaitCon
 use Rattle.script_front.specs.Block.{Block, nothing, basic, stop, when, either, repeat, forever, apply}
 use Rattle.script_front.specs.Times.{frame_at}
 use Rattle.script_front.specs.Tree.{Tree}
-use Rattle.script_scheme.specs.Compiled.{IsCodeOf, plan_of, body_of, opening_of}
+use Rattle.script_meaning.specs.Compiled.{IsCodeOf, plan_of, body_of, opening_of}
 
 -- ---- where a script has come to
 

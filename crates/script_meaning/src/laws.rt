@@ -1,6 +1,13 @@
-//! What holds of every script that has a code. Each law is a function that does nothing; its contract is the law.
+//! What holds of the codes of all scripts. Each law is a function that does nothing; its contract is the law.
 
+ghost use Rattle.script_meaning.specs.Compiled.{ScriptsHaveOneCode};
 ghost use Rattle.script_meaning.specs.Meaning.{ScenesSuffice, ScriptsPlayAsTheyRead};
+
+/// The law of codes: a script has at most one code in which each label costs what the code needs from there, the most
+/// instructions that can run in one frame.
+pub fn codes()
+    ensures { ScriptsHaveOneCode }
+{}
 
 /// The law of scenes: what a frame and a statement make of the configurations, the swap, the contacts, the counts and
 /// what is waited for depends on these alone, and on nothing else of a player's state; nor does what traps.

@@ -89,7 +89,7 @@ pub enum Keyword {
 }
 
 impl Keyword {
-    ghost use Rattle.script_tokens.specs.Words.{letters, IsNoKeyword, begins_item, begins_statement};
+    ghost use Rattle.script_tokens.specs.Words.{letters, IsNoKeyword};
 
     /// The word of these bytes; None where they are neither a word of the grammar nor a brace.
     #[tactic(auto, using(crate::proofs::Keys::no_keyword))]
@@ -113,43 +113,6 @@ impl Keyword {
             return Some(word);
         }
         flow_word(bytes)
-    }
-
-    /// Whether an item begins with it.
-    pub fn begins_item(self) -> bool
-        ensures { result ≡ begins_item self }
-    {
-        match self {
-            Keyword::Sub
-            | Keyword::Service
-            | Keyword::Audio
-            | Keyword::Data
-            | Keyword::Carry
-            | Keyword::Packet => true,
-            _ => false,
-        }
-    }
-
-    /// Whether a statement begins with it.
-    pub fn begins_statement(self) -> bool
-        ensures { result ≡ begins_statement self }
-    {
-        match self {
-            Keyword::Drop
-            | Keyword::Move
-            | Keyword::Rate
-            | Keyword::Wait
-            | Keyword::Until
-            | Keyword::Commit
-            | Keyword::Join
-            | Keyword::Settle
-            | Keyword::End
-            | Keyword::If
-            | Keyword::Repeat
-            | Keyword::Forever
-            | Keyword::Apply => true,
-            _ => self.begins_item(),
-        }
     }
 }
 

@@ -29,23 +29,27 @@ fn kind_of(byte: u8) -> Kind
 fn inside_after(inside: Inside, place: Place, kind: Kind) -> Inside
     ensures { result ≡ inside_after inside place kind }
 {
-    match (inside, kind) {
-        (Inside::Comment, Kind::LineEnd) => Inside::Nothing,
-        (Inside::Comment, _) => Inside::Comment,
-        (Inside::Atom(start), Kind::Letter) => Inside::Atom(start),
-        (Inside::Nothing, Kind::Letter) => Inside::Atom(place),
-        (_, Kind::Hash) => Inside::Comment,
-        (_, _) => Inside::Nothing,
+    match kind {
+        Kind::LineEnd => Inside::Nothing,
+        Kind::Hash => Inside::Comment,
+        Kind::Letter => match inside {
+            Inside::Nothing => Inside::Atom(place),
+            Inside::Comment => Inside::Comment,
+            Inside::Atom(start) => Inside::Atom(start),
+        },
+        Kind::Blank | Kind::Brace | Kind::Bad => match inside {
+            Inside::Comment => Inside::Comment,
+            Inside::Nothing | Inside::Atom(_) => Inside::Nothing,
+        },
     }
 }
 
 fn is_bad(inside: Inside, kind: Kind) -> bool
     ensures { result ≡ is_bad inside kind }
 {
-    match (inside, kind) {
-        (Inside::Comment, _) => false,
-        (_, Kind::Bad) => true,
-        (_, _) => false,
+    match inside {
+        Inside::Comment => false,
+        Inside::Nothing | Inside::Atom(_) => kind == Kind::Bad,
     }
 }
 
@@ -53,13 +57,10 @@ fn is_bad(inside: Inside, kind: Kind) -> bool
 fn is_quiet(inside: Inside, kind: Kind) -> bool
     ensures { result ≡ true → IsQuiet inside kind }
 {
-    match (inside, kind) {
-        (Inside::Atom(_), Kind::Letter) => true,
-        (Inside::Nothing, Kind::Blank) => true,
-        (Inside::Nothing, Kind::LineEnd) => true,
-        (Inside::Comment, Kind::LineEnd) => false,
-        (Inside::Comment, _) => true,
-        (_, _) => false,
+    match inside {
+        Inside::Nothing => kind == Kind::Blank || kind == Kind::LineEnd,
+        Inside::Comment => kind != Kind::LineEnd,
+        Inside::Atom(_) => kind == Kind::Letter,
     }
 }
 
@@ -74,7 +75,7 @@ fn place_after(place: Place, kind: Kind) -> Place
             line: place.position.line + 1,
             column: 1,
         },
-        _ => Position {
+        Kind::Blank | Kind::Hash | Kind::Brace | Kind::Letter | Kind::Bad => Position {
             line: place.position.line,
             column: place.position.column + 1,
         },

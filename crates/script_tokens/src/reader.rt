@@ -1,6 +1,7 @@
 //! The words of a text, one after another.
 
 use crate::fault::{Position, ScriptFault};
+use crate::first_keyword::{ItemKeyword, StatementKeyword};
 use crate::keyword::Keyword;
 use crate::token::Token;
 use std::marker::Model;
@@ -32,7 +33,8 @@ impl<'a> Model for Reader<'a> {
 impl<'a> Reader<'a> {
     ghost use Rattle.std.specs.Prelude.{◌≡◌, ◌≢◌, ℕ, ◌<◌, length, drop, List, [], ◌∷◌, MatchOption, IsSome, IfSome, None, Some, true, false, IfOk, OnOk, OnErr};
     ghost use Rattle.script_tokens.specs.Reading.{words_of, lines_of, line_of_left, line_of, AreWithin, BeginsWith, Passes};
-    ghost use Rattle.script_tokens.specs.Words.{letters};
+    ghost use Rattle.script_tokens.specs.Words.{letters, begins_item, begins_statement};
+    ghost use Rattle.script_tokens.specs.First.{item_keyword, statement_keyword};
     ghost use Rattle.script_tokens.specs.Texts.{AreLetters};
     ghost use Rattle.script_tokens.specs.declared.keyword.Keyword.{Keyword};
 
@@ -117,6 +119,33 @@ impl<'a> Reader<'a> {
         }
     }
 
+    /// The next word, where a statement begins with it.
+    pub fn statement_keyword(&self) -> Option<StatementKeyword>
+        ensures some { IsSome result → 0 < length self.now.words }
+        ensures begins { IfSome result (λ k. BeginsWith self.now.words (letters (statement_keyword
+            k))) }
+        ensures none { result ≡ None → (k : Keyword) (rest : List (List ℕ))
+            → begins_statement k ≡ true → self.now.words ≢ letters k ∷ rest }
+    {
+        match self.keyword() {
+            None => None,
+            Some(found) => found.statement(),
+        }
+    }
+
+    /// The next word, where an item begins with it.
+    pub fn item_keyword(&self) -> Option<ItemKeyword>
+        ensures some { IsSome result → 0 < length self.now.words }
+        ensures begins { IfSome result (λ k. BeginsWith self.now.words (letters (item_keyword k))) }
+        ensures none { result ≡ None → (k : Keyword) (rest : List (List ℕ))
+            → begins_item k ≡ true → self.now.words ≢ letters k ∷ rest }
+    {
+        match self.statement_keyword() {
+            None => None,
+            Some(found) => found.item(),
+        }
+    }
+
     /// Whether this word of the grammar is next.
     pub fn is_next(&self, keyword: Keyword) -> bool
         ensures some { result ≡ true → 0 < length self.now.words }
@@ -144,11 +173,9 @@ impl<'a> Reader<'a> {
     {
         match self.peek() {
             None => Err(self.expected()),
-            Some(word) => match Keyword::of(word) {
-                Some(Keyword::OpenBrace) => Err(self.expected()),
-                Some(Keyword::CloseBrace) => Err(self.expected()),
-                _ => Ok(word),
-            },
+            Some(b"{") => Err(self.expected()),
+            Some(b"}") => Err(self.expected()),
+            Some(atom) => Ok(atom),
         }
     }
 

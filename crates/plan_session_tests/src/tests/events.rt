@@ -2,7 +2,7 @@
 
 use plan_code::ContactId;
 use plan_session::{EventFault, Step, read_events};
-use script_words::Position;
+use script_tokens::Position;
 use std::process::Abort;
 use std::test::Fail;
 

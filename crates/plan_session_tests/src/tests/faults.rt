@@ -5,7 +5,7 @@ use plan_code::{CodeFault, Contacts};
 use plan_player::{Sink, StartFault, Writer};
 use plan_session::{EventFault, RunFault, run};
 use plan_verifier::Cause;
-use script_words::Position;
+use script_tokens::Position;
 use std::alloc::Global;
 use std::test::Fail;
 

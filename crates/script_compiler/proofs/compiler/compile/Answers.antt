@@ -4,11 +4,11 @@ use Rattle.plan_code.specs.declared.instr.Line.{Line}
 use Rattle.plan_code.specs.declared.plan.Plan.{Plan}
 use Rattle.plan_code.specs.Program.{Program, IsProgram}
 use Rattle.script_front.specs.declared.tree.Item.{Item}
-use Rattle.script_scheme.specs.declared.flow.Mark.{Mark}
-use Rattle.script_scheme.specs.Scheme.{all_places, marks_of}
-use Rattle.script_scheme.specs.Judged.{IsJudged}
-use Rattle.script_scheme.specs.Need.{IsWithinBudget}
-use Rattle.script_scheme.specs.Compiled.{plan_of, with_items, opening_of, body_of, beginning, places_of, lines_of_places, instrs_of, AreFine, Tabled, AreLabelsOf, IsCodeOf, CostsItsNeeds, IsAccepted}
+use Rattle.script_meaning.specs.declared.flow.Mark.{Mark}
+use Rattle.script_meaning.specs.Scheme.{all_places, marks_of}
+use Rattle.script_meaning.specs.Judged.{IsJudged}
+use Rattle.script_meaning.specs.Need.{IsWithinBudget}
+use Rattle.script_meaning.specs.Compiled.{plan_of, with_items, opening_of, body_of, beginning, places_of, lines_of_places, instrs_of, AreFine, Tabled, AreLabelsOf, IsCodeOf, CostsItsNeeds, IsAccepted}
 use Rattle.plan_flow.specs.declared.cause.Cause.TheVariants.{Cost}
 use Rattle.script_compiler.specs.Costs.{HasCostAt, IsCostRefused}
 use Rattle.script_compiler.proofs.Uncosted.{in_uncosted, item_uncosted}
@@ -19,7 +19,7 @@ use Rattle.script_compiler.specs.Room.{IsDeepAtMost}
 use Rattle.script_compiler.proofs.Deep.{accepted_deep}
 use Rattle.script_compiler.proofs.Formed.{fault_either, parts_formed}
 use Rattle.script_compiler.proofs.Making.{laid_few, laid_judged, Parts, parts_code, parts_cost, parts_accepted}
-use Rattle.script_scheme.specs.Refused.{IsItemRefused, IsOpeningRefused, IsRefusedIn, IsRefused}
+use Rattle.script_meaning.specs.Refused.{IsItemRefused, IsOpeningRefused, IsRefusedIn, IsRefused}
 use Rattle.script_compiler.specs.Refusals.{IfRefused}
 use Rattle.script_compiler.proofs.Reasons.{refused_map, refused_but_memory, opening_fine}
 use Rattle.script_compiler.proofs.compiler.compile.Goals as goal

@@ -1,6 +1,6 @@
 use Rattle.std.proofs.Common.{ap, ◌∙◌, take}
 use Rattle.script_front.specs.Block.{block_of}
-use Rattle.script_scheme.specs.Scheme.{falls_out}
+use Rattle.script_meaning.specs.Scheme.{falls_out}
 use Rattle.script_compiler.specs.Laying.{tables}
 use Rattle.script_compiler.proofs.Blocks.{known_more}
 use Rattle.script_compiler.proofs.compiler.known_of.Goals as goal

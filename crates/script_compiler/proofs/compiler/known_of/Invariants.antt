@@ -1,5 +1,5 @@
 use Rattle.std.proofs.Common.{◌≡◌, map, take}
-use Rattle.script_scheme.specs.Scheme.{falls_out}
+use Rattle.script_meaning.specs.Scheme.{falls_out}
 use Rattle.script_compiler.specs.Laying.{tables}
 use Rattle.script_compiler.proofs.compiler.known_of.Given as goal
 

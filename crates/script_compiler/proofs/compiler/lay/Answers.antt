@@ -1,14 +1,14 @@
 use Rattle.std.proofs.Common.{◌≡◌, sym, [], ap, ◌∙◌, subst}
 use Rattle.plan_code.specs.declared.instr.Instr.TheVariants.{End}
 use Rattle.script_front.specs.Block.{block_of, table_of}
-use Rattle.script_scheme.specs.Scheme.{onward, alone}
-use Rattle.script_scheme.specs.Compiled.{body_of, beginning}
+use Rattle.script_meaning.specs.Scheme.{onward, alone}
+use Rattle.script_meaning.specs.Compiled.{body_of, beginning}
 use Rattle.script_compiler.specs.Laying.{Lays, way, tables}
 use Rattle.script_compiler.specs.Space.{HasSpace}
 use Rattle.script_compiler.proofs.Whole.{laid_whole}
 use Rattle.script_compiler.proofs.Fitting.{table_none, can_whole, space_whole_end}
-use Rattle.script_scheme.specs.declared.flow.Spot.{Spot}
-use Rattle.script_scheme.specs.Refused.{IsRefusedIn}
+use Rattle.script_meaning.specs.declared.flow.Spot.{Spot}
+use Rattle.script_meaning.specs.Refused.{IsRefusedIn}
 use Rattle.script_compiler.proofs.Reasons.{refused_map, no_refusal}
 use Rattle.script_compiler.proofs.compiler.lay.Goals as goal
 

@@ -1,4 +1,4 @@
-use Rattle.script_scheme.specs.Compiled.{instrs_of}
+use Rattle.script_meaning.specs.Compiled.{instrs_of}
 use Rattle.script_compiler.specs.Reaching.{Searched}
 use Rattle.script_compiler.proofs.cost.comes_back.Given as goal
 

@@ -1,5 +1,5 @@
 use Rattle.std.proofs.Common.{◌≡◌, ◌+◌, ◌∙◌, ◌∷◌, sym, ap, subst, refl, drop, get_or, drop-cons, add-one}
-use Rattle.script_scheme.specs.Compiled.{AreFine}
+use Rattle.script_meaning.specs.Compiled.{AreFine}
 use Rattle.script_compiler.proofs.opening.built.Goals as goal
 
 pub returns-in-Err-clause-fine : goal.returns-in-Err-clause-fine

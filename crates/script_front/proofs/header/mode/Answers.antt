@@ -1,6 +1,6 @@
 use Rattle.script_tokens.specs.declared.keyword.Keyword.TheVariants as the
 use Rattle.script_tokens.specs.Words.{letters}
-use Rattle.script_words.proofs.Atoms.{told}
+use Rattle.script_tokens.proofs.Atoms.{told}
 use Rattle.script_front.proofs.Refusing.{no_mode, later_only, first_only}
 use Rattle.script_front.proofs.header.mode.Goals as goal
 

@@ -1,11 +1,13 @@
 use Rattle.std.proofs.Common.{◌∷◌, sym, ap, ◌∙◌}
 use Rattle.script_tokens.specs.Words.{letters}
-use Rattle.script_words.proofs.Atoms.{told}
-use Rattle.script_front.proofs.Refusing.{no_until, no_other_act}
+use Rattle.script_tokens.specs.First.{act_keyword}
+use Rattle.script_tokens.proofs.Atoms.{told}
+use Rattle.script_front.proofs.Refusing.{no_until, no_other_act_at}
 use Rattle.script_front.proofs.items.act.Goals as goal
 
 pub returns-in_err-time-in-Until-clause-none : goal.returns-in_err-time-in-Until-clause-none
-returns-in_err-time-in-Until-clause-none c = told c.from_residual.result (λ a rest h e. no_until c.args.reader.now.words (λ t rest small e. c.in_err-time-in-Until.ensures.none t rest small e) a rest h (ap (λ k. letters k ∷ c.args.reader.now.words) (sym c.in-Until.is) ∙ e))
+returns-in_err-time-in-Until-clause-none c = told c.from_residual.result (λ a rest h e. no_until c.args.reader.now.words (λ t rest small e. c.in_err-time-in-Until.ensures.none t rest small e) a rest h (ap (λ k. letters (act_keyword k) ∷ c.args.reader.now.words) (sym c.in-Until.is) ∙ e))
 
-pub returns-in_err-edit-in_default-clause-none : goal.returns-in_err-edit-in_default-clause-none
-returns-in_err-edit-in_default-clause-none c = told c.from_residual-in_err-edit-in_default.result (no_other_act c.args.first c.args.reader.now.words c.in_default.not-Wait c.in_default.not-Until c.in_default.not-Commit c.in_default.not-Join c.in_default.not-Settle c.in_err-edit-in_default.ensures.none)
+pub returns-in_err-edit-in-Edit-clause-none : goal.returns-in_err-edit-in-Edit-clause-none
+returns-in_err-edit-in-Edit-clause-none c =
+    told c.from_residual-in_err-edit-in-Edit.result (no_other_act_at c.args.first c.in-Edit.keyword c.args.reader.now c.in-Edit.is c.in_err-edit-in-Edit.ensures.none)

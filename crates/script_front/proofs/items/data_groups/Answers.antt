@@ -1,10 +1,6 @@
-use Rattle.script_tokens.proofs.Keys.{found_is}
+use Rattle.script_tokens.proofs.Atoms.{told}
 use Rattle.script_front.proofs.Refusing.{no_groups}
 use Rattle.script_front.proofs.items.data_groups.Goals as goal
 
-pub returns-in_default-found : goal.returns-in_default-found
-returns-in_default-found c = record {
-  spells = tt;
-  none = λ a rest u e. no_groups c.args.reader.now.words c.in-Some.found (found_is c.keyword.result c.args.reader.now.words c.in-Some.found c.keyword.ensures.is c.in-Some.is) c.in_default-found.not-Groups c.in_default-found.not-Raw a rest e;
-  shorter = tt;
-}
+pub returns-in_err-expect-clause-none : goal.returns-in_err-expect-clause-none
+returns-in_err-expect-clause-none c = told c.from_residual.result (λ a rest u e. no_groups c.args.reader.now.words (λ rest e. c.is_next.ensures.none c.if-is_next.false rest e) (λ rest e. c.in_err-expect.ensures.none rest e) a rest e)

@@ -1,5 +1,5 @@
 use Rattle.std.proofs.Common.{sym, ◌∙◌}
-use Rattle.script_words.proofs.Atoms.{told}
+use Rattle.script_tokens.proofs.Atoms.{told}
 use Rattle.script_tokens.proofs.Keys.{rest_is}
 use Rattle.script_front.proofs.items.rated.Goals as goal
 

@@ -2,7 +2,7 @@ use Rattle.std.proofs.Common.{◌∷◌, sym, ap, ◌∙◌}
 use Rattle.script_front.specs.Spelled.{level_word}
 use Rattle.script_tokens.specs.declared.keyword.Keyword.TheVariants as the
 use Rattle.script_tokens.specs.Words.{letters}
-use Rattle.script_words.proofs.Atoms.{told}
+use Rattle.script_tokens.proofs.Atoms.{told}
 use Rattle.script_tokens.proofs.Keys.{rest_is}
 use Rattle.script_front.proofs.Refusing.{no_wait, no_wait_contact}
 use Rattle.script_front.proofs.items.waiting.Goals as goal

@@ -1,4 +1,4 @@
-use Rattle.script_words.proofs.Atoms.{told}
+use Rattle.script_tokens.proofs.Atoms.{told}
 use Rattle.script_front.proofs.Undefined.{known_name}
 use Rattle.script_front.proofs.parser.new_name.Goals as goal
 

@@ -4,12 +4,12 @@ use Rattle.std.proofs.lemmas.Result.{err_from_is_err_and}
 use Rattle.std.specs.Fmt.{decimal}
 use Rattle.script_tokens.specs.declared.keyword.Keyword.TheVariants as the
 use Rattle.script_tokens.specs.Words.{letters}
+use Rattle.script_tokens.specs.First.{act_keyword, statement_keyword}
 use Rattle.script_front.specs.Block.{before, block_of}
 use Rattle.script_tokens.specs.Reading.{BeginsWith}
 use Rattle.script_front.specs.Spelled.{act_words}
-use Rattle.script_tokens.proofs.Keys.{found_is}
 use Rattle.script_front.proofs.Parsing.{more_read, body_read, when_read, either_read, repeat_read, forever_read, stop_read, act_read, apply_read}
-use Rattle.script_front.proofs.Unread.{refused, passes_two, no_word, no_start, no_more, no_act_block, no_apply_block, no_times, no_repeated, no_looped, no_test, no_contact, no_first_block, no_second_block, passes_behind}
+use Rattle.script_front.proofs.Unread.{refused, passes_two, no_start, no_more, no_act_block, no_apply_block, no_times, no_repeated, no_looped, no_test, no_contact, no_first_block, no_second_block, passes_behind}
 use Rattle.script_front.proofs.statements.+statements.Goals as goal
 
 pub statements-statements-preserved : goal.statements-statements-preserved
@@ -80,38 +80,33 @@ repetition-returns-in_err-body-clause-none t c =
     rw (r.1, r.2) (λ ne. no_repeated c.args.names.now c.args.depth c.args.left.now c.in_ok-times.times c.args.reader.now c.times.new.reader c.in_ok-times.ensures.spells (c.in_err-body.ensures.none ne))
 
 pub statement-returns-in_default-clause-none : goal.statement-returns-in_default-clause-none
-statement-returns-in_default-clause-none t c = λ ne. no_word c.args.names.now c.args.depth c.args.left.now c.args.reader.now.words c.requires.goes_on (c.keyword.ensures.none c.in_default.is)
-
-pub statement-returns-then-not-begins_statement-clause-none : goal.statement-returns-then-not-begins_statement-clause-none
-statement-returns-then-not-begins_statement-clause-none t c =
-    λ ne. no_start c.args.names.now c.args.depth c.args.left.now c.args.reader.now.words c.in-Some.first c.requires.goes_on (found_is c.keyword.result c.args.reader.now.words c.in-Some.first c.keyword.ensures.is c.in-Some.is) (sym c.begins_statement.ensures ∙ c.if-not-begins_statement.true)
+statement-returns-in_default-clause-none t c = λ ne. no_start c.args.names.now c.args.depth c.args.left.now c.args.reader.now.words c.requires.goes_on (c.statement_keyword.ensures.none c.in_default.is)
 
 pub statement-returns-then-left-eq0-clause-none : goal.statement-returns-then-left-eq0-clause-none
 statement-returns-then-left-eq0-clause-none t c = λ ne. no_more c.args.names.now c.args.depth c.args.left.now c.args.reader.now.words c.requires.goes_on c.if-left-eq0.true
 
 pub statement-returns-in_err-applied-in-Apply-clause-none : goal.statement-returns-in_err-applied-in-Apply-clause-none
 statement-returns-in_err-applied-in-Apply-clause-none t c =
-    let p = c.advance.ensures.passes (letters the.Apply) (subst (λ k. BeginsWith c.args.reader.now.words (letters k)) c.in-Apply.is c.in-Some.ensures.begins) in
+    let p = c.advance.ensures.passes (letters the.Apply) (subst (λ k. BeginsWith c.args.reader.now.words (letters (statement_keyword k))) c.in-Apply.is c.in-Some.ensures.begins) in
     refused c.from_residual-in_err-applied-in-Apply.result (no_apply_block c.args.names.now c.args.depth c.args.left.now c.args.reader.now.words c.advance.new.self.words p.0 c.in_err-applied-in-Apply.ensures.none)
 
-pub statement-returns-in_err-act-in_default-first-clause-none : goal.statement-returns-in_err-act-in_default-first-clause-none
-statement-returns-in_err-act-in_default-first-clause-none t c =
-    let p = c.advance.ensures.passes (letters c.in-Some.first) c.in-Some.ensures.begins in
-    refused c.from_residual-in_err-act-in_default-first.result (no_act_block c.args.names.now c.args.depth c.args.left.now c.in-Some.first c.args.reader.now.words c.advance.new.self.words c.requires.goes_on p.0 c.in_err-act-in_default-first.ensures.none
-    c.in_default-first.not-End c.in_default-first.not-If c.in_default-first.not-Repeat c.in_default-first.not-Forever c.in_default-first.not-Apply)
+pub statement-returns-in_err-act-in-Act-clause-none : goal.statement-returns-in_err-act-in-Act-clause-none
+statement-returns-in_err-act-in-Act-clause-none t c =
+    let p = c.advance.ensures.passes (letters (act_keyword c.in-Act.keyword)) (subst (λ k. BeginsWith c.args.reader.now.words (letters (statement_keyword k))) c.in-Act.is c.in-Some.ensures.begins) in
+    refused c.from_residual-in_err-act-in-Act.result (no_act_block c.args.names.now c.args.depth c.args.left.now c.in-Act.keyword c.args.reader.now.words c.advance.new.self.words c.requires.goes_on p.0 c.in_err-act-in-Act.ensures.none)
 
 pub statement-returns-in-End-clause-read : goal.statement-returns-in-End-clause-read
 statement-returns-in-End-clause-read t c =
-    let p = c.advance.ensures.passes (letters the.End) (subst (λ k. BeginsWith c.args.reader.now.words (letters k)) c.in-End.is c.in-Some.ensures.begins) in
+    let p = c.advance.ensures.passes (letters the.End) (subst (λ k. BeginsWith c.args.reader.now.words (letters (statement_keyword k))) c.in-End.is c.in-Some.ensures.begins) in
     stop_read c.args.names.now c.args.depth c.args.left.now c.line-line.result c.args.reader.now c.advance.new.self (before [] c.ending.result) c.ending.ensures (let some = c.if-left-eq0.false in omega (arith, some)) p (c.line-line.ensures (c.in-Some.ensures.some refl))
 
 pub statement-returns-in_ok-applied-in-Apply-clause-read : goal.statement-returns-in_ok-applied-in-Apply-clause-read
 statement-returns-in_ok-applied-in-Apply-clause-read t c =
-    let p = c.advance.ensures.passes (letters the.Apply) (subst (λ k. BeginsWith c.args.reader.now.words (letters k)) c.in-Apply.is c.in-Some.ensures.begins) in
+    let p = c.advance.ensures.passes (letters the.Apply) (subst (λ k. BeginsWith c.args.reader.now.words (letters (statement_keyword k))) c.in-Apply.is c.in-Some.ensures.begins) in
     apply_read c.args.names.now c.args.depth c.args.left.now c.line-line.result c.args.reader.now c.advance.new.self c.application.new.reader (before [] c.in_ok-applied-in-Apply.applied) (let some = c.if-left-eq0.false in omega (arith, some)) p c.in_ok-applied-in-Apply.ensures.read (c.line-line.ensures (c.in-Some.ensures.some refl))
 
-pub statement-returns-in_ok-act-in_default-first-clause-read : goal.statement-returns-in_ok-act-in_default-first-clause-read
-statement-returns-in_ok-act-in_default-first-clause-read t c =
-    let p = c.advance.ensures.passes (letters c.in-Some.first) c.in-Some.ensures.begins in
-    let q = passes_behind c.in-Some.first (act_words c.in_ok-act-in_default-first.act) c.args.reader.now c.advance.new.self c.act.new.reader p c.in_ok-act-in_default-first.ensures.spells in
-    act_read c.args.names.now c.args.depth c.args.left.now c.line-line.result c.in_ok-act-in_default-first.act c.args.reader.now c.act.new.reader (before [] c.acting.result) c.acting.ensures (let some = c.if-left-eq0.false in omega (arith, some)) c.in_ok-act-in_default-first.ensures.range q (c.line-line.ensures (c.in-Some.ensures.some refl))
+pub statement-returns-in_ok-act-in-Act-clause-read : goal.statement-returns-in_ok-act-in-Act-clause-read
+statement-returns-in_ok-act-in-Act-clause-read t c =
+    let p = c.advance.ensures.passes (letters (act_keyword c.in-Act.keyword)) (subst (λ k. BeginsWith c.args.reader.now.words (letters (statement_keyword k))) c.in-Act.is c.in-Some.ensures.begins) in
+    let q = passes_behind (act_keyword c.in-Act.keyword) (act_words c.in_ok-act-in-Act.act) c.args.reader.now c.advance.new.self c.act.new.reader p c.in_ok-act-in-Act.ensures.spells in
+    act_read c.args.names.now c.args.depth c.args.left.now c.line-line.result c.in_ok-act-in-Act.act c.args.reader.now c.act.new.reader (before [] c.acting.result) c.acting.ensures (let some = c.if-left-eq0.false in omega (arith, some)) c.in_ok-act-in-Act.ensures.range q (c.line-line.ensures (c.in-Some.ensures.some refl))

@@ -1,7 +1,7 @@
 use Rattle.std.proofs.Common.{true, subst, ◌≡◌, ◌+◌, ◌<◌, ◌≤◌, ap, sym, ◌∙◌, refl, take, length, arith}
 use Rattle.std.proofs.lemmas.List.{length-take}
 use Rattle.script_front.specs.Block.{nothing, basic, when, either, repeat, forever, apply, named_at, before, block_of}
-use Rattle.script_scheme.specs.Scheme.{alone, falls_out}
+use Rattle.script_meaning.specs.Scheme.{alone, falls_out}
 use Rattle.script_compiler.specs.Laying.{Lays, tables, lays_nothing}
 use Rattle.script_compiler.specs.Space.{CanLay}
 use Rattle.plan_code.specs.declared.instr.Instr.TheVariants.{Set}

@@ -2,8 +2,8 @@ use Rattle.std.proofs.Common.{Bool, ◌++◌, ◌∷◌, [], ap, ◌∙◌, subs
 use Rattle.plan_flow.specs.Rules.{IsFine}
 use Rattle.plan_flow.specs.Flows.{Flow, known_at, moved}
 use Rattle.plan_code.specs.declared.instr.Instr.{Instr}
-use Rattle.script_scheme.specs.declared.flow.Spot.{Spot}
-use Rattle.script_scheme.specs.Scheme.{instr_of_act}
+use Rattle.script_meaning.specs.declared.flow.Spot.{Spot}
+use Rattle.script_meaning.specs.Scheme.{instr_of_act}
 use Rattle.script_compiler.specs.Laying.{line_of_instr}
 use Rattle.script_compiler.proofs.Spaces.{covered_here}
 use Rattle.script_compiler.proofs.Putting.{put_lays}

@@ -1,6 +1,6 @@
 use Rattle.std.proofs.Common.{[], refl}
 use Rattle.plan_code.specs.declared.instr.Instr.TheVariants.{End}
-use Rattle.script_scheme.specs.Scheme.{place_of_instr}
+use Rattle.script_meaning.specs.Scheme.{place_of_instr}
 use Rattle.script_compiler.proofs.Spaces.{err_each, space_end}
 use Rattle.script_compiler.proofs.work.Work.close.Goals as goal
 

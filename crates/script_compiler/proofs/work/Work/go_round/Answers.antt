@@ -1,5 +1,5 @@
 use Rattle.std.proofs.Common.{◌∷◌, length, sym, ap}
-use Rattle.script_scheme.specs.Scheme.{place_of_instr}
+use Rattle.script_meaning.specs.Scheme.{place_of_instr}
 use Rattle.script_compiler.proofs.Spaces.{err_each, space_back, space_as}
 use Rattle.script_compiler.proofs.work.Work.go_round.Goals as goal
 

@@ -1,5 +1,5 @@
 use Rattle.std.proofs.Common.{List, ap, ◌∙◌, subst}
-use Rattle.script_scheme.specs.declared.flow.Spot.{Spot}
+use Rattle.script_meaning.specs.declared.flow.Spot.{Spot}
 use Rattle.script_compiler.specs.Pool.{AreNumbered}
 use Rattle.script_compiler.specs.Working.{Spots, Work}
 use Rattle.script_compiler.proofs.Pooled.{both_numbered_in, all_in_pool, all_same}

@@ -1,5 +1,5 @@
 use Rattle.std.proofs.Common.{refl}
-use Rattle.script_scheme.specs.Scheme.{place_of_instr}
+use Rattle.script_meaning.specs.Scheme.{place_of_instr}
 use Rattle.script_compiler.proofs.Spaces.{err_each, space_back}
 use Rattle.script_compiler.proofs.work.Work.leave.Goals as goal
 

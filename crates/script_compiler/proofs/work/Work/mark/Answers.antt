@@ -1,5 +1,5 @@
 use Rattle.std.proofs.Common.{◌∷◌, [], length, sym, ap, subst}
-use Rattle.script_scheme.specs.declared.flow.Spot.{Spot}
+use Rattle.script_meaning.specs.declared.flow.Spot.{Spot}
 use Rattle.script_compiler.specs.Marked.{configuration_at}
 use Rattle.script_compiler.specs.Room.{HasRoomFor}
 use Rattle.script_compiler.specs.Space.{IsCovered}

@@ -1,6 +1,6 @@
 use Rattle.std.proofs.Common.{◌++◌, length, ap, ◌∙◌}
-use Rattle.script_scheme.specs.declared.flow.Spot.{Spot}
-use Rattle.script_scheme.specs.Scheme.{alone, marks_of}
+use Rattle.script_meaning.specs.declared.flow.Spot.{Spot}
+use Rattle.script_meaning.specs.Scheme.{alone, marks_of}
 use Rattle.script_compiler.specs.Marked.{MarkedTable}
 use Rattle.script_compiler.specs.Working.{Lines}
 use Rattle.script_compiler.proofs.Putting.{on_ok_map}

@@ -1,9 +1,9 @@
 use Rattle.std.proofs.Common.{◌≡◌, ◌≤◌, ◌++◌, ◌∷◌, [], List, Some, true, length, sym, ap, ◌∙◌, subst, arith}
 use Rattle.std.proofs.lemmas.Option.{slice_get_within}
 use Rattle.mux_config.specs.Configuration.{Configuration}
-use Rattle.script_scheme.specs.declared.flow.Mark.{Mark}
-use Rattle.script_scheme.specs.Scheme.{alone, marks_of}
-use Rattle.script_scheme.specs.Compiled.{Added}
+use Rattle.script_meaning.specs.declared.flow.Mark.{Mark}
+use Rattle.script_meaning.specs.Scheme.{alone, marks_of}
+use Rattle.script_meaning.specs.Compiled.{Added}
 use Rattle.script_compiler.specs.Marked.{configuration_at, mark_in}
 use Rattle.script_compiler.specs.Pool.{spot_in}
 use Rattle.script_compiler.specs.Room.{HasRoomFor}

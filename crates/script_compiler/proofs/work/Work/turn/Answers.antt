@@ -4,9 +4,9 @@ use Rattle.mux_config.specs.Configuration.{Configuration}
 use Rattle.std.specs.Prelude.{slice_set}
 use Rattle.plan_code.specs.declared.instr.Instr.TheVariants.{Jump, Test}
 use Rattle.plan_code.specs.declared.instr.Line.{Line}
-use Rattle.script_scheme.specs.declared.flow.Spot.{Spot}
-use Rattle.script_scheme.specs.Scheme.{Place, alone, at_label, marks_of, onward}
-use Rattle.script_scheme.specs.Compiled.{lines_of_places}
+use Rattle.script_meaning.specs.declared.flow.Spot.{Spot}
+use Rattle.script_meaning.specs.Scheme.{Place, alone, at_label, marks_of, onward}
+use Rattle.script_meaning.specs.Compiled.{lines_of_places}
 use Rattle.script_compiler.specs.Laying.{jumping, line_of_instr, spots_of, way}
 use Rattle.script_compiler.specs.Marked.{MarkedTable}
 use Rattle.script_compiler.specs.Working.{Lines, Spots}

@@ -1,0 +1,137 @@
+-- What a script is compiled to, and which scripts are.
+use Rattle.std.specs.Prelude.{◌≡◌, ℕ, zero, suc, ◌+◌, ◌≤◌, ◌⊎◌, List, [], ◌∷◌, ◌++◌, length, map, max, slice_get, Contains, Some, None}
+use Rattle.mux_config.specs.Configuration.{Configuration, nothing as no_configuration}
+use Rattle.mux_config.specs.Edits.{edit_fault, changed}
+use Rattle.mux_config.specs.Sound.{IsSound}
+use Rattle.plan_code.specs.declared.limits.TheConstants.{MOST_CONFIGURATIONS, MOST_LABELS, MOST_INSTRUCTIONS, COUNTERS}
+use Rattle.plan_code.specs.declared.plan.Plan.{Plan}
+use Rattle.plan_code.specs.declared.flags.Counters.{Counters}
+use Rattle.plan_code.specs.declared.label.Label.{Label}
+use Rattle.plan_code.specs.declared.label.Swap.TheVariants.{Idle}
+use Rattle.plan_code.specs.declared.instr.Instr.{Instr}
+use Rattle.plan_code.specs.declared.instr.Line.{Line}
+use Rattle.plan_code.specs.Flags.{with_counter}
+use Rattle.plan_code.specs.Program.{Program}
+use Rattle.plan_flow.specs.Rules.{pages_alone}
+use Rattle.script_front.specs.declared.tree.Item.{Item}
+use Rattle.script_front.specs.Block.{Block, nothing, basic, stop, when, either, repeat, forever, apply, table_of, block_of}
+use Rattle.script_front.specs.Tree.{Tree}
+use Rattle.script_meaning.specs.declared.flow.Mark.{Mark}
+use Rattle.script_meaning.specs.declared.flow.Spot.{Spot}
+use Rattle.script_meaning.specs.Scheme.{Place, at_label, all_places, marks_of}
+use Rattle.script_meaning.specs.Judged.{IsJudged}
+use Rattle.script_meaning.specs.Need.{IsWithinBudget, IsNeed}
+
+-- ---- the parts of a script
+
+abbrev pub plan_of : Tree → Plan
+plan_of s =
+    record {
+      eid = s.header.eid;
+      mode = s.header.mode;
+      period = s.header.period;
+      notice = s.header.notice;
+      budget = s.header.budget;
+    }
+
+-- items, one after another, as edits of a configuration
+abbrev pub with_items : List Item → Configuration → Configuration
+with_items [] c = c
+with_items (item ∷ items) c = with_items items (changed item.edit c)
+
+-- none of them has a fault
+abbrev pub AreFine : List Item → Configuration → Type 0
+AreFine [] c = Unit {0}
+AreFine (item ∷ items) c = (edit_fault item.edit c ≡ None) × AreFine items (changed item.edit c)
+
+abbrev pub opening_of : Tree → Configuration
+opening_of s = with_items s.items no_configuration
+
+-- a script begins with its opening, nothing pending, at a label
+abbrev pub beginning : Configuration → Spot
+beginning c = at_label (record { current = c; next = c; pending = Idle })
+
+abbrev pub body_of : Tree → Block
+body_of s = block_of (table_of [] s.blocks) s.statements
+
+abbrev pub places_of : Tree → List Place
+places_of s = all_places (plan_of s) s.last_line (body_of s) (beginning (opening_of s))
+
+abbrev pub lines_of_places : List Place → List Line
+lines_of_places ps = map (λ p. record { number = p.line; instr = p.instr }) ps
+
+abbrev pub instrs_of : List Line → List Instr
+instrs_of lines = map (λ l. l.instr) lines
+
+-- ---- labels and their configurations
+
+abbrev pub StandsIn : Configuration → List Configuration → Type 0
+StandsIn c table = (i : ℕ) × (slice_get table i ≡ Some c)
+
+-- a table with one configuration more, where it has not that one yet
+abbrev pub Added : Configuration → List Configuration → List Configuration → Type 0
+Added c table new = (StandsIn c table × (new ≡ table)) ⊎ ((StandsIn c table → ⊥) × (new ≡ table ++ c ∷ []))
+
+-- with those of labels, the current one of each before the next one
+abbrev pub Tabled : List Configuration → List Mark → List Configuration → Type 0
+Tabled table [] new = new ≡ table
+Tabled table (m ∷ ms) new =
+    (one both : List Configuration) × Added m.flow.current table one × Added m.flow.next one both × Tabled both ms new
+
+-- as many of the first counters as are asked for
+abbrev pub first_counters : ℕ → Counters
+first_counters zero = record { 0 = 0 }
+first_counters (suc r) = with_counter r (first_counters r)
+
+-- a label says what is known there
+pub record IsLabelOf (table : List Configuration) (m : Mark) (l : Label) : Type 0 where
+  pub place : l.pc ≡ m.pc
+  pub current : slice_get table l.cur ≡ Some m.flow.current
+  pub following : slice_get table l.next ≡ Some m.flow.next
+  pub pending : l.pending ≡ m.flow.pending
+  pub counters : l.counters ≡ first_counters m.repeats
+
+abbrev pub AreLabelsOf : List Configuration → List Mark → List Label → Type 0
+AreLabelsOf table [] ls = ls ≡ []
+AreLabelsOf table (m ∷ ms) [] = ⊥
+AreLabelsOf table (m ∷ ms) (l ∷ ls) = IsLabelOf table m l × AreLabelsOf table ms ls
+
+-- the code of a script, but for what its labels cost
+pub record IsCodeOf (s : Tree) (code : Program) : Type 0 where
+  pub plan : code.plan ≡ plan_of s
+  pub lines : code.lines ≡ lines_of_places (places_of s)
+  pub table : Tabled [] (marks_of 0 (places_of s)) code.configurations
+  pub labels : AreLabelsOf code.configurations (marks_of 0 (places_of s)) code.labels
+
+-- each label costs what the code needs from there
+abbrev pub CostsItsNeeds : Program → Type 0
+CostsItsNeeds code = (l : Label) → Contains code.labels l → IsNeed (instrs_of code.lines) l.pc l.cost
+
+-- the law of codes: a script has one code at most whose labels cost their needs
+abbrev pub ScriptsHaveOneCode : Type 0
+ScriptsHaveOneCode = (s : Tree) (a b : Program) → IsCodeOf s a → IsCodeOf s b → CostsItsNeeds a → CostsItsNeeds b → a ≡ b
+
+-- ---- scripts that can be compiled
+
+-- how many repeats stand one inside another
+abbrev pub nested : Block → ℕ
+nested nothing = 0
+nested (basic line act rest) = nested rest
+nested (stop line rest) = nested rest
+nested (when line contact first rest) = max (nested first) (nested rest)
+nested (either line contact first second rest) = max (nested first) (max (nested second) (nested rest))
+nested (repeat line times body rest) = max (1 + nested body) (nested rest)
+nested (forever line body rest) = max (nested body) (nested rest)
+nested (apply line number named rest) = max (nested named) (nested rest)
+
+pub record IsAccepted (s : Tree) : Type 0 where
+  pub made : AreFine s.items no_configuration
+  pub sound : IsSound (opening_of s)
+  pub within_period : pages_alone (plan_of s) (opening_of s) ≤ s.header.period
+  pub judged : IsJudged (plan_of s) (body_of s) (beginning (opening_of s))
+  pub instructions : length (places_of s) ≤ MOST_INSTRUCTIONS
+  pub labels : length (marks_of 0 (places_of s)) ≤ MOST_LABELS
+  pub configurations :
+      (table : List Configuration) → Tabled [] (marks_of 0 (places_of s)) table → length table ≤ MOST_CONFIGURATIONS
+  pub repeats : nested (body_of s) ≤ COUNTERS
+  pub within : IsWithinBudget s.header.budget (instrs_of (lines_of_places (places_of s)))

@@ -1,0 +1,141 @@
+-- The code of a block of statements: its instructions, with what is known at each and where labels stand.
+use Rattle.std.specs.Prelude.{ℕ, ◌+◌, Bool, true, false, if◌then◌else◌, ◌&&◌, ◌||◌, List, [], ◌∷◌, ◌++◌, length, Option, Some, None}
+use Rattle.plan_code.specs.declared.plan.Plan.{Plan}
+use Rattle.plan_code.specs.declared.instr.Instr.{Instr}
+use Rattle.plan_code.specs.declared.instr.Instr.TheVariants.{Wait, Until, WaitContact, CommitIn, CommitAt, Join, Settle, End, Edit, Test, Jump, Set, Loop}
+use Rattle.plan_flow.specs.Flows.{Flow, moved, merged}
+use Rattle.script_front.specs.declared.tree.Act.{Act}
+use Rattle.script_front.specs.declared.tree.Act.TheVariants.{Edit as Edits, Wait as Waits, WaitContact as WaitsContact, Until as WaitsUntil, CommitIn as CommitsIn, CommitAt as CommitsAt, Join as Joins, Settle as Settles}
+use Rattle.script_front.specs.Block.{Block, nothing, basic, stop, when, either, repeat, forever, apply}
+use Rattle.script_front.specs.Times.{frame_at}
+use Rattle.script_meaning.specs.declared.flow.Mark.{Mark}
+use Rattle.script_meaning.specs.declared.flow.Spot.{Spot}
+
+-- ---- what is known
+
+abbrev pub at_label : Flow → Spot
+at_label t = record { flow = t; labelled = true }
+
+-- where no label stands
+abbrev pub past : Flow → Spot
+past t = record { flow = t; labelled = false }
+
+-- ---- ways that meet at a label
+
+-- a way that doesn't come there is None
+abbrev pub meet : Option Spot → Option Spot → Option Spot
+meet None None = None
+meet None (Some t) = Some (at_label t.flow)
+meet (Some s) None = Some (at_label s.flow)
+meet (Some s) (Some t) = Some (at_label (merged s.flow t.flow))
+
+-- after two branches: where the first doesn't fall out, the second continues and no label stands there
+abbrev pub join : Option Spot → Option Spot → Option Spot
+join None second = second
+join (Some s) second = meet second (Some s)
+
+abbrev pub onward : {A : Type 0} → Option Spot → A → (Spot → A) → A
+onward None none some = none
+onward (Some s) none some = some s
+
+-- ---- instructions
+
+abbrev pub instr_of_act : Act → Instr
+instr_of_act (Edits edit) = Edit edit
+instr_of_act (Waits frames) = Wait frames
+instr_of_act (WaitsContact contact closed) = WaitContact contact closed
+instr_of_act (WaitsUntil second) = Until (frame_at second)
+instr_of_act (CommitsIn delay) = CommitIn delay
+instr_of_act (CommitsAt count) = CommitAt count
+instr_of_act Joins = Join
+instr_of_act Settles = Settle
+
+-- what follows can be reached
+abbrev pub falls_out : Block → Bool
+falls_out nothing = true
+falls_out (basic line act rest) = falls_out rest
+falls_out (stop line rest) = false
+falls_out (when line contact first rest) = falls_out rest
+falls_out (either line contact first second rest) = (falls_out first || falls_out second) && falls_out rest
+falls_out (repeat line times body rest) = falls_out body && falls_out rest
+falls_out (forever line body rest) = false
+falls_out (apply line number named rest) = falls_out named && falls_out rest
+
+-- the head of a loop: a label, where it can be gone round
+abbrev pub head : Block → Spot → Spot
+head body s = record { flow = s.flow; labelled = if falls_out body then true else s.labelled }
+
+-- where a block leads: nowhere, if it doesn't fall out
+abbrev pub spot_after : Plan → Block → Spot → Option Spot
+spot_after plan nothing s = Some s
+spot_after plan (basic line act rest) s = spot_after plan rest (past (moved plan (instr_of_act act) s.flow))
+spot_after plan (stop line rest) s = None
+spot_after plan (when line contact first rest) s =
+    onward (meet (spot_after plan first (past s.flow)) (Some s)) None (λ u. spot_after plan rest u)
+spot_after plan (either line contact first second rest) s =
+    onward (join (spot_after plan first (past s.flow)) (spot_after plan second (at_label s.flow))) None (λ u. spot_after plan rest u)
+spot_after plan (repeat line times body rest) s =
+    onward (spot_after plan body (head body (past s.flow))) None (λ u. spot_after plan rest (past u.flow))
+spot_after plan (forever line body rest) s = None
+spot_after plan (apply line number named rest) s = onward (spot_after plan named s) None (λ u. spot_after plan rest u)
+
+-- an instruction, with what is known before it and the number of repeats around it
+pub record Place : Type 0 where
+  pub line : ℕ
+  pub instr : Instr
+  pub spot : Spot
+  pub repeats : ℕ
+
+abbrev pub place_of_instr : ℕ → Instr → ℕ → Spot → Place
+place_of_instr line i r s = record { line = line; instr = i; spot = s; repeats = r }
+
+abbrev pub alone : ℕ → Instr → ℕ → Spot → List Place
+alone line i r s = place_of_instr line i r s ∷ []
+
+-- the code of a block inside this many repeats, from this pc on
+abbrev pub places : Plan → ℕ → ℕ → Block → Spot → List Place
+places plan r pc nothing s = []
+places plan r pc (basic line act rest) s =
+    place_of_instr line (instr_of_act act) r s ∷ places plan r (pc + 1) rest (past (moved plan (instr_of_act act) s.flow))
+places plan r pc (stop line rest) s = place_of_instr line End r s ∷ []
+places plan r pc (when line contact first rest) s =
+    let firsts = places plan r (pc + 1) first (past s.flow) in
+    let end = pc + 1 + length firsts in
+    place_of_instr line (Test contact end) r s
+    ∷ (firsts ++ onward (meet (spot_after plan first (past s.flow)) (Some s)) [] (λ u. places plan r end rest u))
+places plan r pc (either line contact first second rest) s =
+    let firsts = places plan r (pc + 1) first (past s.flow) in
+    let leaving = spot_after plan first (past s.flow) in
+    let start = pc + 1 + length firsts + (if falls_out first then 1 else 0) in
+    let seconds = places plan r start second (at_label s.flow) in
+    let end = start + length seconds in
+    place_of_instr line (Test contact start) r s
+    ∷ (firsts ++ (onward leaving [] (alone line (Jump end) r) ++ (seconds
+    ++ onward (join leaving (spot_after plan second (at_label s.flow))) [] (λ u. places plan r end rest u))))
+places plan r pc (repeat line times body rest) s =
+    let start = head body (past s.flow) in
+    let bodies = places plan (r + 1) (pc + 1) body start in
+    let end = pc + 1 + length bodies in
+    place_of_instr line (Set r times) r s
+    ∷ (bodies ++ onward (spot_after plan body start) [] (λ u.
+    place_of_instr line (Loop r (pc + 1)) (r + 1) u ∷ places plan r (end + 1) rest (past u.flow)))
+places plan r pc (forever line body rest) s =
+    let start = head body s in
+    places plan r pc body start ++ onward (spot_after plan body start) [] (alone line (Jump pc) r)
+places plan r pc (apply line number named rest) s =
+    let names = places plan r pc named s in
+    names ++ onward (spot_after plan named s) [] (λ u. places plan r (pc + length names) rest u)
+
+-- all of a script: an End follows, in this line, where it falls out
+abbrev pub all_places : Plan → ℕ → Block → Spot → List Place
+all_places plan last b s = places plan 0 0 b s ++ onward (spot_after plan b s) [] (alone last End 0)
+
+-- ---- labels
+
+abbrev pub mark_of : ℕ → Place → Mark
+mark_of pc p = record { pc = pc; flow = p.spot.flow; repeats = p.repeats }
+
+-- of places from this pc on
+abbrev pub marks_of : ℕ → List Place → List Mark
+marks_of pc [] = []
+marks_of pc (p ∷ ps) = if p.spot.labelled then mark_of pc p ∷ marks_of (pc + 1) ps else marks_of (pc + 1) ps

@@ -1,3 +1,0 @@
-pub mod OneCode
-mod Vectors
-mod VectorsOfRefusals

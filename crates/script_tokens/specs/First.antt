@@ -1,0 +1,46 @@
+-- The keywords with which items, edits and statements begin, as keywords of the grammar.
+use Rattle.script_tokens.specs.declared.keyword.Keyword.{Keyword}
+use Rattle.script_tokens.specs.declared.keyword.Keyword.TheVariants as the
+use Rattle.script_tokens.specs.declared.first_keyword.ComponentKeyword.{ComponentKeyword}
+use Rattle.script_tokens.specs.declared.first_keyword.ComponentKeyword.TheVariants as component
+use Rattle.script_tokens.specs.declared.first_keyword.ItemKeyword.{ItemKeyword}
+use Rattle.script_tokens.specs.declared.first_keyword.ItemKeyword.TheVariants as item
+use Rattle.script_tokens.specs.declared.first_keyword.EditKeyword.{EditKeyword}
+use Rattle.script_tokens.specs.declared.first_keyword.EditKeyword.TheVariants as edit
+use Rattle.script_tokens.specs.declared.first_keyword.ActKeyword.{ActKeyword}
+use Rattle.script_tokens.specs.declared.first_keyword.ActKeyword.TheVariants as act
+use Rattle.script_tokens.specs.declared.first_keyword.StatementKeyword.{StatementKeyword}
+use Rattle.script_tokens.specs.declared.first_keyword.StatementKeyword.TheVariants as statement
+
+abbrev pub component_keyword : ComponentKeyword → Keyword
+component_keyword component.Audio = the.Audio
+component_keyword component.Data = the.Data
+component_keyword component.Carry = the.Carry
+
+abbrev pub item_keyword : ItemKeyword → Keyword
+item_keyword item.Sub = the.Sub
+item_keyword item.Service = the.Service
+item_keyword item.Packet = the.Packet
+item_keyword (item.Component k) = component_keyword k
+
+abbrev pub edit_keyword : EditKeyword → Keyword
+edit_keyword edit.Drop = the.Drop
+edit_keyword edit.Move = the.Move
+edit_keyword edit.Rate = the.Rate
+edit_keyword (edit.Item k) = item_keyword k
+
+abbrev pub act_keyword : ActKeyword → Keyword
+act_keyword act.Wait = the.Wait
+act_keyword act.Until = the.Until
+act_keyword act.Commit = the.Commit
+act_keyword act.Join = the.Join
+act_keyword act.Settle = the.Settle
+act_keyword (act.Edit k) = edit_keyword k
+
+abbrev pub statement_keyword : StatementKeyword → Keyword
+statement_keyword statement.End = the.End
+statement_keyword statement.If = the.If
+statement_keyword statement.Repeat = the.Repeat
+statement_keyword statement.Forever = the.Forever
+statement_keyword statement.Apply = the.Apply
+statement_keyword (statement.Act k) = act_keyword k

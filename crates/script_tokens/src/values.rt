@@ -1,0 +1,322 @@
+//! Reading values: numbers in their ranges, identifiers, profiles and times.
+//!
+//! Each call passes over what it reads. Where an atom stands that is no such value, the fault is `Number` at
+//! that atom; where a brace or the end stands, `Expected`.
+
+ghost use Rattle.std.specs.Prelude.{◌≡◌, ℕ, ◌∷◌, ◌<◌, ◌≤◌, [], length, List, ◌≢◌, IfOk, OnOk, OnErr};
+ghost use Rattle.mux_types.specs.declared.numbers.Sid.{Sid};
+ghost use Rattle.mux_eep.specs.Sizes.{Profile};
+ghost use Rattle.std.specs.Fmt.{decimal};
+ghost use Rattle.script_tokens.specs.Reading.{Passes, BeginsWith};
+ghost use Rattle.script_tokens.specs.Spelling.{hex_word, sid_word, profile_word, time_word};
+ghost use Rattle.mux_config.specs.Configuration.{IsSid};
+ghost use Rattle.std.specs.Prelude.{true, false};
+ghost use Rattle.std.specs.List.{list_all};
+ghost use Rattle.script_tokens.specs.Words.{IsName, has_name_letters, is_name_byte};
+
+use crate::fault::ScriptFault;
+use crate::keyword::Keyword;
+use crate::number;
+use crate::reader::Reader;
+use crate::time::TimeOfDay;
+use mux_config::{ScId, ScTy, Sid, StartAddress, SubId};
+use mux_eep::Protection;
+use plan_code::{ContactId, Delay, Frames, Times};
+
+/// A decimal from `low` to `high`.
+#[tactic(auto, using(crate::proofs::Wording::decimal_letters, crate::proofs::Atoms::decimal_below, crate::proofs::Atoms::decimal_above))]
+pub fn decimal(reader: &mut Reader, low: u32, high: u32) -> Result<u32, ScriptFault>
+    ensures spells { IfOk result (λ n. Passes (decimal n ∷ []) reader.old reader.new) }
+    ensures none { OnErr result ((n : ℕ) (rest : List (List ℕ)) → low ≤ n → n ≤ high → n <
+        1000000000
+        → reader.old.words ≢ decimal n ∷ rest) }
+    ensures range { IfOk result (λ n. (low ≤ n) × (n ≤ high)) }
+    ensures shorter { OnOk result (length reader.new.words < length reader.old.words) }
+{
+    let atom = reader.atom()?;
+    let Some(value) = number::decimal(atom) else {
+        return Err(reader.no_number());
+    };
+    if value < low {
+        return Err(reader.no_number());
+    }
+    if value > high {
+        return Err(reader.no_number());
+    }
+    reader.advance();
+    Ok(value)
+}
+
+/// A decimal from 0 to 65,535.
+pub fn word(reader: &mut Reader) -> Result<u16, ScriptFault>
+    ensures spells { IfOk result (λ n. Passes (decimal n ∷ []) reader.old reader.new) }
+    ensures none { OnErr result ((n : ℕ) (rest : List (List ℕ)) → n < 65536
+        → reader.old.words ≢ decimal n ∷ rest) }
+    ensures shorter { OnOk result (length reader.new.words < length reader.old.words) }
+{
+    let value = decimal(reader, 0, 65_535)?;
+    Ok(value as u16)
+}
+
+/// A SubChId, 0 to 63.
+pub fn sub_id(reader: &mut Reader) -> Result<SubId, ScriptFault>
+    ensures spells { IfOk result (λ n. Passes (decimal n ∷ []) reader.old reader.new) }
+    ensures none { OnErr result ((n : ℕ) (rest : List (List ℕ)) → n < 64
+        → reader.old.words ≢ decimal n ∷ rest) }
+    ensures range { IfOk result (λ s. s < 64) }
+    ensures shorter { OnOk result (length reader.new.words < length reader.old.words) }
+{
+    let value = decimal(reader, 0, 63)?;
+    match SubId::new(value as u8) {
+        Some(id) => Ok(id),
+        None => Err(reader.no_number()),
+    }
+}
+
+/// A SCId, 0 to 4095.
+pub fn sc_id(reader: &mut Reader) -> Result<ScId, ScriptFault>
+    ensures spells { IfOk result (λ n. Passes (decimal n ∷ []) reader.old reader.new) }
+    ensures none { OnErr result ((n : ℕ) (rest : List (List ℕ)) → n < 4096
+        → reader.old.words ≢ decimal n ∷ rest) }
+    ensures range { IfOk result (λ s. s < 4096) }
+    ensures shorter { OnOk result (length reader.new.words < length reader.old.words) }
+{
+    let value = decimal(reader, 0, 4095)?;
+    match ScId::new(value as u16) {
+        Some(id) => Ok(id),
+        None => Err(reader.no_number()),
+    }
+}
+
+/// A type, 0 to 63.
+pub fn sc_ty(reader: &mut Reader) -> Result<ScTy, ScriptFault>
+    ensures spells { IfOk result (λ n. Passes (decimal n ∷ []) reader.old reader.new) }
+    ensures none { OnErr result ((n : ℕ) (rest : List (List ℕ)) → n < 64
+        → reader.old.words ≢ decimal n ∷ rest) }
+    ensures range { IfOk result (λ t. t < 64) }
+    ensures shorter { OnOk result (length reader.new.words < length reader.old.words) }
+{
+    let value = decimal(reader, 0, 63)?;
+    match ScTy::new(value as u8) {
+        Some(ty) => Ok(ty),
+        None => Err(reader.no_number()),
+    }
+}
+
+/// A start address, 0 to 1023.
+pub fn start(reader: &mut Reader) -> Result<StartAddress, ScriptFault>
+    ensures spells { IfOk result (λ n. Passes (decimal n ∷ []) reader.old reader.new) }
+    ensures none { OnErr result ((n : ℕ) (rest : List (List ℕ)) → n < 1024
+        → reader.old.words ≢ decimal n ∷ rest) }
+    ensures range { IfOk result (λ s. s < 1024) }
+    ensures shorter { OnOk result (length reader.new.words < length reader.old.words) }
+{
+    let value = decimal(reader, 0, 1023)?;
+    match StartAddress::new(value as u16) {
+        Some(start) => Ok(start),
+        None => Err(reader.no_number()),
+    }
+}
+
+/// A contact, 0 to 15.
+pub fn contact(reader: &mut Reader) -> Result<ContactId, ScriptFault>
+    ensures spells { IfOk result (λ n. Passes (decimal n ∷ []) reader.old reader.new) }
+    ensures none { OnErr result ((n : ℕ) (rest : List (List ℕ)) → n < 16
+        → reader.old.words ≢ decimal n ∷ rest) }
+    ensures range { IfOk result (λ c. c < 16) }
+    ensures shorter { OnOk result (length reader.new.words < length reader.old.words) }
+{
+    let value = decimal(reader, 0, 15)?;
+    match ContactId::new(value as u8) {
+        Some(contact) => Ok(contact),
+        None => Err(reader.no_number()),
+    }
+}
+
+/// A number of frames to wait, 1 to 65,535.
+pub fn frames(reader: &mut Reader) -> Result<Frames, ScriptFault>
+    ensures spells { IfOk result (λ n. Passes (decimal n ∷ []) reader.old reader.new) }
+    ensures none { OnErr result ((n : ℕ) (rest : List (List ℕ)) → 1 ≤ n → n < 65536
+        → reader.old.words ≢ decimal n ∷ rest) }
+    ensures range { IfOk result (λ f. (1 ≤ f) × (f < 65536)) }
+    ensures shorter { OnOk result (length reader.new.words < length reader.old.words) }
+{
+    let value = decimal(reader, 1, 65_535)?;
+    match Frames::new(value as u16) {
+        Some(frames) => Ok(frames),
+        None => Err(reader.no_number()),
+    }
+}
+
+/// A number of times, 1 to 65,535.
+pub fn times(reader: &mut Reader) -> Result<Times, ScriptFault>
+    ensures spells { IfOk result (λ n. Passes (decimal n ∷ []) reader.old reader.new) }
+    ensures none { OnErr result ((n : ℕ) (rest : List (List ℕ)) → 1 ≤ n → n < 65536
+        → reader.old.words ≢ decimal n ∷ rest) }
+    ensures range { IfOk result (λ t. (1 ≤ t) × (t < 65536)) }
+    ensures shorter { OnOk result (length reader.new.words < length reader.old.words) }
+{
+    let value = decimal(reader, 1, 65_535)?;
+    match Times::new(value as u16) {
+        Some(times) => Ok(times),
+        None => Err(reader.no_number()),
+    }
+}
+
+/// A delay of a swap in frames, 1 to 60,000.
+pub fn delay(reader: &mut Reader) -> Result<Delay, ScriptFault>
+    ensures spells { IfOk result (λ n. Passes (decimal n ∷ []) reader.old reader.new) }
+    ensures none { OnErr result ((n : ℕ) (rest : List (List ℕ)) → 1 ≤ n → n ≤ 60000
+        → reader.old.words ≢ decimal n ∷ rest) }
+    ensures range { IfOk result (λ d. (1 ≤ d) × (d ≤ 60000)) }
+    ensures shorter { OnOk result (length reader.new.words < length reader.old.words) }
+{
+    let value = decimal(reader, 1, 60_000)?;
+    match Delay::new(value as u16) {
+        Some(delay) => Ok(delay),
+        None => Err(reader.no_number()),
+    }
+}
+
+/// An EId: four digits 0-9 or A-F.
+#[tactic(auto, using(crate::proofs::Wording::hex_letters))]
+pub fn eid(reader: &mut Reader) -> Result<u16, ScriptFault>
+    ensures spells { IfOk result (λ n. Passes (hex_word n ∷ []) reader.old reader.new) }
+    ensures none { OnErr result ((n : ℕ) (rest : List (List ℕ)) → n < 65536
+        → reader.old.words ≢ hex_word n ∷ rest) }
+    ensures shorter { OnOk result (length reader.new.words < length reader.old.words) }
+{
+    let atom = reader.atom()?;
+    match number::hex_word(atom) {
+        Some(eid) => {
+            reader.advance();
+            Ok(eid)
+        }
+        None => Err(reader.no_number()),
+    }
+}
+
+/// An SId: four digits 0-9 or A-F for a short one, eight for a long one.
+#[tactic(auto, using(crate::proofs::Wording::sid_letters))]
+pub fn sid(reader: &mut Reader) -> Result<Sid, ScriptFault>
+    ensures spells { IfOk result (λ s. Passes (sid_word s ∷ []) reader.old reader.new) }
+    ensures none { OnErr result ((n : Sid) (rest : List (List ℕ)) → IsSid n
+        → reader.old.words ≢ sid_word n ∷ rest) }
+    ensures range { IfOk result IsSid }
+    ensures shorter { OnOk result (length reader.new.words < length reader.old.words) }
+{
+    let atom = reader.atom()?;
+    match number::sid(atom) {
+        Some(sid) => {
+            reader.advance();
+            Ok(sid)
+        }
+        None => Err(reader.no_number()),
+    }
+}
+
+/// A protection profile, `1-A` to `4-A` or `1-B` to `4-B`.
+#[tactic(auto, using(crate::proofs::Wording::profile_letters))]
+pub fn profile(reader: &mut Reader) -> Result<Protection, ScriptFault>
+    ensures spells { IfOk result (λ p. Passes (profile_word p ∷ []) reader.old reader.new) }
+    ensures none { OnErr result ((n : Profile) (rest : List (List ℕ)) → 1 ≤ n.level → n.level ≤ 4
+        → reader.old.words ≢ profile_word n ∷ rest) }
+    ensures range { IfOk result (λ p. (1 ≤ p.level) × (p.level ≤ 4)) }
+    ensures shorter { OnOk result (length reader.new.words < length reader.old.words) }
+{
+    let atom = reader.atom()?;
+    match number::profile(atom) {
+        Some(profile) => {
+            reader.advance();
+            Ok(profile)
+        }
+        None => Err(reader.no_number()),
+    }
+}
+
+/// A time of the day, 00:00:00 to 23:59:59.
+#[tactic(auto, using(crate::proofs::Wording::time_letters))]
+pub fn time(reader: &mut Reader) -> Result<TimeOfDay, ScriptFault>
+    ensures spells { IfOk result (λ t. Passes (time_word t ∷ []) reader.old reader.new) }
+    ensures none { OnErr result ((n : ℕ) (rest : List (List ℕ)) → n < 86400
+        → reader.old.words ≢ time_word n ∷ rest) }
+    ensures range { IfOk result (λ t. t < 86400) }
+    ensures shorter { OnOk result (length reader.new.words < length reader.old.words) }
+{
+    let atom = reader.atom()?;
+    match number::time(atom) {
+        Some(time) => {
+            reader.advance();
+            Ok(time)
+        }
+        None => Err(reader.no_number()),
+    }
+}
+
+/// The name of a block, which is not passed over.
+///
+/// # Errors
+///
+/// `Expected` where no atom stands, one that is ill formed, or a word of the grammar.
+pub fn name<'a>(reader: &Reader<'a>) -> Result<&'a str, ScriptFault>
+    ensures formed { IfOk result (λ s. IsName s.now) }
+    ensures begins { IfOk result (λ s. BeginsWith reader.now.words s.now) }
+    ensures some { OnOk result (0 < length reader.now.words) }
+    ensures none { OnErr result ((name : List ℕ) (rest : List (List ℕ)) → IsName name
+        → reader.now.words ≢ name ∷ rest) }
+{
+    let atom = reader.atom()?;
+    if !is_name(atom) {
+        return Err(reader.expected());
+    }
+    match std::str::from_utf8(atom) {
+        Ok(name) => Ok(name),
+        Err(_other) => Err(reader.expected()),
+    }
+}
+
+/// Whether a block may have this name.
+fn is_name(atom: &[u8]) -> bool
+    ensures formed { result ≡ true → IsName atom.now }
+    ensures none { result ≡ false → IsName atom.now → ⊥ }
+{
+    if atom.len() > 32 {
+        return false;
+    }
+    if !has_name_letters(atom) {
+        return false;
+    }
+    match Keyword::of(atom) {
+        Some(_word) => false,
+        None => true,
+    }
+}
+
+fn has_name_letters(atom: &[u8]) -> bool
+    ensures { result ≡ has_name_letters atom.now }
+{
+    match atom {
+        [] => false,
+        [first, rest @ ..] => {
+            if !first.is_ascii_lowercase() {
+                return false;
+            }
+            has_name_bytes(rest)
+        }
+    }
+}
+
+fn has_name_bytes(bytes: &[u8]) -> bool
+    ensures { result ≡ list_all is_name_byte bytes.now }
+{
+    bytes.iter().all(|byte| is_name_byte(*byte))
+}
+
+fn is_name_byte(byte: u8) -> bool
+    ensures { result ≡ is_name_byte byte }
+{
+    match byte {
+        b'a'..=b'z' | b'0'..=b'9' | b'_' => true,
+        _ => false,
+    }
+}

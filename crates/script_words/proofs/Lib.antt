@@ -1,3 +1,0 @@
-pub mod Atoms
-mod Numerals
-pub mod Wording

@@ -1,7 +1,0 @@
-use Rattle.script_words.specs.Spelling.{hex_word}
-use Rattle.script_words.proofs.Atoms.{told}
-use Rattle.script_words.proofs.Wording.{hex_letters}
-use Rattle.script_words.proofs.values.eid.Goals as goal
-
-pub returns-in_err-atom-clause-none : goal.returns-in_err-atom-clause-none
-returns-in_err-atom-clause-none c = told c.from_residual.result (λ n rest small e. c.in_err-atom.ensures.none (hex_word n) rest (hex_letters n small) e)
