@@ -1,7 +1,6 @@
 //! Writers that fail, as sinks.
 
-use super::codes::{PLAN, ended, start_at};
-use super::seen::player_of;
+use super::codes::{ENDED, START, typed};
 use mux_config::Config;
 use plan_player::{Event, PlayFault, Player, Sink, Writer, play};
 use plan_verifier::Verified;
@@ -67,7 +66,7 @@ fn three_into(player: &mut Player<Config>, inner: Failing) -> Outcome {
 
 /// What comes of a code's first three frames into this writer.
 fn three_frames(code: &Verified, inner: Failing) -> Result<Outcome, Fail> {
-    let mut player = player_of(code, start_at(0))?;
+    let mut player: Player<Config> = Player::new(code, START)?;
     Ok(three_into(&mut player, inner))
 }
 
@@ -110,7 +109,7 @@ fn fails_at_each_fault(rt: &impl Abort, code: &Verified) -> Result<(), Fail> {
 }
 
 #[test]
-fn a_writer_fails_at_its_first_fault(rt: HostRuntime) -> Result<(), Fail> {
-    let code = ended(rt.alloc(), PLAN)?;
+fn a_writer_is_not_called_after_its_first_fault(rt: HostRuntime) -> Result<(), Fail> {
+    let code = typed(rt.alloc(), &ENDED)?;
     fails_at_each_fault(&rt, &code)
 }

@@ -1,6 +1,6 @@
 //! The largest file: the most configurations, labels and instructions, each as long as it may be.
 
-use super::seen::{parts, read, sizes, written};
+use plan_code::{Code, decode, encode};
 use std::alloc::{AllocError, Global};
 use std::test::Fail;
 
@@ -72,13 +72,21 @@ fn largest_file(alloc: Global) -> Result<Vec<u8>, AllocError> {
     Ok(file)
 }
 
+/// How many configurations, labels and instructions a code has.
+fn sizes(code: &Code) -> (usize, usize, usize) {
+    (
+        code.configs().len(),
+        code.labels().len(),
+        code.lines().len(),
+    )
+}
+
 #[test]
-fn the_largest_file(rt: HostRuntime) -> Result<(), Fail> {
+fn the_largest_file_is_read_and_written_back(rt: HostRuntime) -> Result<(), Fail> {
     let file = largest_file(rt.alloc())?;
     assert_eq!(rt; file.len(), 943_889);
-    let code = read(rt.alloc(), &file)?;
+    let code = decode(rt.alloc(), &file)?;
     assert_eq!(rt; sizes(&code), (256, 1024, 4096));
-    assert_eq!(rt; parts(&code, 255), Some((64, 64, 64)));
-    assert!(rt; written(rt.alloc(), &code)? == file);
+    assert!(rt; encode(rt.alloc(), &code)? == file);
     Ok(())
 }
