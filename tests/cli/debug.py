@@ -1,6 +1,7 @@
 #!/usr/bin/env python3
 """'dabplan debug': what it prints command by command, and how it refuses. The last line is 'N passed, M failed'."""
 import rows
+from codes import PROGRAMME, code
 from rows import NOTHING_FILE, RATES_FILE, REFUSED_FILE, hexadecimal
 from verify import HEADER, START
 
@@ -61,6 +62,31 @@ def frames_of_the_day(rows):
             line(1, 1, 1, 2, 1) + line(1, second, 1, 2, 2) + line(1, 0, 1, 2, 3))
 
 
+def break_lines(rows):
+    """A break line is met where the line changes to it, by `run` alone, and not once it is cleared."""
+    at_start, at_rate = line(0, 0, 0, 8, 0), line(1, 1, 1, 9, 1)
+    for commands, wanted in (
+        ("next break 9 run 10", at_rate + line(0, 1, 1, 9, 1) + line(10, 0, 1, 9, 11)),
+        ("break 9 next", at_start + at_rate), ("break 9 clear run 3", at_start + at_start + line(3, 0, 1, 9, 3)),
+        ("next next", at_rate + line(5000, 0, 1, 9, 1)), ("show clear", at_start + at_start),
+    ):
+        led(rows, RATES_FILE, commands, "", 0, wanted)
+
+
+def announcements_are_kept(rows):
+    """The last 64 are: of a rate that is changed to and fro, with one notice after another, each fourth frame has one."""
+    file = code("rate sub 1 96, commit in 24, join, rate sub 1 128, commit in 24, join, jump 0", "0 cost 3", [PROGRAMME])
+    for commands, first, last in (("run 4 show break 5", 0, 0), ("run 253", 0, 252), ("run 253 run 20", 20, 272),
+                                  ("run 253 run 20 run 4", 24, 276)):
+        ended = rows.run("debug x.code x.commands", {"x.code": file, "x.commands": f"{commands} show"})
+        told = [each for each in ended.printed.decode().splitlines()[::-1] if each.startswith("announced")]
+        told = told[:(last - first) // 4 + 1][::-1]
+        wanted = [f"announced {count} swap {(count // 24 + 1) * 24 % 250} change 1" for count in range(first, last + 1, 4)]
+        rows.tally.same(commands, wanted, told)
+        rows.tally.same(f"no more after {commands}", (last - first) // 4 + 1,
+                        len(ended.printed.decode().split("frames")[-1].splitlines()) - 1)
+
+
 def faults_in_their_order(rows):
     """The line of a fault is printed alone: of the code first, then of the start, then of the commands."""
     for code, commands, options, wanted in (
@@ -88,4 +114,4 @@ def files_that_cannot_be_had(rows):
 
 if __name__ == "__main__":
     rows.main([a_change_of_rate_led_by_commands, few_commands, contacts, a_loop_of_three, frames_of_the_day,
-               faults_in_their_order, files_that_cannot_be_had])
+               break_lines, announcements_are_kept, faults_in_their_order, files_that_cannot_be_had])

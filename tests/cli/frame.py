@@ -78,6 +78,38 @@ def refused_records(rows):
     rows.answers("frame x.rec --ensemble E1C5 --count 0", 1, "cannot read x.rec\n")
 
 
+def fields_of_records(rows):
+    """The first byte of the first field that is at fault. A field is judged as soon as its bytes are there: a rate that has
+    no size at the rate, an end past the multiplex at the start, a carrier that stands twice at its component."""
+    for record, wanted in (
+        # the three numbers, and sub-channels
+        ("41", "Field 0"), ("40", "Short"), ("01 41", "Field 1"), ("01 01 41", "Field 2"), ("01 00 00 40", "Field 3"),
+        ("01 00 00 01 00", "Short"), ("01 00 00 01 00 00 02", "Field 6"), ("01 00 00 01 00 00 00 00", "Field 7"),
+        ("01 00 00 01 00 00 00 05", "Field 7"), ("01 00 00 01 00 00 00 03 00 21", "Field 8"),
+        ("01 00 00 01 00 00 00 03 00 00", "Field 8"), ("01 00 00 01 FF FF 00 03 00 21", "Field 8"),
+        ("01 00 00 01 03 01 00 03 00", "Short"), ("01 00 00 01 03 01 00 03 00 80", "Field 4"),
+        ("02 00 00 01 00 00 00 03 00 80 40", "Field 10"), ("02 00 00 01 00 00 00 03 00 80 01", "Order"),
+        ("02 00 00 01 00 00 00 03 00 80 00", "Order"),
+        # services and their components
+        ("00 01 00 02", "Field 3"), ("00 01 00 00 C2", "Short"), ("00 01 00 01 00 00 C2", "Short"),
+        ("00 01 00 00 C2 21 0D", "Field 6"), ("00 01 00 01 00 00 C2 21 0C", "Field 8"),
+        ("00 02 00 00 C2 21 00 00 C2 21", "Order"), ("00 02 00 01 00 00 00 01 00 00 C2 21", "Order"),
+        ("00 01 00 00 C2 21 01 02", "Field 7"), ("00 01 00 00 C2 21 01 04", "Field 7"),
+        ("00 01 00 00 C2 21 01 00 40", "Field 8"), ("00 01 00 00 C2 21 01 01 3F 40", "Field 9"),
+        ("00 01 00 00 C2 21 01 03 10 00", "Field 8"), ("00 01 00 00 C2 21 02 00 3F 01 01 05", "Short"),
+        ("00 01 00 00 C2 21 02 00 3F 01 01 05 01", "Field 10"),
+        # packet components
+        ("00 00 01 10 00", "Field 3"), ("00 00 01 00 01 02", "Field 5"), ("00 00 01 00 01 00 40", "Field 6"),
+        ("00 00 01 00 01 00 3C 40", "Field 7"), ("00 00 01 00 01 00 3C 05 00 00", "Field 8"),
+        ("00 00 01 00 01 00 3C 05 04 00", "Field 8"), ("00 00 02 00 01 00 3C 05 00 01 00 01", "Order"),
+        ("00 00 02 00 01 00 3C 05 00 01 10 00", "Field 10"),
+    ):
+        rows.answers("frame - --ensemble E1C5 --count 0", 1, f"record: {wanted}\n", stdin=hexadecimal(record))
+    whole = hexadecimal(ONE_PACKET_SERVICE)
+    for length in range(len(whole)):
+        rows.answers("frame - --ensemble E1C5 --count 0", 1, "record: Short\n", stdin=whole[:length])
+
+
 def last_pages(rows):
     """The last pages of 63 sub-channels: the fourth, and in mode 3 the third; the next one is refused."""
     record = row_of_sub_channels(63, 0)
@@ -90,6 +122,15 @@ def last_pages(rows):
 
 def packed_fibs(rows):
     """Configurations that take more than one FIB, and more than one page."""
+    sixty_four = bytes([64, 0, 0]) + b"".join(bytes([number, 0, 4 * number, 0, 4, 0, 8]) for number in range(64))
+    last_in_mode_3 = (
+        "0500E1C500001501D0D08C04D4D48C04D8D88C04DCDC8C04E0E08C04FF00DBB8\n"
+        "1D01E4E48C04E8E88C04ECEC8C04F0F08C04F4F48C04F8F88C04FCFC8C043679\n" + 2 * EMPTY_FIB
+    )
+    for mode, pages in ((1, 4), (2, 4), (3, 3), (4, 4)):
+        line = f"frame - --ensemble E1C5 --count 0 --mode {mode}"
+        rows.answers(f"{line} --page {pages}", 1, "refused: no such page\n", stdin=sixty_four)
+    rows.answers("frame - --ensemble E1C5 --count 0 --mode 3 --page 2", 0, last_in_mode_3, stdin=sixty_four)
     thirteen = (
         "0500E1C50000150104008C0408048C040C088C04100C8C0414108C04FF00A044\n"
         "1D0118148C041C188C04201C8C0424208C0428248C042C288C04302C8C049C07\n"
@@ -109,4 +150,4 @@ def packed_fibs(rows):
 
 
 if __name__ == "__main__":
-    rows.main([records, modes, refused_records, last_pages, packed_fibs])
+    rows.main([records, modes, refused_records, fields_of_records, last_pages, packed_fibs])

@@ -1,10 +1,9 @@
-//! Tests of sessions, from the bytes of code files and the texts of event and command files.
+//! Tests of calls.
 
 mod codes;
-mod commands;
-mod events;
-mod faults;
-mod frames;
 mod into_sink;
+mod largest_file;
+mod laws;
 mod sinks;
 mod texts;
+mod writers;

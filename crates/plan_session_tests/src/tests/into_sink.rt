@@ -1,7 +1,7 @@
 //! Playback through a buffer, into sinks that take less than all.
 
-use super::codes::{PLAN, ended, first_swap, played};
-use plan_code::{Contacts, Mode, Plan};
+use super::codes::{ENDED, LOWERED, played};
+use plan_code::Contacts;
 use plan_player::{Sink, Writer};
 use plan_session::{RunFault, run_into};
 use std::alloc::Global;
@@ -71,9 +71,10 @@ fn writer_of(alloc: Global, room: usize, at_once: usize, end: End) -> Narrow {
 }
 
 #[test]
-fn what_went_out_is_told(rt: HostRuntime) -> Result<(), Fail> {
+fn a_full_writer_is_told_with_what_went_out_and_never_called_again(
+    rt: HostRuntime,
+) -> Result<(), Fail> {
     let alloc = rt.alloc();
-    let file = ended(alloc, PLAN)?;
     let write = |frames, bytes| Err(RunFault::Write { frames, bytes });
     for (room, wanted) in [
         (0, write(0, 0)),
@@ -91,7 +92,7 @@ fn what_went_out_is_told(rt: HostRuntime) -> Result<(), Fail> {
         for end in [End::Nothing, End::Fault, End::Interrupted] {
             let text = "frames 1000 contact 0 closed frames 1000 frames 500";
             let writer = writer_of(alloc, room, 50_000, end);
-            let (answer, sink) = into(alloc, file.as_slice(), text, writer);
+            let (answer, sink) = into(alloc, &ENDED, text, writer);
             assert_eq!(rt; answer, wanted, "{room}");
             assert_eq!(rt; sink.failed(), wanted.is_err());
             assert_eq!(rt; sink.inner().bytes.len(), room);
@@ -102,48 +103,12 @@ fn what_went_out_is_told(rt: HostRuntime) -> Result<(), Fail> {
 }
 
 #[test]
-fn frames_of_mode_iii_are_longer(rt: HostRuntime) -> Result<(), Fail> {
-    let plan = Plan {
-        mode: Mode::III,
-        ..PLAN
-    };
-    let file = ended(rt.alloc(), plan)?;
-    let writer = writer_of(rt.alloc(), 130, 1000, End::Nothing);
-    let (answer, _sink) = into(rt.alloc(), file.as_slice(), "frames 3", writer);
-    let wanted = RunFault::Write {
-        frames: 1,
-        bytes: 2,
-    };
-    assert_eq!(rt; answer, Err(wanted));
-    Ok(())
-}
-
-#[test]
 fn a_writer_that_takes_a_byte_at_a_time_gets_the_same_bytes(rt: HostRuntime) -> Result<(), Fail> {
     let alloc = rt.alloc();
-    let file = first_swap(alloc, 6)?;
-    let (answer, bytes) = played(alloc, file.as_slice(), "frames 200", 0)?;
+    let (answer, bytes) = played(alloc, &LOWERED, "frames 200")?;
     let writer = writer_of(alloc, 1_000_000, 1, End::Fault);
-    let (same, sink) = into(alloc, file.as_slice(), "frames 200", writer);
+    let (same, sink) = into(alloc, &LOWERED, "frames 200", writer);
     assert_eq!(rt; answer, same);
     assert!(rt; bytes.as_slice() == sink.inner().bytes.as_slice());
-    Ok(())
-}
-
-#[test]
-fn nothing_is_written_at_another_fault(rt: HostRuntime) -> Result<(), Fail> {
-    let alloc = rt.alloc();
-    let file = ended(alloc, PLAN)?;
-    for (file, text) in [
-        (file.as_slice(), "frames 0"),
-        (b"DABP".as_slice(), "frames 1"),
-        (first_swap(alloc, 21)?.as_slice(), "frames 1"),
-    ] {
-        let writer = writer_of(alloc, 1000, 1000, End::Nothing);
-        let (answer, sink) = into(alloc, file, text, writer);
-        assert!(rt; answer.is_err());
-        assert!(rt; !sink.failed());
-        assert_eq!(rt; sink.inner().bytes.len(), 0);
-    }
     Ok(())
 }

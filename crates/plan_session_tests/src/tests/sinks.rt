@@ -1,50 +1,88 @@
-//! Sinks that fail.
+//! A sink that takes a byte at a call.
 
-use super::codes::{PLAN, ended};
-use plan_code::Contacts;
-use plan_player::{Sink, Writer};
-use plan_session::{RunFault, run};
+ghost use Rattle.std.specs.Prelude.{◌≡◌, false, Some};
+
+use super::codes::{LOWERED, START, typed};
+use mux_config::Config;
+use plan_player::{PlayFault, Player, Sink, play_frames};
+use plan_verifier::Verified;
 use std::alloc::Global;
-use std::io::{self, Write};
+use std::process::Abort;
 use std::test::Fail;
 
-/// A writer that takes this many bytes, and then nothing.
+/// Takes one byte a call, as long as there is memory for it.
 #[derive(Drop)]
-struct Full {
-    room: usize,
-    taken: usize,
+struct Single {
+    bytes: Vec<u8>,
+    is_failed: bool,
 }
 
-impl Write for Full {
-    fn write(&mut self, bytes: &[u8]) -> io::Result<usize> {
-        let count = bytes.len().min(self.room);
-        self.room = self.room.saturating_sub(count);
-        self.taken = self.taken.saturating_add(count);
-        Ok(count)
-    }
-
-    fn flush(&mut self) -> io::Result<()> {
-        Ok(())
+impl Single {
+    /// A sink that has taken nothing.
+    fn new(alloc: Global) -> Single
+        ensures { result.is_failed ≡ false }
+    {
+        Single {
+            bytes: Vec::new(alloc),
+            is_failed: false,
+        }
     }
 }
 
-/// Three steps of 250 frames into a writer of this room: the answer, the bytes that it took, and whether it failed.
-fn into(alloc: Global, room: usize) -> Result<(Result<u128, RunFault>, usize, bool), Fail> {
-    let file = ended(alloc, PLAN)?;
-    let mut sink = Writer::new(Full { room, taken: 0 });
-    let text = "frames 100 contact 0 closed frames 100 frames 50";
-    let answer = run(alloc, file.as_slice(), text, 0, 0, Contacts(0), &mut sink);
-    Ok((answer, sink.inner().taken, sink.failed()))
+impl Sink for Single {
+    ghost taken = { λ s. Some s.bytes.items };
+
+    ghost has_failed = { λ s. s.is_failed };
+
+    fn put(&mut self, bytes: &[u8]) -> Option<usize> {
+        if self.bytes.extend_from_slice(&bytes[..1]).is_ok() {
+            return Some(1);
+        }
+        self.is_failed = true;
+        None
+    }
+
+    fn failed(&self) -> bool {
+        self.is_failed
+    }
+}
+
+/// How many frames a player makes here.
+const FRAMES: u32 = 70;
+
+/// The bytes of these frames, as `frame` gives them.
+fn frame_by_frame(alloc: Global, player: &mut Player<Config>) -> Result<Vec<u8>, Fail> {
+    let mut bytes = Vec::new(alloc);
+    for _ in 0..FRAMES {
+        bytes.extend_from_slice(player.frame().bytes())?;
+    }
+    Ok(bytes)
+}
+
+/// What `play_frames` answers, and whether the sink then has these bytes and has not failed.
+fn put_singly(
+    alloc: Global,
+    player: &mut Player<Config>,
+    bytes: &[u8],
+) -> (Result<u64, PlayFault>, bool) {
+    let mut sink = Single::new(alloc);
+    let frames = play_frames(player, FRAMES, &mut sink);
+    (frames, sink.bytes.as_slice() == bytes && !sink.failed())
+}
+
+/// What is taken of a code's frames, a byte a call, is what `frame` gives.
+fn takes_frames(rt: &impl Abort, alloc: Global, code: &Verified) -> Result<(), Fail> {
+    let mut player: Player<Config> = Player::new(code, START)?;
+    let bytes = frame_by_frame(alloc, &mut player)?;
+    let mut again: Player<Config> = Player::new(code, START)?;
+    let (frames, is_same) = put_singly(alloc, &mut again, &bytes);
+    assert_eq!(rt; frames?, u64::from(FRAMES));
+    assert!(rt; is_same);
+    Ok(())
 }
 
 #[test]
-fn a_full_sink_is_told_with_what_went_out(rt: HostRuntime) -> Result<(), Fail> {
-    let write = |frames, bytes| Err(RunFault::Write { frames, bytes });
-    assert_eq!(rt; into(rt.alloc(), 0)?, (write(0, 0), 0, true));
-    assert_eq!(rt; into(rt.alloc(), 100)?, (write(1, 4), 100, true));
-    assert_eq!(rt; into(rt.alloc(), 6144)?, (write(64, 0), 6144, true));
-    assert_eq!(rt; into(rt.alloc(), 9601)?, (write(100, 1), 9601, true));
-    assert_eq!(rt; into(rt.alloc(), 23_999)?, (write(249, 95), 23_999, true));
-    assert_eq!(rt; into(rt.alloc(), 24_000)?, (Ok(250), 24_000, false));
-    Ok(())
+fn a_sink_that_takes_one_byte_a_call_gets_the_same_bytes(rt: HostRuntime) -> Result<(), Fail> {
+    let code = typed(rt.alloc(), &LOWERED)?;
+    takes_frames(&rt, rt.alloc(), &code)
 }

@@ -1,5 +1,0 @@
-mod cursor;
-mod divisions;
-mod fixtures;
-mod largest;
-mod vectors;
