@@ -1,4 +1,4 @@
--- The edits that lead from one configuration to another, walk by walk.
+-- The edits that turn one configuration into another, walk by walk.
 use Rattle.std.proofs.Common.{◌≡◌, List, [], ◌∷◌, ◌++◌, Option, Some, refl, sym, ap, ◌∙◌, arith}
 use Rattle.std.specs.List.{AllByRecursion, flat_map}
 use Rattle.mux_eep.specs.Sizes.{SizesGrow}

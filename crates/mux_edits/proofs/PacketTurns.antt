@@ -1,4 +1,4 @@
--- What edits of one packet component make of the packet components.
+-- The packet components after the edits of one of them.
 use Rattle.std.proofs.Common.{◌≡◌, ◌≢◌, ℕ, ◌<◌, ◌≤◌, Bool, true, false, cond, leb, List, [], ◌∷◌, length, Option, Some, None, refl, sym, ap, ◌∙◌, inl, inr, arith}
 use Rattle.std.proofs.lemmas.Bool.{cases_eq, le-ltb, lt-leb, ne_eqb}
 use Rattle.mux_config.specs.declared.edit.Edit.TheVariants.{AddPacket, DropPacket}

@@ -1,5 +1,5 @@
--- The edits that lead from one configuration to another. What goes, goes before what comes, and a rate that falls
--- falls before the sub-channel moves, so that no edit has a fault on the way.
+-- The edits that turn one configuration into another. What is dropped comes before what is added, and a lower rate
+-- before a move, so that no edit has a fault where it is applied.
 use Rattle.std.specs.Prelude.{◌==◌, ◌&&◌, Bool, if◌then◌else◌, nat_lt, List, [], ◌∷◌, ◌++◌, Option, Some, None}
 use Rattle.std.specs.List.{flat_map}
 use Rattle.mux_eep.specs.Sizes.{Profile}
@@ -17,18 +17,18 @@ use Rattle.mux_edits.specs.Making.{sub_added, components_added, service_added, p
 
 -- ---- components
 
--- what the first list has behind the longest common beginning of the two
+-- what the first list has behind the longest common prefix of the two
 abbrev pub behind : List Component → List Component → List Component
 behind [] ns = []
 behind (m ∷ ms) [] = m ∷ ms
 behind (m ∷ ms) (n ∷ ns) = if is_same_component m n then behind ms ns else m ∷ ms
 
--- components are taken out of a service, the last one first
+-- components are dropped from a service, the last one first
 abbrev pub components_dropped : Sid → List Component → List Edit
 components_dropped sid [] = []
 components_dropped sid (m ∷ ms) = components_dropped sid ms ++ DropComponent sid (carrier_of m) ∷ []
 
--- ---- what goes of a member of the first configuration, beside the member of its identifier in the second
+-- ---- what is dropped of a member of the first configuration, given the member of its identifier in the second
 
 abbrev pub service_gone : Option Service → Service → List Edit
 service_gone None s = DropService s.sid ∷ []
@@ -57,7 +57,7 @@ start_altered s t = if s.start == t.start then [] else MoveSub t.id t.start ∷ 
 abbrev pub rate_altered : Sub → Sub → List Edit
 rate_altered s t = if s.kbits == t.kbits then [] else RateSub t.id t.kbits ∷ []
 
--- a rate that falls goes first; else the move does
+-- a lower rate is set first; else the move comes first
 abbrev pub alterations : Sub → Sub → List Edit
 alterations s t =
     if nat_lt t.kbits s.kbits then rate_altered s t ++ start_altered s t
@@ -67,7 +67,7 @@ abbrev pub sub_altered : Option Sub → Sub → List Edit
 sub_altered None s = []
 sub_altered (Some t) s = if is_same_profile s.protection t.protection then alterations s t else []
 
--- ---- what comes of a member of the second configuration, beside the member of its identifier in the first
+-- ---- what is added for a member of the second configuration, given the member of its identifier in the first
 
 abbrev pub sub_new : Option Sub → Sub → List Edit
 sub_new None t = sub_added t

@@ -1,4 +1,4 @@
--- The edits that make a configuration of nothing.
+-- The edits that make a configuration from the empty one.
 use Rattle.std.specs.Prelude.{List, [], ◌∷◌, ◌++◌, map}
 use Rattle.std.specs.List.{flat_map}
 use Rattle.mux_config.specs.declared.edit.Edit.{Edit}

@@ -1,4 +1,4 @@
--- Edits that are carried out one after another.
+-- Edits that are applied one after another.
 use Rattle.std.specs.Prelude.{◌≡◌, List, [], ◌∷◌, None}
 use Rattle.mux_config.specs.declared.edit.Edit.{Edit}
 use Rattle.mux_types.specs.Configuration.{Configuration}
@@ -9,12 +9,12 @@ abbrev pub after : List Edit → Configuration → Configuration
 after [] c = c
 after (e ∷ es) c = after es (changed e c)
 
--- none has a fault in its turn
+-- none has a fault when its turn comes
 abbrev pub HaveNoFault : List Edit → Configuration → Type 0
 HaveNoFault [] c = Unit {0}
 HaveNoFault (e ∷ es) c = (edit_fault e c ≡ None) × HaveNoFault es (changed e c)
 
--- they lead from one configuration to another, and none of them has a fault on the way
+-- they turn one configuration into another, and none of them has a fault where it is applied
 pub record Lead (es : List Edit) (from to : Configuration) : Type 0 where
   pub fine : HaveNoFault es from
   pub arrive : after es from ≡ to

@@ -1,5 +1,4 @@
-//! What comes on the way from one configuration to another: members of the second that the first lacks or has
-//! otherwise.
+//! What is added between one configuration and another: members of the second that the first lacks or has otherwise.
 
 ghost use Rattle.std.specs.Prelude.{◌≡◌, ◌++◌, OnOk};
 ghost use Rattle.std.specs.List.{flat_map, AllByRecursion};

@@ -1,4 +1,4 @@
-//! The edits that lead from one configuration to another.
+//! The edits that turn one configuration into another.
 
 ghost use Rattle.std.specs.Prelude.{◌≡◌, ◌≤◌, length, IfOk};
 ghost use Rattle.mux_edits.specs.Differences.{edits_between};
@@ -11,13 +11,13 @@ use crate::staying::alter_subs;
 use mux_config::{Config, Edit};
 use std::alloc::{AllocError, Global};
 
-/// The edits that lead from one configuration to another, each kind in ascending order of identifiers: services that go,
-/// then components that go, the last of a service first; packet components and sub-channels that go; sub-channels that
-/// stay and differ; sub-channels, packet components, and services with their components that come. A sub-channel that
-/// has another profile, and a packet component that has anything otherwise, goes and comes; of the components of a
-/// service those behind the longest common beginning do.
+/// The edits that turn one configuration into another, each kind in ascending order of identifiers: services that are
+/// dropped, then components that are dropped, the last of a service first; packet components and sub-channels that are
+/// dropped; sub-channels that stay and differ; sub-channels, packet components, and services with their components that
+/// are added. A sub-channel of another profile, and a packet component that differs in anything, is dropped and added
+/// again; so are the components of a service behind the longest common prefix.
 ///
-/// None of them has a fault on the way.
+/// None of them has a fault where it is applied.
 pub fn edits_between(alloc: Global, from: &Config, to: &Config) -> Result<Vec<Edit>, AllocError>
     ensures value { IfOk result (λ v. v.items ≡ edits_between from.now to.now) }
     ensures leads { IfOk result (λ v. Lead v.items from.now to.now) }

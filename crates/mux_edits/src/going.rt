@@ -1,4 +1,4 @@
-//! What goes on the way from one configuration to another: members of the first that the second lacks or has otherwise.
+//! What is dropped between one configuration and another: members of the first that the second lacks or has otherwise.
 
 ghost use Rattle.std.specs.Prelude.{◌≡◌, ◌++◌, ◌≤◌, length, drop, OnOk};
 ghost use Rattle.std.specs.List.{flat_map};
@@ -10,7 +10,7 @@ use mux_config::{Component, Config, Edit, Packet, Service, Sid, Store, Sub};
 use mux_types::sameness::is_same_packet;
 use std::alloc::AllocError;
 
-/// How many components the longest common beginning of two lists has.
+/// The length of the longest common prefix of two lists of components.
 pub(crate) fn common(components: &[Component], others: &[Component]) -> usize
     ensures behind { drop result components.now ≡ behind components.now others.now }
     ensures bound { result ≤ length components.now }
@@ -25,7 +25,7 @@ pub(crate) fn common(components: &[Component], others: &[Component]) -> usize
     place
 }
 
-/// The edits that take components out of a service, the last one first.
+/// The edits that drop components of a service, the last one first.
 fn drop_components(
     edits: &mut Vec<Edit>,
     sid: Sid,
@@ -43,7 +43,7 @@ fn drop_components(
     Ok(())
 }
 
-/// The edit that takes a service away, where the other configuration lacks it.
+/// The edit that drops a service, where the other configuration lacks it.
 fn drop_service(edits: &mut Vec<Edit>, service: &Service, to: &Config) -> Result<(), AllocError>
     ensures { OnOk result (edits.new.items ≡ edits.old.items
         ++ service_gone (service_at service.now.sid to.now) service.now) }
@@ -54,7 +54,7 @@ fn drop_service(edits: &mut Vec<Edit>, service: &Service, to: &Config) -> Result
     }
 }
 
-/// The edits that take all components of a service behind the longest common beginning with that of the other
+/// The edits that drop all components of a service behind the longest common prefix with that of the other
 /// configuration, where there is one.
 fn cut_service(edits: &mut Vec<Edit>, service: &Service, to: &Config) -> Result<(), AllocError>
     ensures { OnOk result (edits.new.items ≡ edits.old.items
@@ -70,7 +70,7 @@ fn cut_service(edits: &mut Vec<Edit>, service: &Service, to: &Config) -> Result<
     }
 }
 
-/// The edit that takes a packet component away, where the other configuration lacks it or has it otherwise.
+/// The edit that drops a packet component, where the other configuration lacks it or has it otherwise.
 fn drop_packet(edits: &mut Vec<Edit>, packet: &Packet, to: &Config) -> Result<(), AllocError>
     ensures { OnOk result (edits.new.items ≡ edits.old.items
         ++ packet_gone (packet_at packet.now.scid to.now) packet.now) }
@@ -90,7 +90,7 @@ pub(crate) fn has_same_profile(sub: &Sub, other: &Sub) -> bool
     sub.protection == other.protection
 }
 
-/// The edit that takes a sub-channel away, where the other configuration lacks it or has it with another profile.
+/// The edit that drops a sub-channel, where the other configuration lacks it or has it with another profile.
 fn drop_sub(edits: &mut Vec<Edit>, sub: &Sub, to: &Config) -> Result<(), AllocError>
     ensures { OnOk result (edits.new.items ≡ edits.old.items
         ++ sub_gone (sub_at sub.now.id to.now) sub.now) }
@@ -103,7 +103,7 @@ fn drop_sub(edits: &mut Vec<Edit>, sub: &Sub, to: &Config) -> Result<(), AllocEr
     put(edits, Edit::DropSub(sub.id))
 }
 
-/// The edits that take away the services that the other configuration lacks.
+/// The edits that drop the services that the other configuration lacks.
 pub(crate) fn drop_services(
     edits: &mut Vec<Edit>,
     services: &[Service],
@@ -118,7 +118,7 @@ pub(crate) fn drop_services(
     Ok(())
 }
 
-/// The edits that take components out of the services that stay.
+/// The edits that drop components of the services that stay.
 pub(crate) fn cut_services(
     edits: &mut Vec<Edit>,
     services: &[Service],
@@ -133,7 +133,7 @@ pub(crate) fn cut_services(
     Ok(())
 }
 
-/// The edits that take away the packet components that the other configuration lacks or has otherwise.
+/// The edits that drop the packet components that the other configuration lacks or has otherwise.
 pub(crate) fn drop_packets(
     edits: &mut Vec<Edit>,
     packets: &[Packet],
@@ -148,7 +148,7 @@ pub(crate) fn drop_packets(
     Ok(())
 }
 
-/// The edits that take away the sub-channels that the other configuration lacks or has with another profile.
+/// The edits that drop the sub-channels that the other configuration lacks or has with another profile.
 pub(crate) fn drop_subs(edits: &mut Vec<Edit>, subs: &[Sub], to: &Config) -> Result<(), AllocError>
     ensures { OnOk result (edits.new.items ≡ edits.old.items
         ++ flat_map (λ s. sub_gone (sub_at s.id to.now) s) subs.now) }

@@ -1,4 +1,4 @@
-//! What holds of sequences of edits, whatever carries them out.
+//! What holds of sequences of edits, in any representation of a configuration.
 
 ghost use Rattle.std.specs.Prelude.{◌≡◌};
 ghost use Rattle.mux_config.specs.Configuration.{Configuration, IsConfiguration, nothing};
@@ -8,9 +8,9 @@ ghost use Rattle.mux_edits.specs.Sequences.{HaveNoFault, Lead, after};
 
 use mux_config::{Edit, Store};
 
-/// The law of sequences: the edits that make a configuration lead to it from nothing, and those between two
-/// configurations lead from one to the other; none has a fault on the way. The function does nothing; its contract is
-/// the law.
+/// The law of sequences: the edits that make a configuration turn the empty one into it, and those between two
+/// configurations turn one into the other; none has a fault where it is applied. The function does nothing; its
+/// contract is the law.
 pub fn leading()
     ensures making { (c : Configuration) → IsConfiguration c → Lead (edits_that_make c) nothing c }
     ensures between { (from to : Configuration) → IsConfiguration from → IsConfiguration to
@@ -19,7 +19,7 @@ pub fn leading()
     mux_eep::laws::sizes();
 }
 
-/// Carries edits out one after another, in any store, where none of them has a fault in its turn.
+/// Applies edits one after another, to any store, where none of them has a fault when its turn comes.
 pub fn carry_out<S: Store>(edits: &[Edit], store: &mut S)
     requires { HaveNoFault edits.now (S.content store.old) }
     ensures { S.content store.new ≡ after edits.now (S.content store.old) }

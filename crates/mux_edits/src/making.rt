@@ -1,4 +1,4 @@
-//! The edits that make a configuration of nothing.
+//! The edits that make a configuration from the empty one.
 
 ghost use Rattle.std.specs.Prelude.{◌≡◌, ◌≤◌, ◌++◌, ◌∷◌, [], length, OnOk, IfOk};
 ghost use Rattle.std.specs.List.{flat_map, AllByRecursion};
@@ -10,7 +10,7 @@ use crate::laws;
 use mux_config::{Component, Config, Edit, NewSub, Packet, Service, Sid, Sub};
 use std::alloc::{AllocError, Global};
 
-/// One item more at the end of a list.
+/// Appends an item to a list.
 pub(crate) fn put<T: Copy + Drop>(list: &mut Vec<T>, item: T) -> Result<(), AllocError>
     ensures { OnOk result (list.new.items ≡ list.old.items ++ item ∷ []) }
 {
@@ -90,8 +90,8 @@ fn add_packets(edits: &mut Vec<Edit>, packets: &[Packet]) -> Result<(), AllocErr
     Ok(())
 }
 
-/// The edits that make a configuration of nothing, at most 960: the sub-channels by SubChId; each service by SId, the
-/// 16-bit ones first, followed by its components in order; the packet components by SCId.
+/// The edits that make a configuration from the empty one, at most 960: the sub-channels by SubChId; each service by
+/// SId, the 16-bit ones first, followed by its components in order; the packet components by SCId.
 pub fn edits_that_make(alloc: Global, config: &Config) -> Result<Vec<Edit>, AllocError>
     ensures value { IfOk result (λ v. v.items ≡ edits_that_make config.now) }
     ensures leads { IfOk result (λ v. Lead v.items nothing config.now) }

@@ -1,4 +1,4 @@
-//! Sub-channels that stay on the way from one configuration to another, at another start address or rate.
+//! Sub-channels that stay between one configuration and another, at another start address or rate.
 
 ghost use Rattle.std.specs.Prelude.{◌≡◌, ◌++◌, OnOk};
 ghost use Rattle.std.specs.List.{flat_map};
@@ -37,8 +37,8 @@ fn rate_sub(edits: &mut Vec<Edit>, sub: &Sub, other: &Sub) -> Result<(), AllocEr
     put(edits, Edit::RateSub { id, kbits })
 }
 
-/// The edits that make a sub-channel the other one of its profile: a rate that falls goes first, so that it ends at or
-/// before the last capacity unit in between; else the move does.
+/// The edits that make a sub-channel the other one of its profile: a lower rate is set first, so that the sub-channel
+/// ends at or before the last capacity unit in between; else the move comes first.
 fn alter(edits: &mut Vec<Edit>, sub: &Sub, other: &Sub) -> Result<(), AllocError>
     requires { IsPlaced other.now }
     ensures { OnOk result (edits.new.items ≡ edits.old.items ++ alterations sub.now other.now) }

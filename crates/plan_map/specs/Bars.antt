@@ -12,13 +12,13 @@ abbrev pub kind_word : RowKind → List ℕ
 kind_word Begin = codes "begin"
 kind_word Commit = codes "commit"
 
--- blanks behind a number of at most five digits
+-- the blanks after a number of at most five digits
 abbrev pub padding : ℕ → List ℕ
 padding line =
     if nat_lt line 10 then codes "    " else if nat_lt line 100 then codes "   "
     else if nat_lt line 1000 then codes "  " else if nat_lt line 10000 then codes " " else codes ""
 
--- a blank where the word is shorter
+-- a blank where the keyword is shorter
 abbrev pub filling : RowKind → List ℕ
 filling Begin = codes " "
 filling Commit = codes ""

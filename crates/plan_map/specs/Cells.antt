@@ -13,11 +13,11 @@ size_if_any (Err fault) = 0
 abbrev pub units_of : Sub → ℕ
 units_of s = size_if_any (size_or_fault s.protection s.kbits)
 
--- the first unit behind it
+-- the first unit after it
 abbrev pub end_of : Sub → ℕ
 end_of s = s.start + units_of s
 
--- how many of the 12 units of a cell it has: those of the cell's that are not before it and not behind it
+-- how many of the 12 units of a cell it has: all but those before its first and after its last
 abbrev pub units_in : ℕ → Sub → ℕ
 units_in cell s = min (end_of s) (cell * 12 + 12) - max s.start (cell * 12)
 
@@ -37,7 +37,7 @@ fullest cell best (s ∷ ss) = fullest cell (fuller cell best s) ss
 abbrev pub holder : ℕ → List Sub → Option Sub
 holder cell subs = fullest cell None subs
 
--- what is left of some units behind sub-channels
+-- what is left of some units without those of sub-channels
 abbrev pub left_of : ℕ → List Sub → ℕ
 left_of free [] = free
 left_of free (s ∷ ss) = left_of (free - units_of s) ss

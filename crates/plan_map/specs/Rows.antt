@@ -20,8 +20,8 @@ abbrev pub declared_by : Program → Option Label → Configuration → Configur
 declared_by p None next = next
 declared_by p (Some l) next = or_else (slice_get p.configurations l.next) next
 
--- the next configuration at a place, where the instruction before left this one: what a label there declares, if one
--- stands there
+-- the next configuration at a pc, where the instruction before left this one: what a label there declares, if
+-- there is one
 abbrev pub known_next : Program → ℕ → Configuration → Configuration
 known_next p pc next = declared_by p (label_at p pc) next
 
@@ -29,7 +29,7 @@ known_next p pc next = declared_by p (label_at p pc) next
 abbrev pub opening_of : Program → Configuration
 opening_of p = known_next p 0 nothing
 
--- what an instruction leaves of the next configuration: an edit changes it, but for one that has a fault
+-- the next configuration after an instruction: an edit that has no fault changes it
 abbrev pub unless_at_fault : Option EditFault → Configuration → Configuration → Configuration
 unless_at_fault None after before = after
 unless_at_fault (Some fault) after before = before
@@ -68,7 +68,7 @@ commits (Loop k t) = false
 abbrev pub row_at : Line → Configuration → List Row
 row_at l here = if commits l.instr then record { kind = Commit; line = l.number; config = here } ∷ [] else []
 
--- the commits of instructions from a place on, each with what it commits
+-- the commits of instructions from a pc on, each with what it commits
 abbrev pub commits_from : Program → ℕ → Configuration → List Line → List Row
 commits_from p pc next [] = []
 commits_from p pc next (l ∷ ls) =

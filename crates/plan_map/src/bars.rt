@@ -9,11 +9,11 @@ use mux_config::{Config, Sid, Sub, SubId};
 use mux_eep::{CAPACITY_UNITS, EepSet, Protection};
 use std::io::{self, Write};
 
-/// The narrowest sub-channel, in capacity units, in which a label has room from left to right.
+/// The narrowest sub-channel, in capacity units, with room for a horizontal label.
 const WIDE: u16 = 36;
 
-/// Writes the colour of a sub-channel: its own, whatever the row is. Successive numbers lie far apart on the colour
-/// wheel, and those 21 apart, which lie close, are lighter or darker.
+/// Writes the colour of a sub-channel, the same in every row. Successive identifiers are far apart on the colour wheel,
+/// and those 21 apart, which are close, are lighter or darker.
 pub(crate) fn draw_colour<W: Write>(id: SubId, out: &mut W) -> io::Result<()> {
     let number = u32::from(id.get());
     let hue = number * 137 % 360;
@@ -35,7 +35,7 @@ fn draw_profile<W: Write>(protection: Protection, out: &mut W) -> io::Result<()>
     }
 }
 
-/// Writes an SId in digits.
+/// Writes an SId in hexadecimal digits.
 pub(crate) fn draw_sid<W: Write>(sid: Sid, out: &mut W) -> io::Result<()> {
     match sid {
         Sid::Short(number) => write!(out, "{number:04X}"),
@@ -54,7 +54,7 @@ fn draw_services<W: Write>(config: &Config, id: SubId, out: &mut W) -> io::Resul
     Ok(())
 }
 
-/// Writes what a screen reader says of a sub-channel.
+/// Writes the description of a sub-channel for screen readers.
 fn draw_title<W: Write>(sub: &Sub, config: &Config, out: &mut W) -> io::Result<()> {
     let id = sub.id.get();
     let start = sub.start;
@@ -69,7 +69,7 @@ fn draw_title<W: Write>(sub: &Sub, config: &Config, out: &mut W) -> io::Result<(
     out.write_all(b"</title>")
 }
 
-/// Writes the label of a sub-channel in three lines, around this middle.
+/// Writes the label of a sub-channel in three lines, centred here.
 fn draw_wide_label<W: Write>(sub: &Sub, x: u32, y: u32, out: &mut W) -> io::Result<()> {
     let id = sub.id.get();
     let kbits = sub.kbits;
@@ -92,7 +92,7 @@ fn draw_wide_label<W: Write>(sub: &Sub, x: u32, y: u32, out: &mut W) -> io::Resu
     out.write_all(b"</text>\n")
 }
 
-/// Writes the label of a sub-channel in one line from below, in letters as high as the sub-channel has room for.
+/// Writes the label of a sub-channel in one vertical line, in letters as large as the sub-channel has room for.
 fn draw_narrow_label<W: Write>(sub: &Sub, x: u32, y: u32, out: &mut W) -> io::Result<()> {
     let id = sub.id.get();
     let kbits = sub.kbits;
@@ -107,7 +107,7 @@ fn draw_narrow_label<W: Write>(sub: &Sub, x: u32, y: u32, out: &mut W) -> io::Re
     out.write_all(b"</text>\n")
 }
 
-/// Writes a sub-channel of a row that begins at `y` from above.
+/// Writes a sub-channel of a row whose top is at `y`.
 fn draw_sub<W: Write>(sub: &Sub, config: &Config, y: u32, out: &mut W) -> io::Result<()> {
     let x = LEFT + u32::from(sub.start) * UNIT;
     let width = u32::from(units_of(sub)) * UNIT;
@@ -127,8 +127,7 @@ fn draw_sub<W: Write>(sub: &Sub, config: &Config, y: u32, out: &mut W) -> io::Re
     out.write_all(b"</g>\n")
 }
 
-/// The first capacity unit of a sub-channel that begins at this one or behind it; the end of the multiplex where none
-/// does.
+/// The first capacity unit from this one on at which a sub-channel begins; the end of the multiplex where none does.
 fn next_start(subs: &[Sub], from: u32) -> u32 {
     let mut next = u32::from(CAPACITY_UNITS);
     for sub in subs {
@@ -178,7 +177,7 @@ fn draw_gap<W: Write>(subs: &[Sub], from: u32, y: u32, out: &mut W) -> io::Resul
     )
 }
 
-/// Writes a row that begins at `y` from above: its label, its bar, and how many capacity units are free.
+/// Writes a row whose top is at `y`: its label, its bar, and how many capacity units are free.
 pub(crate) fn draw_row<W: Write>(row: &Row, y: u32, out: &mut W) -> io::Result<()> {
     let subs = row.config.subs();
     let word = kind_word(row.kind);

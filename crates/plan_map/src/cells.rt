@@ -24,7 +24,7 @@ pub fn units_of(sub: &Sub) -> u16
     }
 }
 
-/// The first capacity unit behind a sub-channel.
+/// The first capacity unit after a sub-channel.
 pub fn end_of(sub: &Sub) -> u32
     ensures { result ≡ end_of sub.now }
 {
@@ -42,7 +42,7 @@ fn units_in(cell: u16, sub: &Sub) -> u32
     high.saturating_sub(low)
 }
 
-/// How many of them the best sub-channel so far has; none where there is none.
+/// How many of them the sub-channel with the most so far has; 0 where there is none.
 fn most_units(cell: u16, best: &Option<Sub>) -> u32
     requires { cell < 72 }
     ensures { result ≡ most_units cell best.now }
@@ -53,8 +53,7 @@ fn most_units(cell: u16, best: &Option<Sub>) -> u32
     }
 }
 
-/// Of a sub-channel, where there is one so far, and another the one that has more of a cell; the first where both have as
-/// much.
+/// The one of two sub-channels that has more of a cell; the first where both have as much. There may be no first.
 fn fuller(cell: u16, best: Option<Sub>, sub: &Sub) -> Option<Sub>
     requires { cell < 72 }
     ensures { result ≡ fuller cell best sub.now }
@@ -66,7 +65,7 @@ fn fuller(cell: u16, best: Option<Sub>, sub: &Sub) -> Option<Sub>
     }
 }
 
-/// The sub-channel that has most of a cell, and the first of those that have as much; None where the cell is free.
+/// The sub-channel that has most of a cell, the first in a tie; None where the cell is free.
 pub fn holder(cell: u16, subs: &[Sub]) -> Option<Sub>
     requires { cell < 72 }
     ensures value { result ≡ holder cell subs.now }
@@ -80,7 +79,7 @@ pub fn holder(cell: u16, subs: &[Sub]) -> Option<Sub>
     best
 }
 
-/// The capacity units that no sub-channel has, where no two share any: 864 less the sizes of all.
+/// How many capacity units are free, where no two sub-channels share any: 864 less the sizes of all.
 pub fn free_units(subs: &[Sub]) -> u16
     ensures { result ≡ free_units subs.now }
 {

@@ -1,4 +1,4 @@
-//! A map as a drawing: an SVG document, in which a capacity unit is two units of length wide.
+//! A map as a drawing: an SVG document, in which a capacity unit is two units wide.
 
 use crate::bars::draw_row;
 use crate::cells::CELLS;
@@ -8,25 +8,25 @@ use crate::rows::Row;
 use mux_eep::CAPACITY_UNITS;
 use std::io::{self, Write};
 
-/// How wide a capacity unit is.
+/// The width of a capacity unit.
 pub(crate) const UNIT: u32 = 2;
 
-/// Where the bars begin, from the left.
+/// The left edge of the bars.
 pub(crate) const LEFT: u32 = 120;
 
-/// Where the first row begins, from above.
+/// The top of the first row.
 pub(crate) const TOP: u32 = 64;
 
-/// How high a bar is.
+/// The height of a bar.
 pub(crate) const BAR: u32 = 92;
 
-/// From one row to the next.
+/// The distance from one row to the next.
 pub(crate) const ROW: u32 = 116;
 
-/// How wide the drawing is.
+/// The width of the drawing.
 const WIDTH: u32 = 1980;
 
-/// Writes the head of a drawing of this height: its size, what it shows, and the pattern of free units.
+/// Writes the header of a drawing of this height: its size, its title, and the pattern of free units.
 fn draw_head<W: Write>(eid: u16, rows: usize, height: u32, out: &mut W) -> io::Result<()> {
     writeln!(
         out,
@@ -49,7 +49,7 @@ fn draw_head<W: Write>(eid: u16, rows: usize, height: u32, out: &mut W) -> io::R
     )
 }
 
-/// Writes the scale of capacity units, with a line down through all rows for each 72 of them.
+/// Writes the scale of capacity units, with a vertical line through all rows every 72 of them.
 fn draw_scale<W: Write>(bottom: u32, out: &mut W) -> io::Result<()> {
     let top = TOP - 8;
     let label = TOP - 14;
@@ -69,7 +69,7 @@ fn draw_scale<W: Write>(bottom: u32, out: &mut W) -> io::Result<()> {
 }
 
 /// Writes a map as an SVG document: the rows one under another with the sub-channels to scale, each in a colour of its
-/// own that stays through all rows, free units hatched, and below them the key of the services.
+/// own in all rows, free units hatched, and below them the key of the services.
 pub fn draw_map<W: Write>(eid: u16, rows: &[Row], key: &[Use], out: &mut W) -> io::Result<()> {
     let count = rows.len().min(100_000) as u32;
     let bottom = TOP + count * ROW;

@@ -13,8 +13,8 @@ pub struct Use {
     pub sub: SubId,
 }
 
-/// The sub-channel that carries a component: that of its packet component in packet mode. None where that one is not
-/// there.
+/// The sub-channel that carries a component: that of its packet component in packet mode. None where that does not
+/// exist.
 pub(crate) fn sub_of(config: &Config, component: &Component) -> Option<SubId> {
     match *component {
         Component::Sound { sub, .. } => Some(sub),
@@ -66,12 +66,12 @@ fn add_config(key: &mut Vec<Use>, config: &Config) -> Result<(), AllocError> {
     Ok(())
 }
 
-/// The key of these rows: each service of any of them with each sub-channel that carries a component of it there, in the
-/// order in which they are met.
+/// The key of these rows: each service of any of them with each sub-channel that carries a component of it there, in
+/// the order of their first rows.
 ///
 /// # Errors
 ///
-/// Where there is no memory for it.
+/// Out of memory.
 pub fn key_of(alloc: Global, rows: &[Row]) -> Result<Vec<Use>, AllocError> {
     let mut key = Vec::new(alloc);
     for row in rows {

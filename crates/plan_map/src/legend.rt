@@ -7,16 +7,16 @@ use crate::key::Use;
 use mux_config::Sid;
 use std::io::{self, Write};
 
-/// How many services stand side by side.
+/// The number of columns.
 const COLUMNS: u32 = 3;
 
-/// From one service to the one beside it, which has room for twelve sub-channels.
+/// The distance from one column to the next, which has room for twelve sub-channels.
 const COLUMN: u32 = 640;
 
-/// From one service to the one below it.
+/// The distance from one service to the one below it.
 const ENTRY: u32 = 26;
 
-/// The most services that a key has room for; the others are left out.
+/// The most services that a key has room for; the others are omitted.
 const MOST: u32 = 100_000;
 
 /// Whether an entry of a key is the first of its service.
@@ -42,7 +42,7 @@ fn service_count(key: &[Use]) -> u32
     count.min(MOST)
 }
 
-/// How high the key is, with its heading.
+/// The height of the key, with its heading.
 pub(crate) fn legend_height(key: &[Use]) -> u32
     ensures { result ≤ 3000000 }
 {

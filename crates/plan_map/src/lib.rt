@@ -1,7 +1,7 @@
 //! The map of a plan: which capacity units each sub-channel has, at first and after each commit.
 //!
-//! [`rows_of`] gives the rows of a code, [`print_map`] writes them as text, and [`draw_map`] as a drawing to scale. Which
-//! rows a code has is defined in `specs/Rows.antt`, and what stands in a row of the text in `specs/Bars.antt`.
+//! [`rows_of`] returns the rows of a code, [`print_map`] writes them as text, and [`draw_map`] as a drawing to scale.
+//! Which rows a code has is defined in `specs/Rows.antt`, and the text of a row in `specs/Bars.antt`.
 #![tactic(auto)]
 
 mod bars;

@@ -7,7 +7,7 @@ use mux_config::Config;
 use plan_code::{Code, Instr, Line};
 use std::alloc::{AllocError, Global};
 
-/// What a row of a map stands for.
+/// What a row of a map shows.
 #[derive(Clone, Copy, Debug, PartialEq, Eq)]
 pub enum RowKind {
     /// The configuration that the plan begins with.
@@ -19,7 +19,7 @@ pub enum RowKind {
 /// A row of a map: a configuration, and the line of the script that it comes from.
 #[derive(Drop)]
 pub struct Row {
-    /// What it stands for.
+    /// What it shows.
     pub kind: RowKind,
     /// The line of `begin`, or that of the commit.
     pub line: u16,
@@ -27,8 +27,8 @@ pub struct Row {
     pub config: Config,
 }
 
-/// The next configuration at a place of a code, where the instruction before left this one: that of the label, where one
-/// stands there.
+/// The next configuration at a pc of a code, where the instruction before left this one: that of the label there, if
+/// there is one.
 fn enter(code: &Code, pc: u16, next: &mut Config)
     ensures { next.new ≡ known_next code.now pc next.old }
 {
@@ -40,7 +40,7 @@ fn enter(code: &Code, pc: u16, next: &mut Config)
     }
 }
 
-/// What an instruction leaves of the next configuration. An edit that has a fault leaves it as it was.
+/// Applies an instruction to the next configuration. An edit that has a fault leaves it unchanged.
 fn follow(instr: Instr, next: &mut Config)
     ensures { next.new ≡ left_by instr next.old }
 {
@@ -56,7 +56,17 @@ fn commits(instr: Instr) -> bool
     match instr {
         Instr::CommitIn(_) => true,
         Instr::CommitAt(_) => true,
-        _ => false,
+        Instr::Edit(_) => false,
+        Instr::Wait(_) => false,
+        Instr::Until(_) => false,
+        Instr::WaitContact { .. } => false,
+        Instr::Join => false,
+        Instr::Settle => false,
+        Instr::End => false,
+        Instr::Test { .. } => false,
+        Instr::Jump(_) => false,
+        Instr::Set { .. } => false,
+        Instr::Loop { .. } => false,
     }
 }
 
@@ -73,7 +83,7 @@ fn row_of(kind: RowKind, line: u16, config: &Config) -> Row
     }
 }
 
-/// One row more.
+/// Appends a row.
 fn push(rows: &mut Vec<Row>, row: Row) -> Result<(), AllocError>
     ensures { OnOk result (rows.new.items ≡ rows.old.items ++ row ∷ []) }
 {
@@ -83,7 +93,7 @@ fn push(rows: &mut Vec<Row>, row: Row) -> Result<(), AllocError>
     }
 }
 
-/// A row more, where an instruction commits this configuration.
+/// Appends a row, where an instruction commits this configuration.
 fn push_commit(rows: &mut Vec<Row>, line: &Line, next: &Config) -> Result<(), AllocError>
     ensures { OnOk result (rows.new.items ≡ rows.old.items ++ row_at line.now next.now) }
 {
@@ -94,12 +104,12 @@ fn push_commit(rows: &mut Vec<Row>, line: &Line, next: &Config) -> Result<(), Al
 }
 
 /// The rows of a code's map: its opening at the line of `begin`, and what is committed at each commit, in the order of
-/// the code, which is that of the script's text with each block where it is applied. Where a label stands, the next
-/// configuration is the one that it declares: what holds there whichever way was taken.
+/// the code, which is that of the script's text with each block where it is applied. At a label, the next configuration
+/// is the one that it declares: what holds there on every path.
 ///
 /// # Errors
 ///
-/// Where there is no memory for a row.
+/// Out of memory.
 #[tactic(auto, using(crate::proofs::Walking::row_more, crate::proofs::Walking::rows_all))]
 pub fn rows_of(alloc: Global, begin_line: u16, code: &Code) -> Result<Vec<Row>, AllocError>
     ensures { IfOk result (λ v. v.items ≡ rows_of begin_line code.now) }

@@ -10,7 +10,7 @@ use crate::rows::{Row, RowKind};
 use mux_config::Sub;
 use std::io::{self, Write};
 
-/// The word of the statement that a row stands for.
+/// The keyword of the statement that a row shows.
 pub fn kind_word(kind: RowKind) -> &'static str
     ensures { result.now ≡ kind_word kind }
 {
@@ -20,7 +20,7 @@ pub fn kind_word(kind: RowKind) -> &'static str
     }
 }
 
-/// The blanks behind the number of a line, with which it takes five columns.
+/// The blanks after the number of a line, with which it takes five columns.
 fn padding(line: u16) -> &'static str
     ensures { result.now ≡ padding line }
 {
@@ -39,7 +39,7 @@ fn padding(line: u16) -> &'static str
     ""
 }
 
-/// A blank where the word of a row is the shorter one.
+/// A blank where the keyword of a row is the shorter one.
 fn filling(kind: RowKind) -> &'static str
     ensures { result.now ≡ filling kind }
 {
@@ -108,9 +108,9 @@ fn print_row<W: Write>(row: &Row, out: &mut W) -> io::Result<()>
     print_free(free_units(subs), out)
 }
 
-/// Prints a map: a line for each row, with the statement and its line in 12 columns, the 72 cells of 12 capacity units in
-/// two columns each, and how many capacity units are free. A cell has the number of the sub-channel that has most of it,
-/// of the first of those that have as much, and `..` where no sub-channel has any of it.
+/// Prints a map: a line for each row, with the statement and its line in 12 columns, the 72 cells of 12 capacity units
+/// in two columns each, and how many capacity units are free. A cell has the number of the sub-channel that has most of
+/// it, the first in a tie, and `..` where no sub-channel has any of it.
 pub fn print_map<W: Write>(rows: &[Row], out: &mut W) -> io::Result<()>
     ensures { OnOk result (Appends (W.contents out.old) (W.contents out.new) (map_text rows.now)) }
 {

@@ -1,4 +1,4 @@
--- What acts of a plan come to, frame by frame.
+-- The acts of a plan, frame by frame.
 use Rattle.std.specs.Prelude.{ℕ, ◌-◌, ◌≤◌, Bool, true, false, if◌then◌else◌, List, [], ◌∷◌}
 use Rattle.mux_config.specs.declared.edit.Edit.{Edit}
 use Rattle.script_front.specs.declared.tree.Act.{Act}
@@ -10,7 +10,7 @@ edits_in [] = []
 edits_in (Edits e ∷ acts) = e ∷ edits_in acts
 edits_in (_ ∷ acts) = edits_in acts
 
--- whatever comes, the next act is of a later frame
+-- in any case, the next act is in a later frame
 abbrev pub ends_frame : Act → Bool
 ends_frame (Wait frames) = true
 ends_frame (WaitContact contact closed) = true
@@ -18,7 +18,7 @@ ends_frame (Until second) = true
 ends_frame Join = true
 ends_frame _ = false
 
--- for so many acts this frame still has room, and each later one for the most
+-- this frame still has room for this many acts, and each later one for the most
 abbrev pub FitFrames : (most left : ℕ) → List Act → Type 0
 FitFrames most left [] = Unit {0}
 FitFrames most left (act ∷ acts) = (1 ≤ left) × FitFrames most (if ends_frame act then most else left - 1) acts

@@ -1,4 +1,4 @@
--- Why no plan leads from one opening to another.
+-- Why no plan turns one opening into another.
 use Rattle.std.specs.Prelude.{◌≡◌, ◌≢◌, ◌*◌, ◌≤◌, Some, None}
 use Rattle.fib_carousel.specs.Pages.{page_set, rounds}
 use Rattle.script_diff.specs.declared.opening.Opening.{Opening}
@@ -18,14 +18,14 @@ pub record HaveRoom (from to : Opening) : Type 0 where
   pub within_period : rounds to.header.mode (page_set from.config (Some to.config)) ≤ to.header.period
   pub three_times : 3 * rounds to.header.mode (page_set from.config (Some to.config)) ≤ to.header.notice
 
--- nothing is in the way of a plan
+-- no refusal holds
 pub record CanLead (from to : Opening) : Type 0 where
   pub one_ensemble : IsOneEnsemble from to
   pub changes : from.config ≢ to.config
   pub room : HaveRoom from to
   pub budget : 2 ≤ to.header.budget
 
--- this is in the way, and nothing that is tested before it
+-- this refusal holds, and none that is tested before it
 abbrev pub IsInTheWay : Opening → Opening → DiffFault → Type 0
 IsInTheWay from to AnotherEnsemble = IsOneEnsemble from to → ⊥
 IsInTheWay from to NoChange = IsOneEnsemble from to × (from.config ≡ to.config)

@@ -9,10 +9,10 @@ use script_opening::{ItemFault, opening_of};
 use std::alloc::Global;
 use thiserror::Error;
 
-/// What a script begins with; its blocks and statements are parsed and go no further.
+/// What a script begins with; its blocks and statements are parsed and not compiled.
 #[derive(Drop)]
 pub struct Opening {
-    /// What it declares.
+    /// Its header.
     pub header: Header,
     /// The line of `begin`, 1 to 65,535.
     pub begin_line: u16,
@@ -20,7 +20,7 @@ pub struct Opening {
     pub config: Config,
 }
 
-/// Why a text has no opening, in the order of the tests. Printed it is as `compile` prints it.
+/// Why a text has no opening, in the order of the tests. It is printed as `compile` prints it.
 #[derive(Clone, Copy, Debug, PartialEq, Eq, Error)]
 pub enum OpeningFault {
     /// The text is no script.
@@ -32,14 +32,14 @@ pub enum OpeningFault {
     /// The configuration is not sound; the line is that of `begin`.
     #[error("refused line {line}: Config {fault}")]
     Unsound { line: u16, fault: ConfigFault },
-    /// There was no memory.
+    /// Out of memory.
     #[error("no memory")]
     Memory,
 }
 
 /// What the script of a text begins with, where that is sound.
 ///
-/// The first fault is answered, in the order of [`OpeningFault`].
+/// The first fault is returned, in the order of [`OpeningFault`].
 pub fn opened(alloc: Global, text: &str) -> Result<Opening, OpeningFault>
     ensures opens { IfOk result (Opens text.now) }
     ensures formed { IfOk result IsOpening }

@@ -18,7 +18,7 @@ use script_front::{Act, Header, Script};
 use script_opening::script_of;
 use std::alloc::{AllocError, Global};
 
-/// One item more at the end of a list.
+/// Appends an item to a list.
 fn put<T: Drop>(list: &mut Vec<T>, item: T) -> Result<(), AllocError>
     ensures { OnOk result (list.new.items ≡ list.old.items ++ item ∷ []) }
 {
@@ -76,9 +76,9 @@ fn acts_between(
     Ok(acts)
 }
 
-/// The plan of this header that begins with one configuration and leads to the other by one reconfiguration: the edits
-/// between them in order, a commit with the header's notice, and `join`. After each edit whose number, from 1, is a
-/// multiple of one less than the budget stands `wait 1`, so that no frame has more instructions than the budget.
+/// The plan of this header that turns one configuration into the other by one reconfiguration: the edits between them
+/// in order, a commit with the header's notice, and `join`. Each edit whose number, from 1, is a multiple of one less
+/// than the budget is followed by `wait 1`, so that no frame has more instructions than the budget.
 pub fn plan_between(
     alloc: Global,
     header: Header,

@@ -1,4 +1,4 @@
-//! Why no plan leads from one script's opening to another's.
+//! Why no plan turns one script's opening into another's.
 
 ghost use Rattle.std.specs.Prelude.{◌↔◌, ◌≤◌, IsTrue, IfSome, IfNone};
 ghost use Rattle.script_diff.specs.Refusals.{FitsPeriod, IsOneEnsemble, HaveRoom, CanLead, IsInTheWay};
@@ -8,16 +8,17 @@ use fib_carousel::pages;
 use mux_config::{Config, Store};
 use thiserror::Error;
 
-/// Why no plan leads from one opening to another, in the order of the tests.
+/// Why no plan turns one opening into another, in the order of the tests.
 #[derive(Clone, Copy, Debug, PartialEq, Eq, Error)]
 pub enum DiffFault {
-    /// They are of different ensembles or transmission modes.
+    /// Their ensembles or transmission modes differ.
     #[error("refused: another ensemble")]
     AnotherEnsemble,
     /// They have the same configuration.
     #[error("refused: NoChange")]
     NoChange,
-    /// The pages of both configurations together take longer than the period, or three times them longer than the notice.
+    /// The pages of both configurations together take longer than the period, or three cycles of them longer than the
+    /// notice.
     #[error("refused: Round")]
     Round,
     /// The budget is 1, so that no frame has room for an edit.
@@ -33,7 +34,7 @@ pub fn fits_period(opening: &Opening) -> bool
     pages(opening.header.mode, &opening.config, alone) <= usize::from(opening.header.period)
 }
 
-/// Whether two openings are of one ensemble and transmission mode.
+/// Whether two openings have the same ensemble and transmission mode.
 fn is_one_ensemble(from: &Opening, to: &Opening) -> bool
     ensures { IsTrue result ↔ IsOneEnsemble from.now to.now }
 {
@@ -48,7 +49,7 @@ fn have_room(from: &Opening, to: &Opening) -> bool
     both <= usize::from(to.header.period) && both <= usize::from(to.header.notice) / 3
 }
 
-/// Why no plan of the second opening's header leads from the first to it; None where one does.
+/// Why no plan of the second opening's header turns the first into it; None where one does.
 pub fn fault_between(from: &Opening, to: &Opening) -> Option<DiffFault>
     requires { 1 ≤ to.now.header.budget }
     ensures fault { IfSome result (IsInTheWay from.now to.now) }

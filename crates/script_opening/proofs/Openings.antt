@@ -1,4 +1,4 @@
--- Items carried out one after another: how far the loop has come, and what it comes to.
+-- Items applied one after another: the loop's invariant and its result.
 use Rattle.std.proofs.Common.{◌≡◌, ℕ, ◌+◌, ◌<◌, ◌≤◌, List, [], ◌∷◌, length, get_or, drop, Option, Some, None, Result, Ok, Err, refl, sym, ap, ◌∙◌}
 use Rattle.std.proofs.lemmas.List.{drop_more, drop_all}
 use Rattle.mux_types.specs.Configuration.{Configuration}

@@ -12,7 +12,7 @@ use script_front::{Item, Script};
 use thiserror::Error;
 
 /// Why the items of a script make no configuration: the first of them that has a fault, with its line, 1 to 65,535 in a
-/// script that was read. Printed it is as `compile` prints it.
+/// script that was read. It is printed as `compile` prints it.
 #[derive(Clone, Copy, Debug, PartialEq, Eq, Error)]
 #[error("refused line {line}: Edit {fault}")]
 pub struct ItemFault {
@@ -36,7 +36,7 @@ fn add(item: &Item, config: &mut Config) -> Result<(), ItemFault>
     }
 }
 
-/// The configuration that these items make of nothing.
+/// The configuration that these items make from the empty one.
 #[tactic(auto, using(crate::proofs::Openings::made_leads))]
 fn made_by(items: &[Item]) -> Result<Config, ItemFault>
     ensures value { result ≡ made_by items.now nothing }
@@ -51,8 +51,8 @@ fn made_by(items: &[Item]) -> Result<Config, ItemFault>
     Ok(config)
 }
 
-/// The configuration that a script begins with: what its items make of nothing, sound or not. The first item that has a
-/// fault is told, with its line.
+/// The configuration that a script begins with: what its items make from the empty one, sound or not. The first item
+/// that has a fault is reported, with its line.
 pub fn opening_of(script: &Script) -> Result<Config, ItemFault>
     ensures value { result ≡ made_by script.now.items nothing }
     ensures leads { IfOk result (λ c. Lead (added_by script.now.items) nothing c) }

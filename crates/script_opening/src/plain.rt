@@ -1,4 +1,4 @@
-//! Scripts without blocks, of a configuration and of what is done after `begin`.
+//! Scripts without blocks, of a configuration and the acts after `begin`.
 
 ghost use Rattle.std.specs.Prelude.{◌≡◌, ◌≤◌, ◌+◌, ◌++◌, ◌∷◌, [], length, OnOk, IfOk};
 ghost use Rattle.std.specs.List.{All};
@@ -16,10 +16,10 @@ use script_front::make::acting;
 use script_front::{Act, Header, Item, Names, Script, Statement};
 use std::alloc::{AllocError, Global};
 
-/// The most acts of a script of a configuration.
+/// The most acts of such a script.
 pub const MOST_ACTS: usize = 7000;
 
-/// One item more at the end of a list.
+/// Appends an item to a list.
 fn put<T: Drop>(list: &mut Vec<T>, item: T) -> Result<(), AllocError>
     ensures { OnOk result (list.new.items ≡ list.old.items ++ item ∷ []) }
 {
@@ -58,8 +58,8 @@ fn statements_from(alloc: Global, first: u16, acts: &[Act]) -> Result<Vec<Statem
     Ok(statements)
 }
 
-/// The script of this header that begins with a configuration, sound or not, and then does this: the edits that make
-/// the configuration as items, and each act as a statement, on the lines on which `print` prints them.
+/// The script of this header that begins with a configuration, sound or not, followed by these acts: the edits that
+/// make the configuration as items, and each act as a statement, on the lines on which `print` prints them.
 pub fn script_of(
     alloc: Global,
     header: Header,

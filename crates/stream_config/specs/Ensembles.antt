@@ -5,7 +5,7 @@ use Rattle.fib_reader.specs.declared.fault.FibFault.{FibFault}
 use Rattle.fib_reader.specs.Faults.{IsFibFault}
 use Rattle.fib_reader.specs.Raw.{Raw, entries_in, ensemble_in}
 
--- an entry of FIG 0/0 names its ensemble, and any other one none
+-- an entry of FIG 0/0 names its ensemble; other entries name none
 abbrev pub named_by_entry : Raw → Option ℕ → Option ℕ
 named_by_entry raw before = if raw.ext == 0 then Some (ensemble_in raw).eid else before
 
@@ -17,7 +17,7 @@ abbrev pub named_by_figs : List Fig → Option ℕ → Option ℕ
 named_by_figs [] before = before
 named_by_figs (fig ∷ figs) before = named_by_figs figs (named_by_entries (entries_in fig) before)
 
--- after these FIBs this ensemble is named, where that one was before them; a damaged FIB names none
+-- the ensemble that is named last after these FIBs, given the one before them; a damaged FIB names none
 abbrev pub NamesAfter : List (List ℕ) → Option ℕ → Option ℕ → Type 0
 NamesAfter [] before after = after ≡ before
 NamesAfter (fib ∷ fibs) before after =

@@ -9,8 +9,8 @@ use Rattle.script_front.specs.Denoting.{Denotes}
 use Rattle.script_front.specs.Printing.{text_of_lines, tree_lines}
 use Rattle.script_front.specs.Tree.{Tree, IsScript}
 
--- the text denotes a script of this header, laid out as scripts are printed; its items make the configuration of nothing,
--- and none of them has a fault; it defines nothing and does nothing
+-- the text denotes a script of this header, laid out as scripts are printed; its items make the configuration from
+-- the empty one, and none of them has a fault; it has no blocks and no statements
 pub record IsTextOf (header : Header) (c : Configuration) (text : List ℕ) : Type 0 where
   pub tree : Tree
   pub script : IsScript tree
@@ -22,6 +22,6 @@ pub record IsTextOf (header : Header) (c : Configuration) (text : List ℕ) : Ty
   pub denotes : Denotes text tree
   pub layout : text ≡ text_of_lines (tree_lines tree)
 
--- room for as many pages again, and a frame more; 4 frames at least and 60 at most
+-- room for twice the pages, and one frame more; 4 frames at least and 60 at most
 abbrev pub usual_period : (pages : ℕ) → ℕ
 usual_period pages = if nat_lt (2 * pages + 1) 4 then 4 else if nat_lt 60 (2 * pages + 1) then 60 else 2 * pages + 1

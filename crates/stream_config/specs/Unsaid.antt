@@ -1,4 +1,4 @@
--- Entries that no configuration has.
+-- Entries of no configuration.
 use Rattle.std.specs.Prelude.{◌≡◌, ◌++◌, ◌⊎◌, List, [], ◌∷◌, map, Contains}
 use Rattle.mux_config.specs.Configuration.{Configuration, IsConfiguration}
 use Rattle.mux_entries.specs.Facts.{sub_entries, service_entries}
@@ -12,7 +12,7 @@ abbrev pub AreSaid : List Raw → Type 0
 AreSaid [] = Unit {0}
 AreSaid (raw ∷ raws) = IsSaid raw × AreSaid raws
 
--- the first of entries that none has
+-- the first entry that no configuration has
 abbrev pub IsFirstUnsaid : List Raw → Raw → Type 0
 IsFirstUnsaid [] raw = ⊥
 IsFirstUnsaid (first ∷ others) raw = (IsSaid first × IsFirstUnsaid others raw) ⊎ ((first ≡ raw) × (IsSaid first → ⊥))

@@ -5,7 +5,7 @@ ghost use Rattle.stream_config.specs.Ensembles.{named_by_entries, named_by_figs,
 
 use fib_reader::{Entries, Figs, check};
 
-/// The EId that the entries of one FIG name, or where they name none the one before.
+/// The EId that the entries of one FIG name; where they name none, the previous one.
 fn eid_of_entries(mut entries: Entries<'_>, before: Option<u16>) -> Option<u16>
     ensures { result ≡ named_by_entries entries.entry before }
 {
@@ -18,7 +18,7 @@ fn eid_of_entries(mut entries: Entries<'_>, before: Option<u16>) -> Option<u16>
     eid
 }
 
-/// The EId that FIGs name last, or where they name none the one before.
+/// The EId that FIGs name last; where they name none, the previous one.
 fn eid_of_figs(mut figs: Figs<'_>, before: Option<u16>) -> Option<u16>
     ensures { result ≡ named_by_figs figs.entry before }
 {
@@ -29,8 +29,8 @@ fn eid_of_figs(mut figs: Figs<'_>, before: Option<u16>) -> Option<u16>
     eid
 }
 
-/// The EId of the last FIG 0/0 of this ensemble (OE 0) in FIBs, or where they have none the one before. A damaged FIB has
-/// none.
+/// The EId of the last FIG 0/0 of this ensemble (OE 0) in FIBs; where there is none, the previous one. A damaged FIB
+/// has none.
 pub fn eid_after(fibs: &[[u8; 32]], before: Option<u16>) -> Option<u16>
     ensures { NamesAfter fibs.now before result }
 {

@@ -11,7 +11,8 @@ use fib_reader::from_entry::{packet_from_entry, service_from_entry, sub_from_ent
 use fib_reader::{OwnedEntry, Picture};
 use mux_config::{Config, Entry};
 
-/// Whether a configuration has this entry: whether it says a sub-channel, a service or a packet component of this profile.
+/// Whether some configuration has this entry: whether it describes a sub-channel, a service or a packet component of
+/// this profile.
 fn is_said(entry: &Entry) -> bool
     requires { IsWithin entry.now }
     ensures said { result ≡ true → IsSaid (raw_entry entry.now) }
@@ -51,8 +52,9 @@ fn first_unsaid(picture: &Picture) -> Option<OwnedEntry>
 }
 
 /// The configuration that a picture shows, sound or not; or the first entry of it, in ascending order of extension and
-/// identifier, that no configuration has: a sub-channel in the short form, of an option above 1 or of a size that no rate
-/// has, an entry in which a field is set that is sent as 0, a service with a component of another TMId.
+/// identifier, that no configuration has: a sub-channel in the short form, of an option above 1 or of a size that no
+/// rate has, an entry in which a field is set that a configuration sends as 0, a service with a component of another
+/// TMId.
 pub fn config_heard(picture: &Picture) -> Result<Config, OwnedEntry>
     ensures shown { IfOk result (Shows picture.now) }
     ensures unsaid { IfErr result (IsFirstUnsaid (all_entries picture.now)) }

@@ -12,7 +12,7 @@ use script_opening::script_of;
 use std::alloc::{AllocError, Global};
 
 /// The period that a script of a configuration has unless another is asked for, in frames: room for the pages of the
-/// configuration and for as many of the next one, and one frame more, but 4 at least and 60 at most.
+/// configuration and as many of the next one, and one frame more, but at least 4 and at most 60.
 pub fn usual_period(mode: Mode, config: &Config) -> u8
     ensures value { result ≡ usual_period (rounds mode (page_set config.now None)) }
     ensures from { 4 ≤ result }
@@ -27,7 +27,7 @@ pub fn usual_period(mode: Mode, config: &Config) -> u8
     if period < 4 { 4 } else { period }
 }
 
-/// The text of the script of this header whose items make exactly this configuration, sound or not, and which does nothing
+/// The text of the script of this header whose items make exactly this configuration, sound or not, without statements
 /// after `begin`. It is laid out as [`print`] lays out scripts.
 pub fn config_text(alloc: Global, header: Header, config: &Config) -> Result<String, AllocError>
     requires { IsHeader header }
