@@ -10,7 +10,7 @@ use Rattle.std.specs.Str.{encode_utf8_all, all_scalars, IsAscii}
 use lib.Utf8.{scalar, low_scalar}
 use Rattle.plan_session.specs.Gathered.{HaveNoCharacter, AreCharacters}
 
--- what stands behind a text in a text is one
+-- the rest of a text after a text is a text
 behind_text : (xs ys : List ℕ) → IsUtf8 (xs ++ ys) → IsUtf8 xs → IsUtf8 ys
 behind_text xs ys u v =
     let lengths : length (xs ++ ys) ≡ length xs + length ys = length-append xs ys in

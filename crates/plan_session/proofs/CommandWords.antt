@@ -126,6 +126,6 @@ one_command Show Show xs ys h k same = (refl, (told_by Show Show xs ys same).1)
 pub some_words : (s : Command) (xs : List (List ℕ)) → command_words s ++ xs ≢ []
 some_words s xs e = absurd (cons_not_empty (sym (split s xs) ∙ e))
 
--- no command stands at the front where its first word does not
+-- no command is at the front where its first token is not
 pub no_command : (words : List (List ℕ)) (word : List ℕ) (left : List (List ℕ)) → words ≡ word ∷ left → ((k : Keyword) → word ≢ keyword_word k) → (s : Command) (rest : List (List ℕ)) → words ≡ command_words s ++ rest → ⊥
 no_command words word left front other s rest e = other (keyword_in s) (head_told _ _ _ _ (sym front ∙ e ∙ split s rest)).0

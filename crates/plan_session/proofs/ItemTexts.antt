@@ -9,7 +9,7 @@ use Rattle.script_tokens.specs.declared.fault.ScriptFault.{ScriptFault}
 use Rattle.script_tokens.specs.Bytes.{first_place}
 use Rattle.script_tokens.specs.Lexing.{lexed, InOrder}
 use Rattle.script_tokens.proofs.Spans.{cut_in_order}
-use Rattle.plan_session.specs.Items.{words_of_text, contact_word, HoldsItems, HoldsOneListOf, TellsApart, HasWords}
+use Rattle.plan_session.specs.Items.{words_of_text, contact_word, HoldsItems, HoldsOneListOf, AreUnique, HasWords}
 use Rattle.plan_session.specs.Words.{AreSpans}
 use Rattle.plan_session.proofs.Listed.{one_list}
 
@@ -24,7 +24,7 @@ level_told false false e = refl
 pub head_told : {T : Type 0} (x y : T) (xs ys : List T) → x ∷ xs ≡ y ∷ ys → (x ≡ y) × (xs ≡ ys)
 head_told x y xs ys e = (cc, cc)
 
--- one number stands at the front
+-- one number is at the front
 pub no_other : (words : List (List ℕ)) (word : List ℕ) (left rest : List (List ℕ)) (v n : ℕ) → words ≡ word ∷ left → word ≡ decimal v → v < 1000000000 → n < 1000000000 → words ≡ decimal n ∷ rest → v ≡ n
 no_other words word left rest v n front is small few e =
     let both = head_told word (decimal n) left rest (sym front ∙ e) in
@@ -62,8 +62,8 @@ not_cut spelled IsItem text fault items e h = let cut = h.cut in absurd (cc)
 same_tokens : (text : List ℕ) (ts us : List Token) → lexed NO_LIMITS Nothing first_place text ≡ Ok ts → lexed NO_LIMITS Nothing first_place text ≡ Ok us → ts ≡ us
 same_tokens text ts us h k = cc
 
--- it holds one list where words tell items apart
-pub holds_one_list : {T : Type 0} (spelled : T → List (List ℕ)) (IsItem : T → Type 0) → TellsApart spelled IsItem → HasWords spelled → HoldsOneListOf spelled IsItem
-holds_one_list spelled IsItem told has text items others h k =
+-- it has one list where tokens distinguish items
+pub holds_one_list : {T : Type 0} (spelled : T → List (List ℕ)) (IsItem : T → Type 0) → AreUnique spelled IsItem → HasWords spelled → HoldsOneListOf spelled IsItem
+holds_one_list spelled IsItem unique has text items others h k =
     let same : h.tokens ≡ k.tokens = same_tokens text h.tokens k.tokens h.cut k.cut in
-    one_list spelled IsItem told has items others h.in_range k.in_range (sym h.words ∙ ap (words_of_text text) same ∙ k.words)
+    one_list spelled IsItem unique has items others h.in_range k.in_range (sym h.words ∙ ap (words_of_text text) same ∙ k.words)

@@ -14,11 +14,11 @@ use Rattle.script_tokens.specs.declared.fault.ScriptFault.{ScriptFault}
 use Rattle.script_tokens.specs.declared.fault.ScriptFault.TheVariants.{Byte, Limit}
 use Rattle.script_tokens.specs.Bytes.{kind_of, place_after, first_place}
 use Rattle.script_tokens.specs.Lexing.{inside_after, is_bad, made, fits, added, tokens_before, lexed}
-use Rattle.plan_session.specs.declared.gathering.Standing.{Standing}
-use Rattle.plan_session.specs.declared.gathering.Standing.TheVariants.{Outside, InComment, Refused, Behind}
+use Rattle.plan_session.specs.declared.gathering.TextState.{TextState}
+use Rattle.plan_session.specs.declared.gathering.TextState.TheVariants.{Outside, InComment, Refused, Past}
 use Rattle.plan_session.specs.Items.{HoldsItems}
-use Rattle.plan_session.specs.Kept.{cut_of, IsKeptOf, KeptTextsAnswerAlike}
-use Rattle.plan_session.specs.Gathered.{is_comment, Reaches, AreRefused, behind_character, standing_outside, standing_in_comment, standing_after, Stands}
+use Rattle.plan_session.specs.Kept.{cut_of, IsKeptOf, KeptTextsHaveSameResult}
+use Rattle.plan_session.specs.Gathered.{is_comment, Reaches, AreRefused, past_character, state_outside, state_in_comment, state_after, IsInState}
 
 -- ---- tokens before a fault
 
@@ -160,7 +160,7 @@ still_refused : (front rest : List ℕ) → AreRefused front → AreRefused (fro
 still_refused front rest h = record { fault = h.fault; always = λ more. ap cut_of (append_assoc front rest more) ∙ h.always (rest ++ more) }
 
 -- where the end of a refused character leads
-refused_by : (seen after : List ℕ) (w : Bool) → after ≡ seen → AreRefused seen → (w ≡ true → IsUtf8 seen) → Stands seen after (behind_character w)
+refused_by : (seen after : List ℕ) (w : Bool) → after ≡ seen → AreRefused seen → (w ≡ true → IsUtf8 seen) → IsInState seen after (past_character w)
 refused_by seen after false is h text = (is, h)
 refused_by seen after true is h text = (
   subst IsUtf8 (sym is) (text refl),
@@ -168,7 +168,7 @@ refused_by seen after true is h text = (
   ([], sym is ∙ sym (append-nil after)),
 )
 
-outside_on : (seen after : List ℕ) (b : ℕ) (k : Kind) (w : Bool) → kind_of b ≡ k → after ≡ seen ++ b ∷ [] → Reaches seen false → (w ≡ true → IsUtf8 (seen ++ b ∷ [])) → Stands (seen ++ b ∷ []) after (standing_outside k w)
+outside_on : (seen after : List ℕ) (b : ℕ) (k : Kind) (w : Bool) → kind_of b ≡ k → after ≡ seen ++ b ∷ [] → Reaches seen false → (w ≡ true → IsUtf8 (seen ++ b ∷ [])) → IsInState (seen ++ b ∷ []) after (state_outside k w)
 outside_on seen after b Blank w e is r text = (is, reaches_on seen false false b Blank r e (good r.inside Blank refl) (stays_outside r.inside r.place Blank r.is refl))
 outside_on seen after b LineEnd w e is r text = (is, reaches_on seen false false b LineEnd r e (good r.inside LineEnd refl) (stays_outside r.inside r.place LineEnd r.is refl))
 outside_on seen after b Hash w e is r text = (is, reaches_on seen false true b Hash r e (good r.inside Hash refl) (into_comment r.inside r.place))
@@ -179,7 +179,7 @@ outside_on seen after b Bad w e is r text = refused_by (seen ++ b ∷ []) after 
 within_comment : (seen after : List ℕ) (b : ℕ) (k : Kind) → kind_of b ≡ k → after ≡ seen ++ b ∷ [] → Reaches seen true → is_line_end k ≡ false → (after ≡ seen ++ b ∷ []) × Reaches (seen ++ b ∷ []) true
 within_comment seen after b k e is r n = (is, reaches_on seen true true b k r e (good_in_comment r.inside k r.is) (stays_in_comment r.inside r.place k r.is n))
 
-comment_on : (seen after : List ℕ) (b : ℕ) (k : Kind) → kind_of b ≡ k → after ≡ seen ++ b ∷ [] → Reaches seen true → Stands (seen ++ b ∷ []) after (standing_in_comment k)
+comment_on : (seen after : List ℕ) (b : ℕ) (k : Kind) → kind_of b ≡ k → after ≡ seen ++ b ∷ [] → Reaches seen true → IsInState (seen ++ b ∷ []) after (state_in_comment k)
 comment_on seen after b LineEnd e is r = (is, reaches_on seen true false b LineEnd r e (good_in_comment r.inside LineEnd r.is) (out_of_comment r.inside r.place r.is))
 comment_on seen after b Blank e is r = within_comment seen after b Blank e is r refl
 comment_on seen after b Hash e is r = within_comment seen after b Hash e is r refl
@@ -191,47 +191,47 @@ grown : (seen kept after : List ℕ) (b : ℕ) → after ≡ kept ++ b ∷ [] �
 grown seen kept after b is same = is ∙ ap (λ (l : List ℕ). l ++ b ∷ []) same
 
 -- a byte that is kept
-stands_on : (seen kept after : List ℕ) (s : Standing) (b : ℕ) (w : Bool) → Stands seen kept s → s ≢ Behind → after ≡ kept ++ b ∷ [] → (w ≡ true → IsUtf8 (seen ++ b ∷ [])) → Stands (seen ++ b ∷ []) after (standing_after s (kind_of b) w)
-stands_on seen kept after Outside b w h ne is text = outside_on seen after b (kind_of b) w refl (grown seen kept after b is h.0) h.1 text
-stands_on seen kept after InComment b w h ne is text = comment_on seen after b (kind_of b) refl (grown seen kept after b is h.0) h.1
-stands_on seen kept after Refused b w h ne is text = refused_by (seen ++ b ∷ []) after w (grown seen kept after b is h.0) (still_refused seen (b ∷ []) h.1) text
-stands_on seen kept after Behind b w h ne is text = absurd (ne refl)
+in_state_on : (seen kept after : List ℕ) (s : TextState) (b : ℕ) (w : Bool) → IsInState seen kept s → s ≢ Past → after ≡ kept ++ b ∷ [] → (w ≡ true → IsUtf8 (seen ++ b ∷ [])) → IsInState (seen ++ b ∷ []) after (state_after s (kind_of b) w)
+in_state_on seen kept after Outside b w h ne is text = outside_on seen after b (kind_of b) w refl (grown seen kept after b is h.0) h.1 text
+in_state_on seen kept after InComment b w h ne is text = comment_on seen after b (kind_of b) refl (grown seen kept after b is h.0) h.1
+in_state_on seen kept after Refused b w h ne is text = refused_by (seen ++ b ∷ []) after w (grown seen kept after b is h.0) (still_refused seen (b ∷ []) h.1) text
+in_state_on seen kept after Past b w h ne is text = absurd (ne refl)
 
 -- a byte that is not
-stands_behind : (seen kept : List ℕ) (s : Standing) (b : ℕ) (w : Bool) → Stands seen kept s → s ≡ Behind → Stands (seen ++ b ∷ []) kept (standing_after s (kind_of b) w)
-stands_behind seen kept Outside b w h is = absurd cc
-stands_behind seen kept InComment b w h is = absurd cc
-stands_behind seen kept Refused b w h is = absurd cc
-stands_behind seen kept Behind b w h is = (h.0, h.1, (h.2.0 ++ b ∷ [], ap (λ (l : List ℕ). l ++ b ∷ []) h.2.1 ∙ append_assoc kept h.2.0 (b ∷ [])))
+in_state_past : (seen kept : List ℕ) (s : TextState) (b : ℕ) (w : Bool) → IsInState seen kept s → s ≡ Past → IsInState (seen ++ b ∷ []) kept (state_after s (kind_of b) w)
+in_state_past seen kept Outside b w h is = absurd cc
+in_state_past seen kept InComment b w h is = absurd cc
+in_state_past seen kept Refused b w h is = absurd cc
+in_state_past seen kept Past b w h is = (h.0, h.1, (h.2.0 ++ b ∷ [], ap (λ (l : List ℕ). l ++ b ∷ []) h.2.1 ∙ append_assoc kept h.2.0 (b ∷ [])))
 
 -- a byte, kept or not
-pub stands_so : (seen kept after : List ℕ) (s : Standing) (b : ℕ) (w : Bool) → Stands seen kept s → (s ≢ Behind → after ≡ kept ++ b ∷ []) → (s ≡ Behind → after ≡ kept) → (w ≡ true → IsUtf8 (seen ++ b ∷ [])) → Stands (seen ++ b ∷ []) after (standing_after s (kind_of b) w)
-stands_so seen kept after Outside b w h added same text = stands_on seen kept after Outside b w h (λ e. absurd cc) (added (λ e. absurd cc)) text
-stands_so seen kept after InComment b w h added same text = stands_on seen kept after InComment b w h (λ e. absurd cc) (added (λ e. absurd cc)) text
-stands_so seen kept after Refused b w h added same text = stands_on seen kept after Refused b w h (λ e. absurd cc) (added (λ e. absurd cc)) text
-stands_so seen kept after Behind b w h added same text =
-    subst (λ (l : List ℕ). Stands (seen ++ b ∷ []) l (standing_after Behind (kind_of b) w)) (sym (same refl)) (stands_behind seen kept Behind b w h refl)
+pub in_state_after : (seen kept after : List ℕ) (s : TextState) (b : ℕ) (w : Bool) → IsInState seen kept s → (s ≢ Past → after ≡ kept ++ b ∷ []) → (s ≡ Past → after ≡ kept) → (w ≡ true → IsUtf8 (seen ++ b ∷ [])) → IsInState (seen ++ b ∷ []) after (state_after s (kind_of b) w)
+in_state_after seen kept after Outside b w h added same text = in_state_on seen kept after Outside b w h (λ e. absurd cc) (added (λ e. absurd cc)) text
+in_state_after seen kept after InComment b w h added same text = in_state_on seen kept after InComment b w h (λ e. absurd cc) (added (λ e. absurd cc)) text
+in_state_after seen kept after Refused b w h added same text = in_state_on seen kept after Refused b w h (λ e. absurd cc) (added (λ e. absurd cc)) text
+in_state_after seen kept after Past b w h added same text =
+    subst (λ (l : List ℕ). IsInState (seen ++ b ∷ []) l (state_after Past (kind_of b) w)) (sym (same refl)) (in_state_past seen kept Past b w h refl)
 
 -- bytes that are not kept
-pub stays_behind : (seen kept more : List ℕ) (s : Standing) → Stands seen kept s → s ≡ Behind → Stands (seen ++ more) kept s
-stays_behind seen kept more Outside h is = absurd cc
-stays_behind seen kept more InComment h is = absurd cc
-stays_behind seen kept more Refused h is = absurd cc
-stays_behind seen kept more Behind h is = (h.0, h.1, (h.2.0 ++ more, ap (λ (l : List ℕ). l ++ more) h.2.1 ∙ append_assoc kept h.2.0 more))
+pub stays_past : (seen kept more : List ℕ) (s : TextState) → IsInState seen kept s → s ≡ Past → IsInState (seen ++ more) kept s
+stays_past seen kept more Outside h is = absurd cc
+stays_past seen kept more InComment h is = absurd cc
+stays_past seen kept more Refused h is = absurd cc
+stays_past seen kept more Past h is = (h.0, h.1, (h.2.0 ++ more, ap (λ (l : List ℕ). l ++ more) h.2.1 ∙ append_assoc kept h.2.0 more))
 
 -- ---- at the end
 
-pub kept_is_text : (seen kept : List ℕ) (s : Standing) → Stands seen kept s → IsUtf8 seen → IsUtf8 kept
+pub kept_is_text : (seen kept : List ℕ) (s : TextState) → IsInState seen kept s → IsUtf8 seen → IsUtf8 kept
 kept_is_text seen kept Outside h u = subst IsUtf8 (sym h.0) u
 kept_is_text seen kept InComment h u = subst IsUtf8 (sym h.0) u
 kept_is_text seen kept Refused h u = subst IsUtf8 (sym h.0) u
-kept_is_text seen kept Behind h u = h.0
+kept_is_text seen kept Past h u = h.0
 
-pub is_kept : (seen kept : List ℕ) (s : Standing) → Stands seen kept s → IsKeptOf seen kept
+pub is_kept : (seen kept : List ℕ) (s : TextState) → IsInState seen kept s → IsKeptOf seen kept
 is_kept seen kept Outside h = inl h.0
 is_kept seen kept InComment h = inl h.0
 is_kept seen kept Refused h = inl h.0
-is_kept seen kept Behind h = inr (record {
+is_kept seen kept Past h = inr (record {
   fault = h.1.fault;
   of_whole = ap cut_of h.2.1 ∙ h.1.always h.2.0;
   of_kept = ap cut_of (sym (append-nil kept)) ∙ h.1.always [];
@@ -256,8 +256,8 @@ same_cut : (whole kept : List ℕ) → IsKeptOf whole kept → cut_of kept ≡ c
 same_cut whole kept (inl same) = ap cut_of same
 same_cut whole kept (inr h) = h.of_kept ∙ sym h.of_whole
 
-pub answer_alike : KeptTextsAnswerAlike
-answer_alike whole kept h = record {
+pub same_result : KeptTextsHaveSameResult
+same_result whole kept h = record {
   cut = same_cut whole kept h;
   faults = λ e. (λ told fault is. told fault (same_cut whole kept h ∙ is), λ told fault is. told fault (sym (same_cut whole kept h) ∙ is));
   steps = same_items _ _ whole kept h;

@@ -6,8 +6,8 @@ use Rattle.script_tokens.specs.declared.fault.ScriptFault.{ScriptFault}
 use Rattle.script_tokens.specs.declared.fault.ScriptFault.TheVariants.{Byte}
 use Rattle.script_tokens.specs.Bytes.{first_place, token_at}
 use Rattle.script_tokens.specs.Lexing.{lexed}
-use Rattle.plan_session.specs.declared.event_fault.EventFault.TheVariants.{Byte as ByteTold, Expected as ExpectedTold}
-use Rattle.plan_session.specs.Kept.{cut_of, told, TellsFirstFault, IsKeptOf}
+use Rattle.plan_session.specs.declared.event_fault.EventFault.TheVariants.{Byte as ByteReported, Expected as ExpectedReported}
+use Rattle.plan_session.specs.Kept.{cut_of, reported_fault, ReportsFirstFault, IsKeptOf}
 
 -- of `@a` the `@` is kept
 at_is_kept : IsKeptOf (64 ∷ 97 ∷ []) (64 ∷ [])
@@ -26,16 +26,16 @@ letter_is_not_kept (inr h) =
     let both : r ≡ Err h.fault = sym cut_whole ∙ h.of_whole in
     absurd cc
 
--- the fault of `@` is told as `1:1: Byte`
-at_is_told : TellsFirstFault (64 ∷ []) (ByteTold first_place.position)
+-- the fault of `@` is reported as `1:1: Byte`
+at_is_reported : ReportsFirstFault (64 ∷ []) (ByteReported first_place.position)
 unfolding lexed
-at_is_told = λ fault h.
+at_is_reported = λ fault h.
     let r : Result (List Token) ScriptFault = Err (Byte first_place.position) in
     let both : r ≡ Err fault = h in
     let same : fault ≡ Byte first_place.position = cc in
-    sym (ap told same)
+    sym (ap reported_fault same)
 
 -- and not as `1:1: Expected`
-at_is_not_told_so : TellsFirstFault (64 ∷ []) (ExpectedTold first_place.position) → ⊥
+at_is_not_reported_so : ReportsFirstFault (64 ∷ []) (ExpectedReported first_place.position) → ⊥
 unfolding lexed
-at_is_not_told_so h = let is = h (Byte first_place.position) refl in absurd cc
+at_is_not_reported_so h = let is = h (Byte first_place.position) refl in absurd cc

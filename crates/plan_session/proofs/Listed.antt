@@ -2,7 +2,7 @@
 use Rattle.std.proofs.Common.{◌≡◌, ◌≢◌, ℕ, ◌++◌, List, [], ◌∷◌, flat_map, refl, sym, ap, ◌∙◌, subst, append_assoc}
 use Rattle.std.proofs.lemmas.List.{append-nil}
 use Rattle.std.specs.List.{AllByRecursion}
-use Rattle.plan_session.specs.Items.{TellsApart, HasWords}
+use Rattle.plan_session.specs.Items.{AreUnique, HasWords}
 
 -- some items were read and these words are left: every list of items that the words spell begins with them, and the
 -- words that are left spell its rest
@@ -38,18 +38,18 @@ module _ {T : Type 0} (words_of_item : T → List (List ℕ)) (IsItem : T → Ty
   none_by left [] some none h e = some e
   none_by left (t ∷ ts) some none h e = none t (flat_map words_of_item ts) h.0 e
 
-  -- where words are left and no item stands at their front, the words spell no list of items
+  -- where tokens are left and no item is at their front, the tokens spell no list of items
   pub spells_none : (words : List (List ℕ)) (done : List T) (left : List (List ℕ)) → left ≢ [] → ((s : T) (xs : List (List ℕ)) → IsItem s → left ≢ words_of_item s ++ xs) → GoesOn words_of_item IsItem words done left → (all : List T) → AllByRecursion IsItem all → words ≢ flat_map words_of_item all
   spells_none words done left some none on = λ all h e. let o = on all h e in none_by left o.0 some none o.2 o.3
 
-module _ {T : Type 0} (words_of_item : T → List (List ℕ)) (IsItem : T → Type 0) (told : TellsApart words_of_item IsItem) (has : HasWords words_of_item) where
+module _ {T : Type 0} (words_of_item : T → List (List ℕ)) (IsItem : T → Type 0) (unique : AreUnique words_of_item IsItem) (has : HasWords words_of_item) where
   -- items that are spelled alike are the same
   pub one_list : (ss ts : List T) → AllByRecursion IsItem ss → AllByRecursion IsItem ts → flat_map words_of_item ss ≡ flat_map words_of_item ts → ss ≡ ts
   one_list [] [] h k e = refl
   one_list [] (t ∷ ts) h k e = absurd (has t (flat_map words_of_item ts) (sym e))
   one_list (s ∷ ss) [] h k e = absurd (has s (flat_map words_of_item ss) e)
   one_list (s ∷ ss) (t ∷ ts) h k e =
-      let both = told s t (flat_map words_of_item ss) (flat_map words_of_item ts) h.0 k.0 e in
+      let both = unique s t (flat_map words_of_item ss) (flat_map words_of_item ts) h.0 k.0 e in
       let rest : ss ≡ ts = one_list ss ts h.1 k.1 both.1 in
       let first = both.0 in
       cc
@@ -57,7 +57,7 @@ module _ {T : Type 0} (words_of_item : T → List (List ℕ)) (IsItem : T → Ty
   goes_by : (words : List (List ℕ)) (done : List T) (left more : List (List ℕ)) (s : T) (all rest : List T) → IsItem s → left ≡ words_of_item s ++ more → all ≡ done ++ rest → AllByRecursion IsItem rest → left ≡ flat_map words_of_item rest → (later : List T) × (all ≡ (done ++ s ∷ []) ++ later) × AllByRecursion IsItem later × (more ≡ flat_map words_of_item later)
   goes_by words done left more s all [] is read cut h spelled = absurd (has s more (sym read ∙ spelled))
   goes_by words done left more s all (t ∷ ts) is read cut h spelled =
-      let both = told s t more (flat_map words_of_item ts) is h.0 (sym read ∙ spelled) in
+      let both = unique s t more (flat_map words_of_item ts) is h.0 (sym read ∙ spelled) in
       let same : t ∷ ts ≡ s ∷ ts = ap (λ (x : T). x ∷ ts) (sym both.0) in
       (ts, cut ∙ ap (λ (xs : List T). done ++ xs) same ∙ sym (append_assoc done (s ∷ []) ts), h.1, both.1)
 

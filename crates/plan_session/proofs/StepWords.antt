@@ -34,7 +34,7 @@ pub some_words : (s : Step) (xs : List (List ℕ)) → step_words s ++ xs ≢ []
 some_words (Contact c b) xs e = absurd (cc)
 some_words (Frames n) xs e = absurd (cc)
 
--- no step stands at the front where its first word does not
+-- no step is at the front where its first token is not
 pub no_step : (words : List (List ℕ)) (word : List ℕ) (left : List (List ℕ)) → words ≡ word ∷ left → ((frames : Bool) → word ≢ first_word frames) → (s : Step) (rest : List (List ℕ)) → words ≡ step_words s ++ rest → ⊥
 no_step words word left front other (Contact c b) rest e = other false (head_told _ _ _ _ (sym front ∙ e)).0
 no_step words word left front other (Frames n) rest e = other true (head_told _ _ _ _ (sym front ∙ e)).0

@@ -10,8 +10,8 @@ use Rattle.script_tokens.specs.declared.token.TheConstants.{NO_LIMITS}
 use Rattle.script_tokens.specs.declared.fault.ScriptFault.{ScriptFault}
 use Rattle.script_tokens.specs.Lexing.{lexed, tokens_before}
 use Rattle.plan_session.specs.declared.gathering.Gathering.{Gathering}
-use Rattle.plan_session.specs.declared.gathering.Standing.{Standing}
-use Rattle.plan_session.specs.declared.gathering.Standing.TheVariants.{Outside, InComment, Refused, Behind}
+use Rattle.plan_session.specs.declared.gathering.TextState.{TextState}
+use Rattle.plan_session.specs.declared.gathering.TextState.TheVariants.{Outside, InComment, Refused, Past}
 use Rattle.plan_session.specs.Kept.{cut_of}
 
 -- ---- characters
@@ -50,39 +50,39 @@ pub record AreRefused (front : List ℕ) : Type 0 where
 
 -- ---- both
 
-abbrev pub behind_character : Bool → Standing
-behind_character is_whole = if is_whole then Behind else Refused
+abbrev pub past_character : Bool → TextState
+past_character is_whole = if is_whole then Past else Refused
 
-abbrev pub standing_outside : Kind → Bool → Standing
-standing_outside Blank is_whole = Outside
-standing_outside LineEnd is_whole = Outside
-standing_outside Hash is_whole = InComment
-standing_outside Brace is_whole = Outside
-standing_outside Letter is_whole = Outside
-standing_outside Bad is_whole = behind_character is_whole
+abbrev pub state_outside : Kind → Bool → TextState
+state_outside Blank is_whole = Outside
+state_outside LineEnd is_whole = Outside
+state_outside Hash is_whole = InComment
+state_outside Brace is_whole = Outside
+state_outside Letter is_whole = Outside
+state_outside Bad is_whole = past_character is_whole
 
-abbrev pub standing_in_comment : Kind → Standing
-standing_in_comment LineEnd = Outside
-standing_in_comment Blank = InComment
-standing_in_comment Hash = InComment
-standing_in_comment Brace = InComment
-standing_in_comment Letter = InComment
-standing_in_comment Bad = InComment
+abbrev pub state_in_comment : Kind → TextState
+state_in_comment LineEnd = Outside
+state_in_comment Blank = InComment
+state_in_comment Hash = InComment
+state_in_comment Brace = InComment
+state_in_comment Letter = InComment
+state_in_comment Bad = InComment
 
 -- the state after a byte of this kind, where a character ends with it or does not
-abbrev pub standing_after : Standing → Kind → Bool → Standing
-standing_after Outside kind is_whole = standing_outside kind is_whole
-standing_after InComment kind is_whole = standing_in_comment kind
-standing_after Refused kind is_whole = behind_character is_whole
-standing_after Behind kind is_whole = Behind
+abbrev pub state_after : TextState → Kind → Bool → TextState
+state_after Outside kind is_whole = state_outside kind is_whole
+state_after InComment kind is_whole = state_in_comment kind
+state_after Refused kind is_whole = past_character is_whole
+state_after Past kind is_whole = Past
 
-abbrev pub Stands : (seen kept : List ℕ) → Standing → Type 0
-Stands seen kept Outside = (kept ≡ seen) × Reaches seen false
-Stands seen kept InComment = (kept ≡ seen) × Reaches seen true
-Stands seen kept Refused = (kept ≡ seen) × AreRefused seen
-Stands seen kept Behind = IsUtf8 kept × AreRefused kept × ((rest : List ℕ) × (seen ≡ kept ++ rest))
+abbrev pub IsInState : (seen kept : List ℕ) → TextState → Type 0
+IsInState seen kept Outside = (kept ≡ seen) × Reaches seen false
+IsInState seen kept InComment = (kept ≡ seen) × Reaches seen true
+IsInState seen kept Refused = (kept ≡ seen) × AreRefused seen
+IsInState seen kept Past = IsUtf8 kept × AreRefused kept × ((rest : List ℕ) × (seen ≡ kept ++ rest))
 
 -- these are the bytes so far
 pub record IsGathered (seen : List ℕ) (g : Gathering) : Type 0 where
   pub characters : AreCharacters seen g.begun.items
-  pub stands : Stands seen g.kept.items g.standing
+  pub in_state : IsInState seen g.kept.items g.state

@@ -23,8 +23,8 @@ abbrev pub HoldsOneListOf : {T : Type 0} → (T → List (List ℕ)) → (T → 
 HoldsOneListOf {T} spelled IsItem = (text : List ℕ) (items others : List T) → HoldsItems spelled IsItem text items → HoldsItems spelled IsItem text others → items ≡ others
 
 -- the tokens of an item at the front identify it
-abbrev pub TellsApart : {T : Type 0} → (T → List (List ℕ)) → (T → Type 0) → Type 0
-TellsApart {T} spelled IsItem = (s t : T) (xs ys : List (List ℕ)) → IsItem s → IsItem t → spelled s ++ xs ≡ spelled t ++ ys → (s ≡ t) × (xs ≡ ys)
+abbrev pub AreUnique : {T : Type 0} → (T → List (List ℕ)) → (T → Type 0) → Type 0
+AreUnique {T} spelled IsItem = (s t : T) (xs ys : List (List ℕ)) → IsItem s → IsItem t → spelled s ++ xs ≡ spelled t ++ ys → (s ≡ t) × (xs ≡ ys)
 
 -- an item has tokens
 abbrev pub HasWords : {T : Type 0} → (T → List (List ℕ)) → Type 0

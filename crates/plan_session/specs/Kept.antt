@@ -20,19 +20,19 @@ abbrev pub cut_of : List ℕ → Result (List Token) ScriptFault
 cut_of text = lexed NO_LIMITS Nothing first_place text
 
 -- the fault that is reported where a text has no tokens: without limits there is only `Byte`, and out of memory
-abbrev pub told : ScriptFault → EventFault
-told (ByteOfText place) = Byte place
-told (Number place) = Expected place
-told (ExpectedInText place) = Expected place
-told (Depth place) = Expected place
-told (NameUsed place) = Expected place
-told (NameUnknown place) = Expected place
-told (Limit place) = Expected place
-told NoMemory = Memory
+abbrev pub reported_fault : ScriptFault → EventFault
+reported_fault (ByteOfText place) = Byte place
+reported_fault (Number place) = Expected place
+reported_fault (ExpectedInText place) = Expected place
+reported_fault (Depth place) = Expected place
+reported_fault (NameUsed place) = Expected place
+reported_fault (NameUnknown place) = Expected place
+reported_fault (Limit place) = Expected place
+reported_fault NoMemory = Memory
 
 -- where the text has no tokens, this is why
-abbrev pub TellsFirstFault : List ℕ → EventFault → Type 0
-TellsFirstFault text e = (fault : ScriptFault) → cut_of text ≡ Err fault → e ≡ told fault
+abbrev pub ReportsFirstFault : List ℕ → EventFault → Type 0
+ReportsFirstFault text e = (fault : ScriptFault) → cut_of text ≡ Err fault → e ≡ reported_fault fault
 
 -- both texts are refused before their tokens are read, at the same position and for the same reason
 pub record HaveOneFault (whole kept : List ℕ) : Type 0 where
@@ -44,11 +44,11 @@ abbrev pub IsKeptOf : (whole kept : List ℕ) → Type 0
 IsKeptOf whole kept = (kept ≡ whole) ⊎ HaveOneFault whole kept
 
 -- what is kept has the tokens of the whole, or its first fault, and lists the same steps and the same commands
-pub record AnswersAlike (whole kept : List ℕ) : Type 0 where
+pub record HasSameResult (whole kept : List ℕ) : Type 0 where
   pub cut : cut_of kept ≡ cut_of whole
-  pub faults : (e : EventFault) → TellsFirstFault kept e ↔ TellsFirstFault whole e
+  pub faults : (e : EventFault) → ReportsFirstFault kept e ↔ ReportsFirstFault whole e
   pub steps : (steps : List Step) → Holds kept steps ↔ Holds whole steps
   pub commands : (commands : List Command) → HoldsCommands kept commands ↔ HoldsCommands whole commands
 
-abbrev pub KeptTextsAnswerAlike : Type 0
-KeptTextsAnswerAlike = (whole kept : List ℕ) → IsKeptOf whole kept → AnswersAlike whole kept
+abbrev pub KeptTextsHaveSameResult : Type 0
+KeptTextsHaveSameResult = (whole kept : List ℕ) → IsKeptOf whole kept → HasSameResult whole kept

@@ -5,7 +5,7 @@ ghost use Rattle.plan_session.specs.declared.command.Command.{Command};
 ghost use Rattle.plan_session.specs.declared.commands.Keyword.{Keyword};
 ghost use Rattle.plan_session.specs.declared.event_fault.EventFault.TheVariants.{Memory};
 ghost use Rattle.plan_session.specs.Commands.{IsCommand, command_words, HoldsCommands};
-ghost use Rattle.plan_session.specs.Kept.{TellsFirstFault};
+ghost use Rattle.plan_session.specs.Kept.{ReportsFirstFault};
 ghost use Rattle.plan_session.specs.Words.{keyword_word};
 
 use crate::command::Command;
@@ -75,7 +75,7 @@ impl Item for Command {
 
     ghost is_item = { IsCommand };
 
-    fn told() {}
+    fn uniqueness() {}
 
     fn read(words: &mut Words) -> Result<Command, EventFault> {
         let Some(word) = words.peek() else {
@@ -102,7 +102,7 @@ pub fn read_commands(alloc: Global, text: &str) -> Result<Vec<Command>, EventFau
     ensures found { IfOk result (λ v. HoldsCommands text.now v.items) }
     ensures only { IfErr result (λ e. e ≢ Memory → (all : List Command)
         → HoldsCommands text.now all → ⊥) }
-    ensures first { IfErr result (λ e. e ≢ Memory → TellsFirstFault text.now e) }
+    ensures first { IfErr result (λ e. e ≢ Memory → ReportsFirstFault text.now e) }
 {
     read_items(alloc, text)
 }

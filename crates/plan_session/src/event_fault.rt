@@ -3,7 +3,7 @@
 ghost use Rattle.std.specs.Prelude.{◌≡◌};
 ghost use Rattle.script_tokens.specs.declared.fault.ScriptFault.TheVariants.{Memory as NoMemory};
 ghost use Rattle.plan_session.specs.declared.event_fault.EventFault.TheVariants.{Memory};
-ghost use Rattle.plan_session.specs.Kept.{told};
+ghost use Rattle.plan_session.specs.Kept.{reported_fault};
 
 use script_tokens::{Position, ScriptFault};
 use std::alloc::AllocError;
@@ -42,7 +42,7 @@ impl From<AllocError> for EventFault {
 /// the lexer's faults only `Byte` and `Memory` occur.
 pub(crate) fn fault_of(fault: ScriptFault) -> EventFault
     ensures memory { fault ≡ NoMemory → result ≡ Memory }
-    ensures told { result ≡ told fault }
+    ensures reported { result ≡ reported_fault fault }
 {
     match fault {
         ScriptFault::Memory => EventFault::Memory,

@@ -4,7 +4,7 @@ ghost use Rattle.std.specs.Prelude.{◌≡◌, ◌≢◌, Bool, List, ℕ, ◌�
 ghost use Rattle.plan_session.specs.declared.event_fault.EventFault.TheVariants.{Memory};
 ghost use Rattle.plan_session.specs.declared.step.Step.{Step};
 ghost use Rattle.plan_session.specs.Events.{IsStep, step_words, first_word, Holds};
-ghost use Rattle.plan_session.specs.Kept.{TellsFirstFault};
+ghost use Rattle.plan_session.specs.Kept.{ReportsFirstFault};
 
 use crate::event_fault::EventFault;
 use crate::items::{Item, change, number, read_items};
@@ -48,7 +48,7 @@ impl Item for Step {
 
     ghost is_item = { IsStep };
 
-    fn told() {}
+    fn uniqueness() {}
 
     fn read(words: &mut Words) -> Result<Step, EventFault> {
         let Some(word) = words.peek() else {
@@ -73,7 +73,7 @@ impl Item for Step {
 pub fn read_events(alloc: Global, text: &str) -> Result<Vec<Step>, EventFault>
     ensures found { IfOk result (λ v. Holds text.now v.items) }
     ensures only { IfErr result (λ e. e ≢ Memory → (all : List Step) → Holds text.now all → ⊥) }
-    ensures first { IfErr result (λ e. e ≢ Memory → TellsFirstFault text.now e) }
+    ensures first { IfErr result (λ e. e ≢ Memory → ReportsFirstFault text.now e) }
 {
     read_items(alloc, text)
 }

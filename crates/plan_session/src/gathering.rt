@@ -2,9 +2,9 @@
 
 ghost use Rattle.std.specs.Prelude.{◌≡◌, ◌≢◌, ℕ, List, [], ◌∷◌, ◌++◌, true, OnOk, IfOk, IfErr, IsUtf8, string_bytes};
 ghost use Rattle.script_tokens.specs.Bytes.{kind_of};
-ghost use Rattle.plan_session.specs.declared.gathering.Standing.TheVariants.{Behind};
+ghost use Rattle.plan_session.specs.declared.gathering.TextState.TheVariants.{Past};
 ghost use Rattle.plan_session.specs.declared.text_fault.TextFault.TheVariants.{NotUtf8};
-ghost use Rattle.plan_session.specs.Gathered.{IsGathered, behind_character, standing_outside, standing_after};
+ghost use Rattle.plan_session.specs.Gathered.{IsGathered, past_character, state_outside, state_after};
 ghost use Rattle.plan_session.specs.Kept.{IsKeptOf};
 
 use crate::characters::take_byte;
@@ -15,7 +15,7 @@ use std::alloc::Global;
 
 /// The state after the bytes so far.
 #[derive(Clone, Copy, Debug, PartialEq, Eq)]
-pub(crate) enum Standing {
+pub(crate) enum TextState {
     /// Outside comments.
     Outside,
     /// In a comment.
@@ -23,7 +23,7 @@ pub(crate) enum Standing {
     /// Within a character that is not allowed.
     Refused,
     /// After such a character. What follows is not kept.
-    Behind,
+    Past,
 }
 
 /// What is kept of a text: its bytes up to the end of the first character outside comments that is not allowed.
@@ -32,7 +32,7 @@ pub(crate) struct Gathering {
     kept: Vec<u8>,
     /// The bytes of the last character, where it is incomplete.
     begun: ArrayVec<u8, 4>,
-    standing: Standing,
+    state: TextState,
 }
 
 impl Gathering {
@@ -43,7 +43,7 @@ impl Gathering {
         Gathering {
             kept: Vec::new(alloc),
             begun: ArrayVec::new(),
-            standing: Standing::Outside,
+            state: TextState::Outside,
         }
     }
 
@@ -54,11 +54,11 @@ impl Gathering {
         ensures not_utf8 { IfErr result (λ e. e ≡ NotUtf8 → (seen rest : List ℕ)
             → IsGathered seen self.old → IsUtf8 (seen ++ byte ∷ rest) → ⊥) }
     {
-        keep(&mut self.kept, self.standing, byte)?;
+        keep(&mut self.kept, self.state, byte)?;
         if !take_byte(&mut self.begun, byte) {
             return Err(TextFault::NotUtf8);
         }
-        self.standing = standing_after(self.standing, kind_of(byte), self.begun.is_empty());
+        self.state = state_after(self.state, kind_of(byte), self.begun.is_empty());
         Ok(())
     }
 
@@ -82,12 +82,12 @@ impl Gathering {
 
     /// Whether nothing that follows is kept, and a character begins next.
     fn is_past(&self) -> bool
-        ensures behind { result ≡ true → self.now.standing ≡ Behind }
+        ensures past { result ≡ true → self.now.state ≡ Past }
         ensures between { result ≡ true → self.now.begun.items ≡ [] }
     {
-        match self.standing {
-            Standing::Behind => self.begun.is_empty(),
-            Standing::Outside | Standing::InComment | Standing::Refused => false,
+        match self.state {
+            TextState::Past => self.begun.is_empty(),
+            TextState::Outside | TextState::InComment | TextState::Refused => false,
         }
     }
 
@@ -109,12 +109,12 @@ impl Gathering {
 }
 
 /// Keeps a byte, unless the text is refused already.
-fn keep(kept: &mut Vec<u8>, standing: Standing, byte: u8) -> Result<(), TextFault>
-    ensures added { OnOk result (standing ≢ Behind → kept.new.items ≡ kept.old.items ++ byte ∷ []) }
-    ensures same { OnOk result (standing ≡ Behind → kept.new.items ≡ kept.old.items) }
+fn keep(kept: &mut Vec<u8>, state: TextState, byte: u8) -> Result<(), TextFault>
+    ensures added { OnOk result (state ≢ Past → kept.new.items ≡ kept.old.items ++ byte ∷ []) }
+    ensures same { OnOk result (state ≡ Past → kept.new.items ≡ kept.old.items) }
     ensures named { IfErr result (λ e. e ≢ NotUtf8) }
 {
-    if standing == Standing::Behind {
+    if state == TextState::Past {
         return Ok(());
     }
     match kept.push(byte) {
@@ -124,39 +124,39 @@ fn keep(kept: &mut Vec<u8>, standing: Standing, byte: u8) -> Result<(), TextFaul
 }
 
 /// The state after a byte of this kind, with which a character ends or does not.
-fn standing_after(standing: Standing, kind: Kind, is_whole: bool) -> Standing
-    ensures { result ≡ standing_after standing kind is_whole }
+fn state_after(state: TextState, kind: Kind, is_whole: bool) -> TextState
+    ensures { result ≡ state_after state kind is_whole }
 {
-    match standing {
-        Standing::Outside => standing_outside(kind, is_whole),
-        Standing::InComment => match kind {
-            Kind::LineEnd => Standing::Outside,
+    match state {
+        TextState::Outside => state_outside(kind, is_whole),
+        TextState::InComment => match kind {
+            Kind::LineEnd => TextState::Outside,
             Kind::Blank | Kind::Hash | Kind::Brace | Kind::Letter | Kind::Bad => {
-                Standing::InComment
+                TextState::InComment
             }
         },
-        Standing::Refused => behind_character(is_whole),
-        Standing::Behind => Standing::Behind,
+        TextState::Refused => past_character(is_whole),
+        TextState::Past => TextState::Past,
     }
 }
 
-fn standing_outside(kind: Kind, is_whole: bool) -> Standing
-    ensures { result ≡ standing_outside kind is_whole }
+fn state_outside(kind: Kind, is_whole: bool) -> TextState
+    ensures { result ≡ state_outside kind is_whole }
 {
     match kind {
-        Kind::Blank | Kind::LineEnd | Kind::Brace | Kind::Letter => Standing::Outside,
-        Kind::Hash => Standing::InComment,
-        Kind::Bad => behind_character(is_whole),
+        Kind::Blank | Kind::LineEnd | Kind::Brace | Kind::Letter => TextState::Outside,
+        Kind::Hash => TextState::InComment,
+        Kind::Bad => past_character(is_whole),
     }
 }
 
-fn behind_character(is_whole: bool) -> Standing
-    ensures { result ≡ behind_character is_whole }
+fn past_character(is_whole: bool) -> TextState
+    ensures { result ≡ past_character is_whole }
 {
     if is_whole {
-        Standing::Behind
+        TextState::Past
     } else {
-        Standing::Refused
+        TextState::Refused
     }
 }
 

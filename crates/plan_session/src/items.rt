@@ -5,7 +5,7 @@ ghost use Rattle.std.specs.Fmt.{decimal};
 ghost use Rattle.std.specs.List.{AllByRecursion};
 ghost use Rattle.plan_session.specs.declared.event_fault.EventFault.TheVariants.{Memory};
 ghost use Rattle.plan_session.specs.Items.{words_of_text, contact_word, HoldsItems};
-ghost use Rattle.plan_session.specs.Kept.{TellsFirstFault};
+ghost use Rattle.plan_session.specs.Kept.{ReportsFirstFault};
 ghost use Rattle.plan_session.specs.Words.{AreSpans};
 
 use crate::event_fault::{EventFault, fault_of};
@@ -20,7 +20,7 @@ use std::alloc::Global;
 pub(crate) trait Item: Copy {
     ghost use Rattle.std.specs.Prelude.{◌≡◌, ◌≢◌, ℕ, List, ◌++◌, IfOk, IfErr};
     ghost use Rattle.plan_session.specs.declared.event_fault.EventFault.TheVariants.{Memory};
-    ghost use Rattle.plan_session.specs.Items.{TellsApart, HasWords};
+    ghost use Rattle.plan_session.specs.Items.{AreUnique, HasWords};
 
     /// The tokens that spell it.
     ghost spelled: { Self → List (List ℕ) };
@@ -29,8 +29,8 @@ pub(crate) trait Item: Copy {
     ghost is_item: { Self → Type 0 };
 
     /// The law of items: their tokens distinguish them. The function does nothing; its contract is the law.
-    fn told()
-        ensures apart { TellsApart spelled is_item }
+    fn uniqueness()
+        ensures unique { AreUnique spelled is_item }
         ensures some { HasWords spelled };
 
     /// Reads the next item.
@@ -144,7 +144,7 @@ fn items_of<T: Item>(alloc: Global, text: &[u8], tokens: &[Token]) -> Result<Vec
     ensures none { IfErr result (λ e. e ≢ Memory → (all : List T) → AllByRecursion T.is_item all
         → words_of_text text.now tokens.now ≢ flat_map T.spelled all) }
 {
-    T::told();
+    T::uniqueness();
     let mut items = Vec::new(alloc);
     let mut words = Words::new(text, tokens);
     while !words.is_empty() {
@@ -164,7 +164,7 @@ pub(crate) fn read_items<T: Item>(alloc: Global, text: &str) -> Result<Vec<T>, E
     ensures found { IfOk result (λ v. HoldsItems T.spelled T.is_item text.now v.items) }
     ensures only { IfErr result (λ e. e ≢ Memory → (all : List T)
         → HoldsItems T.spelled T.is_item text.now all → ⊥) }
-    ensures first { IfErr result (λ e. e ≢ Memory → TellsFirstFault text.now e) }
+    ensures first { IfErr result (λ e. e ≢ Memory → ReportsFirstFault text.now e) }
 {
     match cut(alloc, text, NO_LIMITS) {
         Ok(tokens) => items_of(alloc, text.as_bytes(), tokens.as_slice()),

@@ -2,7 +2,7 @@
 
 ghost use Rattle.plan_session.specs.Commands.{HoldsOneListOfCommands};
 ghost use Rattle.plan_session.specs.Events.{HoldsOneList};
-ghost use Rattle.plan_session.specs.Kept.{KeptTextsAnswerAlike};
+ghost use Rattle.plan_session.specs.Kept.{KeptTextsHaveSameResult};
 
 /// The law of event files: a text has at most one list of steps. The function does nothing; its contract is the law.
 pub fn one_list()
@@ -19,5 +19,5 @@ pub fn one_list_of_commands()
 /// as the whole, or the same first fault at the same position, and lists the same steps and commands. The function does
 /// nothing; its contract is the law.
 pub fn kept_texts()
-    ensures { KeptTextsAnswerAlike }
+    ensures { KeptTextsHaveSameResult }
 {}

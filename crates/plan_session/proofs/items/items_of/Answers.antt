@@ -20,5 +20,5 @@ loop-words-preserved g c =
     record {
       read = spelled_more spelled is words c.loop-words.items.items c.push.new.items.items c.loop-words.words c.read.new.words c.in_ok-item.item c.in_ok-item.ensures.read c.in_ok-push.ensures.added c.loop-words.invariant.read;
       range = pushed_in_range spelled is c.loop-words.items.items c.push.new.items.items c.in_ok-item.item c.in_ok-push.ensures.added c.loop-words.invariant.range c.in_ok-item.ensures.range;
-      on = goes_later spelled is c.told.ensures.apart c.told.ensures.some words c.loop-words.items.items c.push.new.items.items c.loop-words.words c.read.new.words c.in_ok-item.item c.in_ok-item.ensures.range c.in_ok-item.ensures.read c.in_ok-push.ensures.added c.loop-words.invariant.on;
+      on = goes_later spelled is c.uniqueness.ensures.unique c.uniqueness.ensures.some words c.loop-words.items.items c.push.new.items.items c.loop-words.words c.read.new.words c.in_ok-item.item c.in_ok-item.ensures.range c.in_ok-item.ensures.read c.in_ok-push.ensures.added c.loop-words.invariant.on;
     }

@@ -13,4 +13,4 @@ pub returns-in-Ok-clause-kept : goal.returns-in-Ok-clause-kept
 returns-in-Ok-clause-kept c = λ seen h.
     let whole = ends_whole seen c.args.self.begun.items h.characters (empty c.args.self.begun.items (sym c.is_empty.ensures ∙ c.if-not-is_empty.false)) in
     let bytes : string_bytes c.in-Ok.text ≡ c.args.self.kept.items = ap (λ v. v.items) c.in-Ok.ensures.ok in
-    (whole, subst (λ (l : List ℕ). IsKeptOf seen l) (sym bytes) (is_kept seen c.args.self.kept.items c.args.self.standing h.stands))
+    (whole, subst (λ (l : List ℕ). IsKeptOf seen l) (sym bytes) (is_kept seen c.args.self.kept.items c.args.self.state h.in_state))

@@ -5,5 +5,5 @@ use Rattle.plan_session.proofs.gathering.Gathering.new.Goals as goal
 pub returns : goal.returns
 returns c = record {
   characters = rw (c.new-2.ensures) none_yet;
-  stands = (c.new.ensures.items, at_front);
+  in_state = (c.new.ensures.items, at_front);
 }

@@ -6,7 +6,7 @@ use Rattle.plan_session.specs.Gathered.{IsGathered}
 use Rattle.std.specs.Str.{IsAscii}
 use Rattle.plan_session.specs.declared.gathering.Gathering.{Gathering}
 use Rattle.plan_session.proofs.CharacterSteps.{ascii_bytes}
-use Rattle.plan_session.proofs.KeptTexts.{stays_behind}
+use Rattle.plan_session.proofs.KeptTexts.{stays_past}
 use Rattle.plan_session.proofs.Readings.{one_more, from_here}
 use Rattle.plan_session.proofs.gathering.Gathering.take_all.Goals as goal
 
@@ -40,5 +40,5 @@ returns-then-is_ascii-clause-gathered c = λ seen h.
     let small : IsAscii bytes = c.if-is_ascii.ensures.cases in
     record {
       characters = ascii_bytes seen g.begun.items bytes h.characters (c.is_past.ensures.between c.if-is_past.true) small;
-      stands = stays_behind seen g.kept.items bytes g.standing h.stands (c.is_past.ensures.behind c.if-is_past.true);
+      in_state = stays_past seen g.kept.items bytes g.state h.in_state (c.is_past.ensures.past c.if-is_past.true);
     }
