@@ -1,5 +1,5 @@
 -- Entries with when they were heard, and the entries alone.
-use Rattle.std.proofs.Common.{Bor, ◌≡◌, ℕ, ◌<◌, ◌≤◌, ◌==◌, Bool, true, false, cond, nat_lt, List, [], ◌∷◌, length, Option, Some, None, is_some, refl, sym, ap, ◌∙◌, lt-ltb, le-ltb}
+use Rattle.std.proofs.Common.{Bor, ◌≡◌, ◌≢◌, ℕ, ◌<◌, ◌≤◌, ◌==◌, Bool, true, false, cond, nat_lt, List, [], ◌∷◌, length, Option, Some, None, is_some, refl, sym, ap, subst, ◌∙◌, lt-ltb, le-ltb}
 use Rattle.std.specs.Prelude.{◌||◌}
 use Rattle.std.specs.Option.{option_copied}
 use Rattle.std.specs.List.{AllByRecursion}
@@ -8,6 +8,7 @@ use Rattle.std.proofs.lemmas.List.{length-map}
 use Rattle.mux_config.specs.Tables.{entry_at, with_entry, with_entry_changed, has_entry}
 use Rattle.fib_reader.specs.Raw.{Raw}
 use Rattle.fib_reader.specs.Listening.{identifier_of, is_known, kept, has_room, pictured}
+use Rattle.stream_check.specs.declared.heard_table.Standing.{Standing}
 use Rattle.stream_check.specs.declared.heard_table.Standing.TheVariants as standings
 use Rattle.stream_check.specs.Pictures.{Heard, HeardPicture, heard_key, raws, heard_kept, shown, picture_kept}
 use Rattle.stream_check.specs.Standing.{agree, standing_to, standing, standing_in}
@@ -161,6 +162,20 @@ each_kept P Q h hs one other all = elim (has_entry heard_key (heard_key h) hs) a
   | true ↦ λ e. each_changed P Q h hs one other all
   | false ↦ λ e. each_added P Q h hs one e other all
 ] refl
+
+-- in a list that an entry was taken into, or that had no room for it
+pub each_heard : (P : Heard → Type 0) (h : Heard) (hs new : List Heard) (s : Standing) → P h → AllByRecursion P hs
+    → (s ≢ standings.Full → new ≡ heard_kept h hs) → (s ≡ standings.Full → new ≡ hs) → AllByRecursion P new
+each_heard P h hs new s one all kept full = by_cases s refl
+  where
+    taken : s ≢ standings.Full → AllByRecursion P new
+    taken other = subst (AllByRecursion P) (sym (kept other)) (each_kept P P h hs one (λ x free p. p) all)
+
+    by_cases : (t : Standing) → s ≡ t → AllByRecursion P new
+    by_cases standings.Same e = taken (λ f. absurd (cc))
+    by_cases standings.Other e = taken (λ f. absurd (cc))
+    by_cases standings.Absent e = taken (λ f. absurd (cc))
+    by_cases standings.Full e = subst (AllByRecursion P) (sym (full e)) all
 
 -- ---- look-ups
 

@@ -79,8 +79,8 @@ impl Checker {
     ghost use Rattle.stream_check.specs.Hearing.{HearsFrame};
     ghost use Rattle.stream_check.specs.Following.{Follows, EndsFull, IsAtLimit, IsSummary, is_begun, is_empty, with_skip, with_fib};
 
-    /// The check of a stream in this mode, of which no FIB was given yet. Each entry of the current configuration has to
-    /// come in any `period` successive frames.
+    /// The check of a stream in this mode, of which no FIB was given yet. Each entry of the current configuration has
+    /// to come in any `period` successive frames.
     pub fn new(mode: Mode, period: u16) -> Checker
         ensures { (r : Reading) (start : Option (List findings.Finding))
             → Follows r mode period [] start start result }
@@ -151,8 +151,8 @@ impl Checker {
         self.held.push(fib, sight);
     }
 
-    /// Hears the FIBs that are held, which are a frame, and holds this one, which begins another. The answer is false where
-    /// a picture had no room for an entry.
+    /// Hears the FIBs that are held, which are a frame, and holds this one, which begins another. The answer is false
+    /// where a picture had no room for an entry.
     fn hear_cut<R: Report>(&mut self, fib: &[u8; 32], sight: &Sight, report: &mut R) -> bool
         requires seen { (r : Reading) → IsSeen sight.now (r.read fib.now) }
         requires frames { self.old.memory.frames < most }
@@ -172,8 +172,8 @@ impl Checker {
         is_heard
     }
 
-    /// Hears the FIBs that are held and this one, which are a frame, and holds none. The answer is false where a picture
-    /// had no room for an entry.
+    /// Hears the FIBs that are held and this one, which are a frame, and holds none. The answer is false where a
+    /// picture had no room for an entry.
     fn hear_last<R: Report>(&mut self, fib: &[u8; 32], sight: &Sight, report: &mut R) -> bool
         requires seen { (r : Reading) → IsSeen sight.now (r.read fib.now) }
         requires frames { self.old.memory.frames < most }
@@ -194,10 +194,11 @@ impl Checker {
         is_heard
     }
 
-    /// Hears one FIB more, and tells what is found in the frame that it ends, if it ends one: a frame ends with the last of
-    /// its FIBs, or where the next one begins with a FIG 0/0. FIBs before the first that holds a FIG 0/0 are skipped.
+    /// Hears one FIB more, and reports what is found in the frame that it ends, if it ends one: a frame ends with the
+    /// last of its FIBs, or where the next one begins with a FIG 0/0. FIBs before the first that holds a FIG 0/0 are
+    /// skipped.
     ///
-    /// - `Full`: an entry came for which a picture had no room; what was found before it was told, and nothing that
+    /// - `Full`: an entry came for which a picture had no room; what was found before it was reported, and nothing that
     ///   follows is to be heard;
     /// - `TooLong`: 2^62 frames, skipped FIBs or damaged FIBs came before; the FIB was not heard, and nothing changes.
     pub fn hear<R: Report>(&mut self, fib: &[u8; 32], report: &mut R) -> Result<(), CheckFault>

@@ -71,7 +71,7 @@ impl Memory {
         }
     }
 
-    /// Tells where it is not in place, or not what its place asks.
+    /// Reports where it is out of place, or has another value than is due there.
     fn tell_place<R: Report>(&self, at: FrameAt, first: bool, ensemble: &Ensemble, report: &mut R)
         requires step { 0 < self.now.step }
         ensures { R.told report.new ≡ with_more (R.told report.old)
@@ -95,7 +95,7 @@ impl Memory {
         tell_if(!is_in_place, at, Fault::OutOfPlace, report);
     }
 
-    /// Tells what a swap shows, where it is one, or else whether it announces another one.
+    /// Reports what a swap shows, where it is one, or else whether it announces another one.
     fn tell_swap_or_another<R: Report>(&self, at: FrameAt, ensemble: &Ensemble, report: &mut R)
         ensures { R.told report.new ≡ with_more (R.told report.old)
             (map (in_frame at) (swap_or_another (known_in self.now) ensemble.now)) }
@@ -115,7 +115,7 @@ impl Memory {
         ensemble.change() > 0 && (self.is_made(ensemble) || self.awaited.is_none())
     }
 
-    /// Tells a first announcement.
+    /// Reports a first announcement.
     fn tell_announcement<R: Report>(&self, at: FrameAt, ensemble: &Ensemble, report: &mut R)
         ensures { R.told report.new ≡ with_more (R.told report.old)
             (map (in_frame at) (announcement (known_in self.now) ensemble.now)) }
@@ -136,7 +136,7 @@ impl Memory {
         }
     }
 
-    /// Tells what is found at a FIG 0/0.
+    /// Reports what is found at a FIG 0/0.
     fn tell_ensemble<R: Report>(
         &self,
         at: FrameAt,
@@ -155,7 +155,7 @@ impl Memory {
         tell_if(is_bare, at, Fault::NextUnannounced, report);
     }
 
-    /// Takes note of change flags.
+    /// Applies change flags.
     fn note_flags(&mut self, ensemble: &Ensemble)
         requires times { self.old.times ≤ 3 }
         ensures { self.new ≡ with_flags ensemble.now self.old }
@@ -169,7 +169,7 @@ impl Memory {
         }
     }
 
-    /// Takes note of a FIG 0/0.
+    /// Applies a FIG 0/0.
     fn note_ensemble(&mut self, first: bool, ensemble: &Ensemble)
         requires step { 0 < self.old.step }
         requires times { self.old.times ≤ 3 }
@@ -185,7 +185,7 @@ impl Memory {
         self.tuned = true;
     }
 
-    /// Takes note of a FIG 0/0, and tells what is found at it.
+    /// Applies a FIG 0/0, and reports what is found at it.
     pub(crate) fn hear_ensemble<R: Report>(
         &mut self,
         at: FrameAt,

@@ -23,7 +23,7 @@ fn first_of_entries(mut entries: Entries<'_>) -> Option<Ensemble>
     ensures { result ≡ first_raw entries.entry }
 {
     while let Some(entry) = entries.next() {
-        if entry.ext() == 0 {
+        if entry.is_ensemble() {
             return Some(entry.ensemble());
         }
     }

@@ -19,7 +19,9 @@ fn later(one: u64, other: u64) -> u64
 }
 
 impl Memory {
-    ghost use Rattle.std.specs.Prelude.{◌≡◌, ◌<◌, ◌≤◌, ◌+◌, ◌==◌, ◌&&◌, map, not, true, false};
+    ghost use Rattle.std.specs.Prelude.{◌≡◌, ◌≢◌, ◌<◌, ◌≤◌, ◌+◌, ◌==◌, ◌&&◌, map, not, true, false};
+    ghost use Rattle.std.specs.List.{AllByRecursion};
+    ghost use Rattle.stream_check.specs.Pictures.{Heard};
     ghost use Rattle.stream_check.specs.Telling.{with_more, in_frame};
     ghost use Rattle.stream_check.specs.Frames.{Reading};
     ghost use Rattle.stream_check.specs.History.{frame_items};
@@ -62,7 +64,7 @@ impl Memory {
         }
     }
 
-    /// Tells the ensemble of the first frame.
+    /// Reports the ensemble of the first frame.
     fn tell_first_line<R: Report>(&self, at: FrameAt, fibs: &FrameFibs, report: &mut R)
         ensures { (r : Reading) → R.told report.new ≡ with_more (R.told report.old)
             (map (in_frame at) (first_line self.now.due (map r.read fibs.now))) }
@@ -77,7 +79,7 @@ impl Memory {
         tell(at, What::Event(Event::Ensemble(eid)), report);
     }
 
-    /// Tells what is found at a frame as a whole.
+    /// Reports what is found at a frame as a whole.
     fn tell_frame<R: Report>(&self, at: FrameAt, size: usize, fibs: &FrameFibs, report: &mut R)
         requires sane { IsSane self.now }
         ensures { (r : Reading) → R.told report.new ≡ with_more (R.told report.old)
@@ -119,8 +121,9 @@ impl Memory {
         last > now || now - last < self.period
     }
 
-    /// Tells which of these entries of the current configuration are silent.
+    /// Reports which of these entries of the current configuration are silent.
     fn tell_quiet<R: Report>(&self, at: FrameAt, table: &HeardTable, report: &mut R)
+        requires members { AllByRecursion (λ (h : Heard). h.raw.ext ≢ 0) table.now }
         requires frames { self.now.frames < most }
         ensures { R.told report.new ≡ with_more (R.told report.old) (map (in_frame at)
             (quiet_findings self.now.swapped self.now.period self.now.frames table.now)) }
@@ -136,7 +139,7 @@ impl Memory {
         }
     }
 
-    /// Tells which entries of the current configuration are silent.
+    /// Reports which entries of the current configuration are silent.
     fn tell_silent<R: Report>(&self, at: FrameAt, report: &mut R)
         requires frames { self.now.frames < most }
         ensures { R.told report.new ≡ with_more (R.told report.old)
@@ -158,8 +161,8 @@ impl Memory {
         }
     }
 
-    /// Hears a frame of FIBs, and tells what is found in it. The answer is false where a picture had no room for an
-    /// entry of it, after which nothing more is told.
+    /// Hears a frame of FIBs, and reports what is found in it. The answer is false where a picture had no room for an
+    /// entry of it, after which nothing more is reported.
     pub(crate) fn hear_frame<R: Report>(
         &mut self,
         size: usize,

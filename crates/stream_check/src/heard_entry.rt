@@ -57,7 +57,7 @@ impl HeardEntry {
 }
 
 impl Default for HeardEntry {
-    /// A sub-channel in the short form, all zeros, never heard. It fills the unused places of a table.
+    /// A sub-channel in the short form, all zeros, never heard. It fills the unused slots of a table.
     fn default() -> HeardEntry {
         HeardEntry {
             entry: OwnedEntry::default(),

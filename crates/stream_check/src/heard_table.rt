@@ -10,7 +10,7 @@ use fib_reader::RawEntry;
 use mux_config::{Keyed, SortedTable};
 use std::marker::Model;
 
-/// How an entry stands to those of a table.
+/// How an entry compares with those of a table.
 #[derive(Clone, Copy, Debug, PartialEq, Eq)]
 pub enum Standing {
     /// It is there, all bytes alike.
@@ -78,8 +78,8 @@ impl HeardTable {
         self.oldest
     }
 
-    /// Looks for the oldest entry, where one may have been heard for the last time before this, or then. The entries stay
-    /// the same.
+    /// Looks for the oldest entry, where one may have been heard for the last time before this, or then. The entries
+    /// stay the same.
     pub(crate) fn look_for_oldest(&mut self, before: u64)
         ensures { self.new ≡ self.old }
     {
@@ -104,8 +104,8 @@ impl HeardTable {
         Standing::Absent
     }
 
-    /// Puts an entry in place of the one with the same identifier, or beside the others, as heard now. The answer is how
-    /// it stood to them before; where there is no room for it, nothing changes.
+    /// Puts an entry in place of the one with the same identifier, or beside the others, as heard now. Returns how
+    /// it compared with them before; where there is no room for it, nothing changes.
     pub(crate) fn hear(&mut self, entry: &RawEntry<'_>, at: u64) -> Standing
         ensures standing { result ≡ standing entry.now (raws self.old) }
         ensures kept { result ≢ standings.Full

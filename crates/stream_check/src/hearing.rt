@@ -12,7 +12,7 @@ impl Memory {
     ghost use Rattle.stream_check.specs.Memory.{IsSane, most};
     ghost use Rattle.stream_check.specs.Hearing.{IsLater, Hears};
 
-    /// Takes note of an entry of FIG 0/1 to 0/3, and tells what is found at it. Before the first FIG 0/0 it is passed
+    /// Applies an entry of FIG 0/1 to 0/3, and reports what is found at it. Before the first FIG 0/0 it is passed
     /// over. The answer is false where there is no room for it.
     fn hear_member<R: Report>(
         &mut self,
@@ -38,7 +38,7 @@ impl Memory {
         self.hear_current(at, entry, report)
     }
 
-    /// Takes note of one entry, and tells what is found at it.
+    /// Applies one entry, and reports what is found at it.
     fn hear_entry<R: Report>(
         &mut self,
         at: FrameAt,
@@ -53,7 +53,7 @@ impl Memory {
         ensures heard { Hears at (items_of first next (entry.now ∷ []))
             self.old (R.told report.old) self.new (R.told report.new) (not result) }
     {
-        if entry.ext() == 0 {
+        if entry.is_ensemble() {
             self.hear_ensemble(at, first, &entry.ensemble(), report);
             return true;
         }

@@ -4,8 +4,8 @@ ghost use Rattle.stream_check.specs.Parts.{IsTheMost};
 ghost use Rattle.stream_check.specs.Frames.{Reading};
 
 /// The law of parts: of all ways to cut the frames of a notice into successive parts, each of which has all that is
-/// wanted, one that ends each part as soon as it has all gives the most parts. So the number that is told of a notice is
-/// the number of times that the next configuration could be read.
+/// wanted, one that ends each part as soon as it has all gives the most parts. So the number that is reported of a
+/// notice is the number of times that the next configuration could be read.
 pub fn parts()
     ensures { IsTheMost }
 {}

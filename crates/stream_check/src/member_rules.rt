@@ -7,23 +7,26 @@ use crate::finding::{EntryName, Fault, What};
 use crate::heard_table::Standing;
 use crate::memory::Memory;
 use crate::telling::{FrameAt, Report, tell, tell_if};
+use fib_codec::Extension;
 use fib_reader::RawEntry;
 
 /// The name of an entry of FIG 0/1 to 0/3.
 pub(crate) fn name_of(entry: &RawEntry<'_>) -> EntryName
+    requires { entry.now.ext ≢ 0 }
     ensures { result ≡ name_of entry.now }
 {
     let identifier = entry.identifier();
-    match entry.ext() {
-        1 => EntryName::Sub(identifier),
-        2 => {
+    match entry.extension() {
+        Extension::Ensemble => unreachable!(),
+        Extension::SubChannels => EntryName::Sub(identifier),
+        Extension::Services => {
             if entry.long() {
                 EntryName::LongService(identifier - 65_536)
             } else {
                 EntryName::Service(identifier)
             }
         }
-        _ => EntryName::Packet(identifier),
+        Extension::Packets => EntryName::Packet(identifier),
     }
 }
 
@@ -36,7 +39,7 @@ impl Memory {
     ghost use Rattle.stream_check.specs.Rules.{finds_no_room, current_findings, next_findings};
     ghost use Rattle.stream_check.specs.Memory.{known_in, most, with_current, with_begun, with_next};
 
-    /// Takes an entry into the current configuration, and tells what is found at it. The answer is whether there
+    /// Takes an entry into the current configuration, and reports what is found at it. The answer is whether there
     /// was room for it; where there was none, nothing changes.
     pub(crate) fn hear_current<R: Report>(
         &mut self,
@@ -44,6 +47,7 @@ impl Memory {
         entry: &RawEntry<'_>,
         report: &mut R,
     ) -> bool
+        requires member { entry.now.ext ≢ 0 }
         requires frames { self.old.frames < most }
         ensures room { result ≡ true →
             finds_no_room (standing_in entry.now (shown self.old.current)) ≡ false }
@@ -69,7 +73,7 @@ impl Memory {
         true
     }
 
-    /// Takes note that an entry of the next configuration came, which may begin the notice, and of one that it did not
+    /// Notes that an entry of the next configuration came, which may begin the notice, and of one that it did not
     /// have before.
     fn note_next(&mut self, is_absent: bool)
         ensures { self.new ≡ with_begun is_absent self.old }
@@ -84,7 +88,7 @@ impl Memory {
         }
     }
 
-    /// Takes an entry into the next configuration, and tells what is found at it. The answer is whether there
+    /// Takes an entry into the next configuration, and reports what is found at it. The answer is whether there
     /// was room for it; where there was none, nothing changes.
     pub(crate) fn hear_next<R: Report>(
         &mut self,
@@ -92,6 +96,7 @@ impl Memory {
         entry: &RawEntry<'_>,
         report: &mut R,
     ) -> bool
+        requires member { entry.now.ext ≢ 0 }
         requires rows { self.old.rows < most }
         ensures room { result ≡ true →
             finds_no_room (standing_in entry.now (shown self.old.next)) ≡ false }

@@ -3,10 +3,12 @@
 ghost use Rattle.std.specs.Prelude.{◌≡◌, ◌≢◌};
 
 use crate::heard_table::{HeardTable, Standing};
+use fib_codec::Extension;
 use fib_reader::RawEntry;
 use std::marker::Model;
 
-/// The entries of FIG 0/1 to 0/3 that were heard of one configuration, each with when it was last heard.
+/// The entries of FIG 0/1 to 0/3 that were heard of one configuration, each with when it was last heard. None is of
+/// FIG 0/0.
 #[derive(Drop)]
 pub struct Picture {
     subs: HeardTable,
@@ -15,16 +17,21 @@ pub struct Picture {
 }
 
 impl Model for Picture {
-    ghost use Rattle.stream_check.specs.Pictures.{HeardPicture};
+    ghost use Rattle.std.specs.Prelude.{◌≢◌};
+    ghost use Rattle.stream_check.specs.Pictures.{Heard, HeardPicture, Each};
 
     ghost Value = { HeardPicture };
 
     ghost view = { λ p. record { subs = p.subs; services = p.services; packets = p.packets } };
+
+    ghost invariant = { λ p. Each (λ (h : Heard). h.raw.ext ≢ 0)
+        (record { subs = p.subs; services = p.services; packets = p.packets }) };
 }
 
 impl Picture {
     ghost use Rattle.std.specs.Prelude.{◌≡◌, ◌≢◌};
-    ghost use Rattle.stream_check.specs.Pictures.{empty_picture, shown, picture_kept, heard_since};
+    ghost use Rattle.std.specs.List.{AllByRecursion};
+    ghost use Rattle.stream_check.specs.Pictures.{Heard, empty_picture, shown, picture_kept, heard_since};
     ghost use Rattle.stream_check.specs.Rules.{change_between};
     ghost use Rattle.stream_check.specs.Standing.{standing_in};
     ghost use Rattle.stream_check.specs.declared.heard_table.Standing.TheVariants as standings;
@@ -42,37 +49,42 @@ impl Picture {
 
     /// The sub-channels in ascending order.
     pub(crate) fn subs(&self) -> &HeardTable
-        ensures { result.now ≡ self.now.subs }
+        ensures value { result.now ≡ self.now.subs }
+        ensures members { AllByRecursion (λ (h : Heard). h.raw.ext ≢ 0) result.now }
     {
         &self.subs
     }
 
     /// The services in ascending order.
     pub(crate) fn services(&self) -> &HeardTable
-        ensures { result.now ≡ self.now.services }
+        ensures value { result.now ≡ self.now.services }
+        ensures members { AllByRecursion (λ (h : Heard). h.raw.ext ≢ 0) result.now }
     {
         &self.services
     }
 
     /// The packet components in ascending order.
     pub(crate) fn packets(&self) -> &HeardTable
-        ensures { result.now ≡ self.now.packets }
+        ensures value { result.now ≡ self.now.packets }
+        ensures members { AllByRecursion (λ (h : Heard). h.raw.ext ≢ 0) result.now }
     {
         &self.packets
     }
 
     /// Puts an entry of FIG 0/1 to 0/3 in place of the one with the same identifier, or beside the others, as heard
-    /// now. The answer is how it stood to them before; where there is no room for it, nothing changes.
+    /// now. Returns how it compared with them before; where there is no room for it, nothing changes.
     pub(crate) fn hear(&mut self, entry: &RawEntry<'_>, at: u64) -> Standing
+        requires { entry.now.ext ≢ 0 }
         ensures standing { result ≡ standing_in entry.now (shown self.old) }
         ensures kept { result ≢ standings.Full
             → self.new ≡ picture_kept (record { raw = entry.now; at = at }) self.old }
         ensures full { result ≡ standings.Full → self.new ≡ self.old }
     {
-        match entry.ext() {
-            1 => self.subs.hear(entry, at),
-            2 => self.services.hear(entry, at),
-            _ => self.packets.hear(entry, at),
+        match entry.extension() {
+            Extension::Ensemble => unreachable!(),
+            Extension::SubChannels => self.subs.hear(entry, at),
+            Extension::Services => self.services.hear(entry, at),
+            Extension::Packets => self.packets.hear(entry, at),
         }
     }
 

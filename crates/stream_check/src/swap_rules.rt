@@ -19,7 +19,7 @@ impl Memory {
         !self.is_cut_off && holds
     }
 
-    /// Tells what of the notice of a swap is at fault.
+    /// Reports what of the notice of a swap is at fault.
     fn tell_notice<R: Report>(&self, at: FrameAt, report: &mut R)
         ensures { R.told report.new ≡ with_more (R.told report.old)
             (map (in_frame at) (notice_faults (known_in self.now))) }
@@ -33,7 +33,7 @@ impl Memory {
         tell_if(is_misnamed, at, Fault::Flags(self.flags, changes), report);
     }
 
-    /// Tells what of the capacity units of the next configuration is at fault.
+    /// Reports what of the capacity units of the next configuration is at fault.
     fn tell_units<R: Report>(&self, at: FrameAt, report: &mut R)
         ensures { R.told report.new ≡ with_more (R.told report.old)
             (map (in_frame at) (unit_faults (known_in self.now))) }
@@ -42,7 +42,7 @@ impl Memory {
         tell_some(past_end(self.next.subs().as_slice()), at, report);
     }
 
-    /// Tells a swap, and what of the pictures before it and of its notice is at fault.
+    /// Reports a swap, and what of the pictures before it and of its notice is at fault.
     pub(crate) fn tell_swap<R: Report>(&self, at: FrameAt, ensemble: &Ensemble, report: &mut R)
         ensures { R.told report.new ≡ with_more (R.told report.old)
             (map (in_frame at) (swap_findings (known_in self.now) ensemble.now)) }

@@ -1,4 +1,4 @@
-//! Whom findings are told.
+//! The sink that findings are reported to.
 
 ghost use Rattle.std.specs.Prelude.{◌≡◌, [], ◌∷◌, map};
 ghost use Rattle.stream_check.specs.Telling.{with_more, in_frame, when, as_list};
@@ -10,7 +10,7 @@ pub trait Report {
     ghost use Rattle.std.specs.Prelude.{List, Option};
     ghost use Rattle.stream_check.specs.declared.finding.Finding as findings;
 
-    /// All that it was told, where it keeps that.
+    /// All that was reported to it, where it keeps that.
     ghost told: { Self → Option (List findings.Finding) };
 
     /// Takes one more.
@@ -27,7 +27,7 @@ pub struct FrameAt {
     pub count: u16,
 }
 
-/// Tells what was found in a frame.
+/// Reports what was found in a frame.
 pub(crate) fn tell<R: Report>(at: FrameAt, what: What, report: &mut R)
     ensures { R.told report.new ≡ with_more (R.told report.old) (in_frame at what ∷ []) }
 {
@@ -38,7 +38,7 @@ pub(crate) fn tell<R: Report>(at: FrameAt, what: What, report: &mut R)
     });
 }
 
-/// Tells a fault where this holds.
+/// Reports a fault where this holds.
 pub(crate) fn tell_if<R: Report>(holds: bool, at: FrameAt, fault: Fault, report: &mut R)
     ensures { let found = map (in_frame at) (when holds fault) in
         R.told report.new ≡ with_more (R.told report.old) found }
@@ -48,7 +48,7 @@ pub(crate) fn tell_if<R: Report>(holds: bool, at: FrameAt, fault: Fault, report:
     }
 }
 
-/// Tells a fault, if there is one.
+/// Reports a fault, if there is one.
 pub(crate) fn tell_some<R: Report>(fault: Option<Fault>, at: FrameAt, report: &mut R)
     ensures { let found = map (in_frame at) (as_list fault) in
         R.told report.new ≡ with_more (R.told report.old) found }
