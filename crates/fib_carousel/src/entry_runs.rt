@@ -93,6 +93,7 @@ fn put_services<S: Store>(store: &S, next: bool, from: usize, room: u8, fib: &mu
 
 /// Appends the entry at an index of a store's configuration, marked with this C/N flag, and those of the same head and
 /// size that stand behind it, but none that the room is too small for. How many they are is the result.
+#[inline(always)]
 pub(crate) fn put_run_at<S: Store>(store: &S, next: bool, index: u16, room: u8, fib: &mut Fib) -> u8
     requires here { index < length (config_entries (S.content store.now)) }
     requires first { (m : Marked)

@@ -74,6 +74,7 @@ fn put_components(fib: &mut Fib, components: &[Component])
 }
 
 /// Appends the entry of a service to a FIB that has room for it.
+#[inline(always)]
 pub(crate) fn put_service(fib: &mut Fib, service: &Service)
     requires service { IsService service.now }
     requires room { length fib.old + entry_size (service_entry service.now) ≤ 30 }
