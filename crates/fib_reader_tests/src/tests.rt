@@ -1,16 +1,11 @@
-//! Outside vectors: worked examples, FIBs of the standard's lenient forms, and FIBs of another
-//! multiplexer.
+//! What no command shows of FIBs: where a fault is.
 //!
 //! A call with a long contract stands in a small function without one, so that no test's proof
 //! carries it.
 
 use fib_codec::crc16;
 
-mod hearing;
-mod reading;
-
-/// The bits of a byte, one in each mask.
-const BITS: [u8; 8] = [1, 2, 4, 8, 16, 32, 64, 128];
+mod places;
 
 /// These data bytes, which zeros follow up to the thirtieth.
 fn filled_of(data: &[u8]) -> [u8; 30] {
@@ -38,13 +33,4 @@ fn fib_of(data: &[u8]) -> [u8; 32] {
     body.copy_from_slice(&filled);
     last.copy_from_slice(&crc);
     fib
-}
-
-/// This FIB with the bits of `mask` turned in the byte at `place`.
-fn turned(fib: &[u8; 32], place: usize, mask: u8) -> [u8; 32] {
-    let mut other = *fib;
-    if let Some(byte) = other.get_mut(place) {
-        *byte ^= mask;
-    }
-    other
 }

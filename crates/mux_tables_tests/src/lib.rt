@@ -1,4 +1,4 @@
-//! The tests of `mux_tables`, over its public calls.
+//! Every public call of a store, over each kind of store.
 #![tactic(auto)]
 
 #[cfg(test)]

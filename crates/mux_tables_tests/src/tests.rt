@@ -1,4 +1,1 @@
-mod crowding;
-mod edits;
-mod parts;
 mod stores;

@@ -1,4 +1,4 @@
-//! The tests of `script_front`, over its public calls.
+//! The layout of printed scripts, which no command shows whole.
 #![tactic(auto)]
 
 #[cfg(test)]

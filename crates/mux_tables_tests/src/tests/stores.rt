@@ -1,10 +1,16 @@
-//! `Tables` passes what every store has to pass.
+//! `Config` and `Tables` pass what every store has to pass.
 
+use mux_config::Config;
 use mux_tables::Tables;
 use std::test::Fail;
 use store_conformance::every_run;
 
 #[test]
-fn tables_are_a_store() -> Result<(), Fail> {
+fn configurations_in_tables_are_a_store() -> Result<(), Fail> {
+    every_run::<Config>()
+}
+
+#[test]
+fn counted_configurations_are_a_store() -> Result<(), Fail> {
     every_run::<Tables>()
 }

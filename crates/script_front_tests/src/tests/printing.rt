@@ -1,21 +1,18 @@
-//! Trees that are printed, and read again.
+//! Scripts that are printed: the layout of every item and statement.
 
-use super::fixtures::{HEAD, is_printed};
+use script_front::{parse, print};
+use std::alloc::Global;
 use std::test::Fail;
 
-#[test]
-fn a_short_script(rt: HostRuntime) -> Result<(), Fail> {
-    let wanted = "ensemble E1C5\nperiod 4 notice 24 budget 20\nbegin\nrepeat 5 {\n  wait 1\n}\n";
-    assert!(rt; is_printed(rt.alloc(), HEAD, "begin repeat 5{wait 1}", wanted)?);
-    Ok(())
+/// What is printed of the script that a text holds.
+fn printed_of(alloc: Global, text: &str) -> Result<String, Fail> {
+    let script = parse(alloc, text)?;
+    Ok(print(alloc, &script)?)
 }
 
-#[test]
-fn modes_are_printed(rt: HostRuntime) -> Result<(), Fail> {
-    let text = "ensemble 00C5 mode 4 period 60 notice 248 budget 255 begin";
-    let wanted = "ensemble 00C5 mode 4\nperiod 60 notice 248 budget 255\nbegin\n";
-    assert!(rt; is_printed(rt.alloc(), "", text, wanted)?);
-    Ok(())
+/// Whether a text is printed so.
+fn is_printed(alloc: Global, text: &str, wanted: &str) -> Result<bool, Fail> {
+    Ok(printed_of(alloc, text)?.as_str() == wanted)
 }
 
 /// A printed text, with every item and statement, braces inside braces, and `else`.
@@ -75,32 +72,10 @@ end
 ";
 
 #[test]
-fn every_statement(rt: HostRuntime) -> Result<(), Fail> {
-    assert!(rt; is_printed(rt.alloc(), "", EVERY, EVERY)?);
-    Ok(())
-}
-
-/// What is printed of a script, however its blanks and comments stand.
-const PLAIN: &str = "ensemble E1C5
-period 4 notice 24 budget 20
-begin
-if contact 1 {
-  wait 1
-} else {
-  join
-}
-end
-";
-
-#[test]
-fn blanks_and_comments_do_not_matter(rt: HostRuntime) -> Result<(), Fail> {
-    for rest in [
-        "begin if contact 1 { wait 1 } else { join } end",
-        "begin  if  contact\t1{wait 1}else{join}end",
-        "begin;if;contact;1;{;wait;1;};else;{;join;};end;",
-        "begin # a\nif # b {\ncontact#c\n1{wait#}\r\n1}else{join}end#",
-    ] {
-        assert!(rt; is_printed(rt.alloc(), HEAD, rest, PLAIN)?);
-    }
+fn every_statement_is_printed_on_a_line_of_its_own(rt: HostRuntime) -> Result<(), Fail> {
+    assert!(rt; is_printed(rt.alloc(), EVERY, EVERY)?);
+    let text = "ensemble 00C5 mode 4 period 60 notice 248 budget 255 begin";
+    let wanted = "ensemble 00C5 mode 4\nperiod 60 notice 248 budget 255\nbegin\n";
+    assert!(rt; is_printed(rt.alloc(), text, wanted)?);
     Ok(())
 }

@@ -1,5 +1,0 @@
-//! The tests of `mux_config`, over its public calls.
-#![tactic(auto)]
-
-#[cfg(test)]
-mod tests;

@@ -1,4 +1,0 @@
-mod faults;
-mod numbers;
-mod records;
-mod stores;
