@@ -85,7 +85,7 @@ same_items (i ∷ is) (j ∷ js) xs ys h k m n e =
 
 -- ---- blocks
 
--- the names are told apart
+-- the names are different
 abbrev Told : List (List ℕ) → Type 0
 Told names = (m n : ℕ) → m < length names → n < length names → name_at names m ≡ name_at names n → m ≡ n
 
@@ -101,7 +101,7 @@ told_apart names ns h m n a b e =
       ]
     ]
 
--- what stands in braces, and behind them
+-- what is in braces, and behind them
 opened : (names : List (List ℕ)) (body other : Block) (tail xs more : Spelled) → braced (block_words names body) tail ++ xs ≡ in_braces names other more
     → block_words names body ++ letters the.CloseBrace ∷ (tail ++ xs) ≡ block_words names other ++ letters the.CloseBrace ∷ more
 opened names body other tail xs more e = rest_is _ _ _ _ (sym (braced_then names body tail xs) ∙ e)

@@ -119,7 +119,7 @@ define_more names more old mid new i j k bs cs b is room d h =
           );
     })
 
--- a name that stands nowhere is none of them
+-- a name that is nowhere among them is none of them
 pub all_others : (names : List (List ℕ)) (name : List ℕ) → ((i : ℕ) → slice_get names i ≢ Some name) → All (λ other. other ≢ name) names
 all_others [] name new k d lt e = absurd (omega arith)
 all_others (n ∷ names) name new zero d lt e = new 0 (ap Some e)

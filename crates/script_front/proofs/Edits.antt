@@ -20,7 +20,7 @@ use Rattle.script_tokens.proofs.Keys.{word_the, word_text, decimal_own}
 use Rattle.script_front.proofs.Finding.{number, number_decimal, sid_of, sid_again, profile_of, profile_again, time_of, time_again}
 use Rattle.script_tokens.specs.Reading.{Spelled}
 
--- the word of this place, and the word of the grammar there
+-- the word of this index, and the keyword there
 abbrev pub at : Spelled → ℕ → List ℕ
 at ws i = get_or ws i []
 

@@ -61,7 +61,7 @@ plain : (ss : List Statement) → IsPlain (block_of [] ss)
 plain [] = tt
 plain (s ∷ ss) = statement_plain s _ (plain ss)
 
--- ---- words tell the lines
+-- ---- words give the lines
 
 words_unlined : (names : List (List ℕ)) (b : Block) → block_words names b ≡ block_words names (unlined b)
 words_unlined names nothing = refl

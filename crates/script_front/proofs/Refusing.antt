@@ -48,10 +48,6 @@ left_over ws vs i j rest len p e = dropped ws vs j.words rest len (sym p.0 ∙ e
     dropped (x ∷ xs) [] vs us l f = absurd (omega (arith, l))
     dropped (x ∷ xs) (y ∷ ys) vs us l f = dropped xs ys vs us (omega (arith, l)) (rest_is x y (xs ++ vs) (ys ++ us) f)
 
--- which word of the grammar stands first, where one was found
-abbrev pub Found : Spelled → Keyword → Type 0
-Found words found = (k : Keyword) (rest : Spelled) → words ≡ letters k ∷ rest → found ≡ k
-
 -- this keyword is not next
 abbrev pub NoneNext : Spelled → Keyword → Type 0
 NoneNext words k = (rest : Spelled) → words ≢ letters k ∷ rest
@@ -139,7 +135,7 @@ pub no_rate : (i : Input) → NoneOf (ℕ × ℕ) (λ p. (p.0 < 64) × (p.1 < 65
 no_rate i none e rest h eq =
     let s = seen (letters the.Rate ∷ i.words) _ e rest (ap (λ p. p.0) (edit_is the.Rate i.words e rest h eq)) h eq in none (_, _) rest s.formed s.spelled
 
--- which word of the grammar an edit begins with
+-- the keyword with which an edit begins
 abbrev pub edit_key : Edit → Keyword
 edit_key (AddSub s) = the.Sub
 edit_key (DropSub id) = the.Drop
@@ -323,7 +319,7 @@ act_begins Settle rest = refl
 pub key_of_act : (first : Keyword) (ws : Spelled) (a : Act) (rest : Spelled) → letters first ∷ ws ≡ act_words a ++ rest → first ≡ act_key a
 key_of_act first ws a rest eq = same_key first (act_key a) ws (drop 1 (act_words a ++ rest)) (eq ∙ act_begins a rest)
 
--- no edit begins with this word
+-- the keywords with which an edit begins
 abbrev pub begins_edit : Keyword → Bool
 begins_edit the.Sub = true
 begins_edit the.Drop = true

@@ -107,7 +107,7 @@ no_body_here names name left i m p none [] (x ∷ xs) rest few can = let e = can
 no_body_here names name left i m p none (n ∷ ns) (x ∷ xs) rest few can =
     none (front_names names (n ∷ ns) can.named) (block_of [] x) _ (omega arith) can.fit.0 (omega (arith, few)) (rest_is _ _ _ _ (rest_is _ _ _ _ (sym p.0 ∙ first_words names i.words n ns x xs rest can)))
 
--- 64 blocks are defined, and another definition stands here
+-- 64 blocks are defined, and another definition is next
 no_other : (names : List (List ℕ)) (words : Spelled) (later : List (List ℕ)) (blocks : List (List Statement)) (rest : Spelled) → length names ≡ 64 → BeginsWith words (letters the.Define) → CanDefine names words later blocks rest → ⊥
 no_other names words later [] rest full begins can = can.ends _ (sym can.spelled ∙ begins.begins)
 no_other names words later (y ∷ ys) rest full begins can = let f = can.few in omega (arith, f, full)

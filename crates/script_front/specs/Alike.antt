@@ -1,4 +1,4 @@
--- Which scripts are alike, lines aside, and which are the same. Tokens tell apart scripts that are not alike, and texts
+-- Which scripts are alike, lines aside, and which are the same. Scripts that are not alike have different tokens, and texts
 -- scripts that are not the same.
 use Rattle.std.specs.Prelude.{◌≡◌, ℕ, List, [], map}
 use Rattle.mux_config.specs.declared.edit.Edit.{Edit}

@@ -1,5 +1,5 @@
 -- What the statements of a script mean: a block is its first statement and the rest of it. A block that is applied
--- stands, beside its number, in the place where it is applied.
+-- is, beside its number, where it is applied.
 use Rattle.std.specs.Prelude.{ℕ, List, [], ◌∷◌, ◌++◌, map, slice_index_or}
 use Rattle.script_front.specs.declared.tree.Act.{Act}
 use Rattle.script_front.specs.declared.tree.Statement.{Statement}

@@ -48,7 +48,7 @@ abbrev pub NoBody : (names : List (List ℕ)) (depth left : ℕ) → Spelled →
 NoBody names depth left words = All IsName names → (b : Block) (rest : Spelled) → 1 ≤ depth → IsInBounds (length names) (depth - 1) b → counted b ≤ left
     → words ≢ letters the.OpenBrace ∷ (block_words names b ++ letters the.CloseBrace ∷ rest)
 
--- no defined block has the name that stands here
+-- no defined block has the name that is next
 abbrev pub NoApplied : (names : List (List ℕ)) → Spelled → Type 0
 NoApplied names words = All IsName names → (number : ℕ) (rest : Spelled) → number < length names → words ≢ name_at names number ∷ rest
 
@@ -89,7 +89,7 @@ pub record DefinesOn (names : List (List ℕ)) (old new : ℕ) (after : Spelled)
 abbrev pub NoDefinitions : (known : List (List ℕ)) (left : ℕ) → Spelled → Type 0
 NoDefinitions known left words = (later : List (List ℕ)) (blocks : List (List Statement)) (rest : Spelled) → counted_in blocks ≤ left → CanDefine known words later blocks rest → ⊥
 
--- no name that is new, and may be one, stands here
+-- no name that is new, and may be one, is next
 abbrev pub NoNewName : (names : List (List ℕ)) → Spelled → Type 0
 NoNewName names words = (name : List ℕ) (rest : Spelled) → IsName name → All (λ other. other ≢ name) names → words ≢ name ∷ rest
 

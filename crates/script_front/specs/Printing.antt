@@ -12,7 +12,7 @@ use Rattle.script_front.specs.Tree.{Tree}
 use Rattle.script_front.specs.Spelled.{edit_words, act_words, name_at, mode_words}
 use Rattle.script_tokens.specs.Reading.{Spelled}
 
--- the words of a line, and how many braces it stands in
+-- the words of a line, and how many braces it is in
 pub record Line : Type 0 where
   pub depth : ℕ
   pub words : Spelled

@@ -130,12 +130,12 @@ tree_words t =
 
 -- ---- the lines of a script, where the lines of all of its tokens are these
 
--- each item stands on the line of its first word, where these words follow the items
+-- each item is on the line of its first word, where these words follow the items
 abbrev pub ItemsOn : List ℕ → List Item → Spelled → Type 0
 ItemsOn lines [] after = Unit {0}
 ItemsOn lines (i ∷ is) after = (i.line ≡ line_of lines (items_words (i ∷ is) ++ after)) × ItemsOn lines is after
 
--- each statement stands on the line of its first word, where these words follow the block
+-- each statement is on the line of its first word, where these words follow the block
 abbrev pub BlockOn : List (List ℕ) → List ℕ → Block → Spelled → Type 0
 BlockOn names lines nothing after = Unit {0}
 BlockOn names lines (basic line act rest) after =

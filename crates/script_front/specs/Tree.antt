@@ -63,7 +63,7 @@ AreNamedApart names = AllPairs (λ one other. one ≢ other) names
 
 -- ---- blocks
 
--- every number is in range, this many blocks are known, and braces stand at most so deep
+-- every number is in range, this many blocks are known, and braces are at most this deep
 abbrev pub IsInBounds : (known depth : ℕ) → Block → Type 0
 IsInBounds known depth nothing = Unit {0}
 IsInBounds known depth (basic line act rest) = IsAct act × IsInBounds known depth rest

@@ -20,7 +20,7 @@ use script_tokens::keyword::Keyword;
 use script_tokens::reader::Reader;
 use script_tokens::values::{decimal, eid};
 
-/// A number from `low` to `high` behind this word.
+/// A number from `low` to `high` behind this keyword.
 fn declared(reader: &mut Reader, keyword: Keyword, low: u8, high: u8) -> Result<u8, ScriptFault>
     ensures spells { IfOk result (λ n. Passes (letters keyword ∷ decimal n ∷ []) reader.old
         reader.new) }
@@ -34,7 +34,7 @@ fn declared(reader: &mut Reader, keyword: Keyword, low: u8, high: u8) -> Result<
     Ok(value as u8)
 }
 
-/// `mode MODE`, or mode I where no `mode` stands
+/// `mode MODE`, or mode I where there is no `mode`
 fn mode(reader: &mut Reader) -> Result<Mode, ScriptFault>
     ensures spells { IfOk result (λ m. Passes (mode_words m) reader.old reader.new) }
     ensures none { OnErr result (NoneOf Mode (λ m. Unit {0}) (λ m. mode_words m ++ letters

@@ -76,7 +76,7 @@ fn new_sub(reader: &mut Reader) -> Result<NewSub, ScriptFault>
     Ok(NewSub::from_parts(id, start, protection, kbits))
 }
 
-/// `SCID groups type TYPE sub ID address ADDR`, or `raw` in place of `groups`
+/// `SCID groups type TYPE sub ID address ADDR`, or with `raw` for `groups`
 fn new_packet(reader: &mut Reader) -> Result<Packet, ScriptFault>
     ensures spells { IfOk result (λ p. Passes (edit_words (AddPacket p)) (behind the.Packet
         reader.old) reader.new) }
@@ -168,7 +168,7 @@ fn carried(reader: &mut Reader, first: ComponentKeyword) -> Result<Component, Sc
     }
 }
 
-/// An item after its first word.
+/// An item after its first keyword.
 fn item(reader: &mut Reader, first: ItemKeyword) -> Result<Edit, ScriptFault>
     ensures spells { IfOk result (λ e. Passes (edit_words e) (behind (item_keyword first) reader.old) reader.new) }
     ensures range { IfOk result IsEdit }
@@ -276,7 +276,7 @@ fn rated(reader: &mut Reader) -> Result<Edit, ScriptFault>
     Ok(Edit::RateSub { id, kbits })
 }
 
-/// An edit after its first word.
+/// An edit after its first keyword.
 fn edit(reader: &mut Reader, first: EditKeyword) -> Result<Edit, ScriptFault>
     ensures spells { IfOk result (λ e. Passes (edit_words e) (behind (edit_keyword first) reader.old) reader.new) }
     ensures range { IfOk result IsEdit }
@@ -341,7 +341,7 @@ fn committing(reader: &mut Reader) -> Result<Act, ScriptFault>
     Ok(Act::CommitAt(count))
 }
 
-/// A statement without a block, after its first word.
+/// A statement without a block, after its first keyword.
 pub fn act(reader: &mut Reader, first: ActKeyword) -> Result<Act, ScriptFault>
     ensures spells { IfOk result (λ a. Passes (act_words a) (behind (act_keyword first) reader.old) reader.new) }
     ensures range { IfOk result IsAct }

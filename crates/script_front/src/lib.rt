@@ -1,7 +1,7 @@
 //! The script language of reconfiguration plans: its tree, reading and printing.
 //!
-//! `parse` reads a text into a `Script`, `print` writes one, and `lex`, of the crate of words, gives a text's
-//! tokens. Begin with `Script` and `Statement`. What a text denotes, which `parse` answers, stands in
+//! `parse` reads a text into a `Script`, `print` writes one, and `lex`, of `script_tokens`, gives a text's
+//! tokens. Begin with `Script` and `Statement`. What a text denotes, which `parse` answers, is defined in
 //! `specs/Denoting.antt`: `IsScriptOf`; what a tree means to a compiler, in `specs/Block.antt`.
 #![tactic(auto)]
 

@@ -29,7 +29,7 @@ const MOST_STATEMENTS: u16 = 8192;
 /// The most defined blocks of a script.
 const MOST_BLOCKS: usize = 64;
 
-/// The deepest that braces may stand one inside another.
+/// The deepest that braces may be nested.
 const DEEPEST: u8 = 16;
 
 /// Definitions, up to what is none. A name is defined once its block has ended.
@@ -107,7 +107,7 @@ fn end(reader: &Reader) -> Result<(), ScriptFault>
     }
 }
 
-/// The words of a whole script.
+/// The tokens of a whole script.
 fn script(alloc: Global, reader: &mut Reader) -> Result<Script, ScriptFault>
     ensures spelled { IfOk result (λ s. SpellsTree s reader.old) }
     ensures none { IfErr result (λ e. e ≢ Memory → SpellsNone reader.old.words) }
@@ -132,13 +132,13 @@ fn script(alloc: Global, reader: &mut Reader) -> Result<Script, ScriptFault>
 /// # Errors
 ///
 /// The faults of `lex`; then the first from the front of: `Number` for an atom that is no value in range where a
-/// value must stand, `Expected` for another wrong token or the end of the text, `Depth` for a brace more than 16
+/// value is required, `Expected` for another wrong token or the end of the text, `Depth` for a brace more than 16
 /// deep, `NameUsed` for a second definition of a name, `NameUnknown` where a name is applied that was not defined
 /// before, `Limit` for a 65th definition, and for an item or statement past 8,192 in all; `Memory` where memory is
 /// refused. Each but `Memory` has the position of the token at fault, or just past the text.
 ///
 /// Memory aside, a text is refused only where it is no script: where no tree with every number in range, names well
-/// formed and different, and no limit passed has its words on its lines.
+/// formed and different, and no limit passed has its tokens on its lines.
 pub fn parse(alloc: Global, text: &str) -> Result<Script, ScriptFault>
     ensures script { IfOk result (λ s. IsScriptOf text.now s) }
     ensures none { IfErr result (λ e. e ≢ Memory → IsNoScript text.now) }

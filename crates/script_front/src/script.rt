@@ -7,7 +7,7 @@ use crate::tree::{Header, Item, Statement};
 use std::marker::Model;
 
 /// A script. Every number is in its range and every name is well formed and defined once; at most 64 blocks are
-/// defined, each applies those before it only, braces stand at most 16 deep, and there are at most 8,192 items
+/// defined, each applies those before it only, braces are at most 16 deep, and there are at most 8,192 items
 /// and statements.
 #[derive(Drop)]
 pub struct Script {

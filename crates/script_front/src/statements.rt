@@ -21,7 +21,7 @@ use script_tokens::values::{contact, name, times};
 use std::alloc::Global;
 
 /// A statement; `left` is how many more items and statements a script may have, and `depth` how many more
-/// braces may stand one inside another.
+/// braces may be nested.
 #[cycle(statements)]
 fn statement(
     alloc: Global,
@@ -136,7 +136,7 @@ pub fn block(
     Ok(body)
 }
 
-/// A brace that opens, where this many more may stand one inside another.
+/// A brace that opens, where this many more may be nested.
 fn open(reader: &mut Reader, depth: u8) -> Result<(), ScriptFault>
     ensures room { OnOk result (1 ≤ depth) }
     ensures spells { OnOk result (Passes (letters the.OpenBrace ∷ []) reader.old reader.new) }

@@ -173,7 +173,7 @@ fn put_dropped(out: &mut String, sid: Sid, carrier: Carrier) -> Result<(), Alloc
     Ok(())
 }
 
-/// A service that is added or taken away, after its first words.
+/// A service that is added or taken away, after its first keywords.
 fn put_after(out: &mut String, words: &str, sid: Sid) -> Result<(), AllocError>
     ensures { OnOk result (string_bytes out.new ≡ string_bytes out.old ++ (words.now ++ sid_word
         sid)) }

@@ -38,7 +38,7 @@ length_behind : (front ts : List Token) → length (front ++ ts) ≡ length fron
 length_behind [] ts = omega arith
 length_behind (x ∷ front) ts = let h = length_behind front ts in omega (arith, h)
 
--- the first of the last tokens stands on its line
+-- the first of the last tokens is on its line
 pub first_line : (bytes : List ℕ) (all ts : List Token) (t : Token) → AreLastOf all (t ∷ ts) → t.position.line ≡ line_of_left (lines_of all) (length (words_of bytes (t ∷ ts)))
 first_line bytes all ts t h =
     let l = length_words bytes (t ∷ ts) in

@@ -1,4 +1,4 @@
--- The words of the grammar are told apart by their letters.
+-- The keywords of the grammar have different letters.
 use Rattle.std.proofs.Common.{◌≡◌, ℕ, true, false, ◌<◌, List, [], ◌∷◌, refl, sym, ap, ◌∙◌, subst, arith}
 use Rattle.std.specs.Str.{bytes_eq, all_ascii_digits}
 use denote.Enum.Bare.{sameb}
@@ -65,7 +65,7 @@ the_injective j k e = cc
 pub letters_injective : (j k : Keyword) → letters j ≡ letters k → j ≡ k
 letters_injective j k e = the_injective j k (sym (word_the j) ∙ ap word_of e ∙ word_the k)
 
--- the words that begin alike
+-- words that begin alike
 pub first_is : (v w : List ℕ) (vs ws : Spelled) → v ∷ vs ≡ w ∷ ws → v ≡ w
 first_is v w vs ws e = cc
 
@@ -75,7 +75,7 @@ rest_is v w vs ws e = cc
 pub same_key : (j k : Keyword) (vs ws : Spelled) → letters j ∷ vs ≡ letters k ∷ ws → j ≡ k
 same_key j k vs ws e = letters_injective j k (first_is (letters j) (letters k) vs ws e)
 
--- ---- words that are none of the grammar
+-- ---- words that are no keywords
 
 false_if : (b : Bool) → (b ≡ true → ⊥) → b ≡ false
 false_if true h = absurd (h refl)
@@ -135,7 +135,7 @@ no_digits CloseBrace = refl
 pub decimal_own : (n : ℕ) → n < 1000000000 → IsNoKeyword (decimal n)
 decimal_own n small k e = false≢true (sym (no_digits k) ∙ ap all_ascii_digits (sym e) ∙ digits_decimal own n (omega arith))
 
--- a word of the grammar is equal to itself
+-- a keyword is equal to itself
 pub itself : (j k : Keyword) → Some j ≡ Some k → sameb the_type j k ≡ false → ⊥
 itself j k e f =
     let same : j ≡ k = cc in
@@ -146,7 +146,7 @@ pub found_of : (r : Option Keyword) (w : List ℕ) → IfSome r (λ k. w ≡ let
 found_of None w h none k e = absurd (none refl k e)
 found_of (Some j) w h none k e = ap Some (letters_injective j k (sym h ∙ e))
 
--- words that begin with this word of the grammar, where another was found
+-- words that begin with this keyword, where another was found
 pub found_is : (r : Option Keyword) (words : Spelled) (found : Keyword) → ((k : Keyword) (rest : Spelled) → words ≡ letters k ∷ rest → r ≡ Some k) → r ≡ Some found
     → (k : Keyword) (rest : Spelled) → words ≡ letters k ∷ rest → found ≡ k
 found_is r words found h is k rest e = some_is found k (sym is ∙ h k rest e)
@@ -154,7 +154,7 @@ found_is r words found h is k rest e = some_is found k (sym is ∙ h k rest e)
     some_is : (x y : Keyword) → Some x ≡ Some y → x ≡ y
     some_is x y f = cc
 
--- bytes that spell no word of any subject spell no word
+-- bytes that spell no keyword of any subject spell no keyword
 pub no_keyword : (w : List ℕ) → IsNoneOf head_words w → IsNoneOf item_words w → IsNoneOf packet_words w
     → IsNoneOf change_words w → IsNoneOf wait_words w → IsNoneOf flow_words w → IsNoKeyword w
 no_keyword w h i p c t f Ensemble = h.0

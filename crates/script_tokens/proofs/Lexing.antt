@@ -28,7 +28,7 @@ before_before : (limits : Limits) (ts us : List Token) (r : Cuts) → tokens_bef
 before_before limits [] us r = refl
 before_before limits (t ∷ ts) us r = ap (λ x. cond (fits limits t) (added t x) (Err (Limit t.position))) (before_before limits ts us r)
 
--- tokens that all fit: what comes of the rest decides
+-- tokens that all fit: the result of the rest decides
 pub record AllIn (limits : Limits) (ts : List Token) : Type 0 where
   pub fit : tokens_before limits ts (Ok []) ≡ Ok ts
 

@@ -83,7 +83,7 @@ ends_line bs (comment cs ∷ ps) m = absurd m
 ends_line bs (brace b ∷ ps) m = absurd m
 ends_line bs (atom cs ∷ ps) m = absurd m
 
--- how many bytes stand before a place
+-- how many bytes are before a point
 past_at : (p : Place) (bs : List ℕ) → AreLetters bs → (place_behind p bs).at ≡ p.at + length bs
 past_at p [] h = omega arith
 past_at p (b ∷ bs) h =

@@ -145,7 +145,7 @@ time_word_word s small =
     let c = two_letters (s % 60) (omega arith) in
     inl (record { some = omega arith; are = (a.0, (a.1.0, (refl, (b.0, (b.1.0, (refl, (c.0, (c.1.0, tt)))))))) })
 
--- ---- words of the grammar, and names
+-- ---- keywords, and names
 
 is_letter : Kind → Bool
 is_letter Letter = true

@@ -1,4 +1,4 @@
--- The bytes of a text, and the places in it.
+-- The bytes of a text, and the points in it.
 use Rattle.std.specs.Prelude.{ℕ, ◌+◌, ◌==◌, ◌||◌, ◌&&◌, Bool, if◌then◌else◌, nat_le, List, [], ◌∷◌}
 use Rattle.script_tokens.specs.declared.token.Token.{Token}
 use Rattle.script_tokens.specs.declared.token.Kind.{Kind}
@@ -29,7 +29,7 @@ abbrev pub place_after : Place → Kind → Place
 place_after p LineEnd = record { at = p.at + 1; position = record { line = p.position.line + 1; column = 1 } }
 place_after p k = record { at = p.at + 1; position = record { line = p.position.line; column = p.position.column + 1 } }
 
--- the place after bytes
+-- the point behind bytes
 abbrev pub place_behind : Place → List ℕ → Place
 place_behind p [] = p
 place_behind p (b ∷ bs) = place_behind (place_after p (kind_of b)) bs

@@ -1,4 +1,4 @@
--- Cutting a text into tokens byte by byte. The contract of `cut` cites it; which texts are cut so stands in `Texts.antt`.
+-- Cutting a text into tokens byte by byte. The contract of `cut` cites it; which texts are cut so is defined in `Texts.antt`.
 use Rattle.std.specs.Prelude.{◌≡◌, ℕ, ◌+◌, ◌<◌, ◌≤◌, ◌&&◌, Bool, true, false, if◌then◌else◌, nat_le, List, [], ◌∷◌, ◌++◌, Result, Ok, Err}
 use Rattle.script_tokens.specs.declared.fault.ScriptFault.{ScriptFault}
 use Rattle.script_tokens.specs.declared.fault.ScriptFault.TheVariants.{Byte, Limit, Memory}
@@ -44,7 +44,7 @@ is_bad Comment k = false
 is_bad m Bad = true
 is_bad m k = false
 
--- a byte that makes no token, and leaves what the lexer stands in
+-- a byte that makes no token, and leaves the lexer's state as it is
 pub record IsQuiet (m : Inside) (k : Kind) : Type 0 where
   pub none : (p : Place) → made m p k ≡ []
   pub good : is_bad m k ≡ false
@@ -54,7 +54,7 @@ pub record IsQuiet (m : Inside) (k : Kind) : Type 0 where
 abbrev pub fits : Limits → Token → Bool
 fits limits t = nat_le t.end (t.start + limits.atom) && nat_le t.position.line limits.line
 
--- tokens before what comes of the rest, or the first that is past a limit
+-- tokens before the result of the rest, or the first that is past a limit
 abbrev pub added : Token → Result (List Token) ScriptFault → Result (List Token) ScriptFault
 added t (Ok us) = Ok (t ∷ us)
 added t (Err e) = Err e
@@ -76,7 +76,7 @@ Pushes limits old new ts (Ok u) = (new ≡ old ++ ts) × (tokens_before limits t
 Pushes limits old new ts (Err Memory) = Unit {0}
 Pushes limits old new ts (Err e) = tokens_before limits ts (Ok []) ≡ Err e
 
--- tokens one after another, from a place on and up to another
+-- tokens one after another, from an offset on and up to another
 abbrev pub InOrder : ℕ → List Token → ℕ → Type 0
 InOrder from [] to = from ≤ to
 InOrder from (t ∷ ts) to = (from ≤ t.start) × (t.start < t.end) × InOrder t.end ts to

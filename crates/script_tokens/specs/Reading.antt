@@ -1,10 +1,10 @@
--- The words of a text's tokens, and the lines that they stand on.
+-- The words of a text, which are its tokens, each as its bytes; and the lines that they are on.
 use Rattle.std.specs.Prelude.{◌≡◌, ℕ, ◌-◌, ◌<◌, ◌≤◌, List, [], ◌∷◌, ◌++◌, map, length, slice_range, slice_index_or}
 use Rattle.script_tokens.specs.declared.token.Token.{Token}
 use Rattle.script_tokens.specs.declared.keyword.Keyword.{Keyword}
 use Rattle.script_tokens.specs.Words.{letters}
 
--- words, each as its bytes
+-- words of a text: tokens, each as its bytes
 abbrev pub Spelled : Type 0
 Spelled = List (List ℕ)
 
@@ -32,7 +32,7 @@ line_of lines words = line_of_left lines (length words)
 abbrev pub Passes : List (List ℕ) → (old new : Input) → Type 0
 Passes words old new = (old.words ≡ words ++ new.words) × (new.lines ≡ old.lines)
 
--- the input before this word was passed
+-- the input before this keyword was passed
 abbrev pub behind : Keyword → Input → Input
 behind keyword input = record { words = letters keyword ∷ input.words; lines = input.lines }
 

@@ -55,7 +55,7 @@ abbrev pub AreText : List Piece → Type 0
 AreText [] = Unit {0}
 AreText (p ∷ ps) = IsPiece p × MayStandBefore p ps × AreText ps
 
--- the tokens of a text that begins at this place: each is the slice of its span
+-- the tokens of a text that begins at this point: each is the slice of its span
 abbrev pub tokens_of : Place → List Piece → List Token
 tokens_of at [] = []
 tokens_of at (blank b ∷ ps) = tokens_of (place_behind at (b ∷ [])) ps
@@ -67,7 +67,7 @@ abbrev pub TokensFit : Limits → List Token → Type 0
 TokensFit limits [] = Unit {0}
 TokensFit limits (t ∷ ts) = (fits limits t ≡ true) × TokensFit limits ts
 
--- the text consists of pieces that have these tokens, of which none is place_behind a limit
+-- the text consists of pieces that have these tokens, of which none is past a limit
 pub record IsCutInto (limits : Limits) (text : List ℕ) (tokens : List Token) : Type 0 where
   pub pieces : List Piece
   pub formed : AreText pieces

@@ -1,4 +1,4 @@
--- The words of the grammar, as the bytes that spell them, and the names of blocks, which are none of them.
+-- The keywords of the grammar, as the bytes that spell them, and the names of blocks, which are none of them.
 use Rattle.std.specs.Prelude.{◌≡◌, ◌≢◌, ℕ, ◌≤◌, ◌||◌, ◌&&◌, ◌==◌, Bool, true, false, List, [], ◌∷◌, ◌++◌, length, nat_le, codes, if◌then◌else◌}
 use Rattle.std.specs.List.{list_all, AllByRecursion}
 use Rattle.std.specs.Str.{bytes_eq}
@@ -47,13 +47,12 @@ letters Apply = codes "apply"
 letters OpenBrace = codes "{"
 letters CloseBrace = codes "}"
 
--- a token: a word of the grammar, or the bytes of another atom
+-- a token: a keyword, or the bytes of another atom
 pub data Word : Type 0 where
   the : (keyword : Keyword) → Word
   text : (bytes : List ℕ) → Word
 
--- the words by their subjects: of the head of a script, of its items, of packet components, of changes, of waiting, and
--- of what comes next
+-- the keywords by subject: the head of a script, its items, packet components, changes, waiting, and control flow
 abbrev pub head_words : List Keyword
 head_words = Ensemble ∷ Mode ∷ Period ∷ Notice ∷ Budget ∷ Define ∷ Begin ∷ []
 
@@ -79,18 +78,18 @@ abbrev pub word_among : List Keyword → List ℕ → Word
 word_among [] bytes = text bytes
 word_among (k ∷ ks) bytes = if bytes_eq bytes (letters k) then the k else word_among ks bytes
 
--- the word of these bytes
+-- the token of these bytes
 unfoldable pub word_of : List ℕ → Word
 word_of bytes = word_among keywords bytes
 
--- these bytes spell none of some words
+-- these bytes spell none of some keywords
 abbrev pub IsNoneOf : List Keyword → List ℕ → Type 0
 IsNoneOf ks bytes = AllByRecursion (λ k. bytes ≢ letters k) ks
 
 abbrev pub IsNoKeyword : List ℕ → Type 0
 IsNoKeyword bytes = (k : Keyword) → bytes ≢ letters k
 
--- the words with which an item begins, and those with which a statement does
+-- the keywords with which an item begins, and those with which a statement does
 abbrev pub begins_item : Keyword → Bool
 begins_item Sub = true
 begins_item Service = true
@@ -129,7 +128,7 @@ abbrev pub has_name_letters : List ℕ → Bool
 has_name_letters [] = false
 has_name_letters (b ∷ bs) = is_lower b && list_all is_name_byte bs
 
--- no word of the grammar may be a name
+-- no keyword may be a name
 pub record IsName (bs : List ℕ) : Type 0 where
   pub formed : has_name_letters bs ≡ true
   pub short : length bs ≤ 32

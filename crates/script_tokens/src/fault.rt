@@ -38,16 +38,16 @@ impl Display for Position {
 /// Why a text is no script, with the position of the token, or just past the text.
 #[derive(Clone, Copy, Debug, PartialEq, Eq, Error)]
 pub enum ScriptFault {
-    /// A byte outside comments that has no place in a script.
+    /// A byte outside comments that is not allowed in a script.
     #[error("{0}: Byte")]
     Byte(Position),
-    /// An atom where a value must stand that is no such value in range.
+    /// An atom in place of a value that is no such value in range.
     #[error("{0}: Number")]
     Number(Position),
-    /// Another token, or the end of the text, than what must stand there.
+    /// A token, or the end of the text, where another token is required.
     #[error("{0}: Expected")]
     Expected(Position),
-    /// A brace that would stand more than 16 deep.
+    /// A brace that would be more than 16 deep.
     #[error("{0}: Depth")]
     Depth(Position),
     /// A second definition of a name.
@@ -70,7 +70,7 @@ impl From<AllocError> for ScriptFault {
 
     ghost from_gives = { λ _ e. e ≡ Memory };
 
-    /// Want of memory.
+    /// Out of memory.
     fn from(_error: AllocError) -> Self {
         ScriptFault::Memory
     }

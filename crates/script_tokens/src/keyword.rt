@@ -1,9 +1,9 @@
-//! The words of the grammar.
+//! The keywords of the grammar.
 
 ghost use Rattle.std.specs.Prelude.{◌≡◌, IfSome, None};
 ghost use Rattle.script_tokens.specs.Words.{letters, IsNoneOf, head_words, item_words, packet_words, change_words, wait_words, flow_words};
 
-/// A word of the grammar, or a brace.
+/// A keyword of the grammar, or a brace.
 #[derive(Clone, Copy, Debug, PartialEq, Eq)]
 pub enum Keyword {
     /// `ensemble`
@@ -91,34 +91,34 @@ pub enum Keyword {
 impl Keyword {
     ghost use Rattle.script_tokens.specs.Words.{letters, IsNoKeyword};
 
-    /// The word of these bytes; None where they are neither a word of the grammar nor a brace.
+    /// The keyword of these bytes; None where they are neither a keyword nor a brace.
     #[tactic(auto, using(crate::proofs::Keys::no_keyword))]
     pub fn of(bytes: &[u8]) -> Option<Keyword>
         ensures found { IfSome result (λ k. bytes.now ≡ letters k) }
         ensures none { result ≡ None → IsNoKeyword bytes.now }
     {
-        if let Some(word) = head_word(bytes) {
-            return Some(word);
+        if let Some(keyword) = head_word(bytes) {
+            return Some(keyword);
         }
-        if let Some(word) = item_word(bytes) {
-            return Some(word);
+        if let Some(keyword) = item_word(bytes) {
+            return Some(keyword);
         }
-        if let Some(word) = packet_word(bytes) {
-            return Some(word);
+        if let Some(keyword) = packet_word(bytes) {
+            return Some(keyword);
         }
-        if let Some(word) = change_word(bytes) {
-            return Some(word);
+        if let Some(keyword) = change_word(bytes) {
+            return Some(keyword);
         }
-        if let Some(word) = wait_word(bytes) {
-            return Some(word);
+        if let Some(keyword) = wait_word(bytes) {
+            return Some(keyword);
         }
         flow_word(bytes)
     }
 }
 
-// The words by their subjects, a function each: to the prover a list of words costs the square of its length.
+// The keywords by subject, a function each: to the prover a list of byte strings costs the square of its length.
 
-/// The word of these bytes, where it is one of the head of a script, or of what stands before its statements.
+/// The keyword of these bytes, where it is one of the head of a script, up to `begin`.
 #[tactic(auto, unfolding(crate::specs::Words::letters))]
 fn head_word(bytes: &[u8]) -> Option<Keyword>
     ensures found { IfSome result (λ k. bytes.now ≡ letters k) }
@@ -136,7 +136,7 @@ fn head_word(bytes: &[u8]) -> Option<Keyword>
     }
 }
 
-/// The word of these bytes, where it is one of a sub-channel, or of a service and its components in stream mode.
+/// The keyword of these bytes, where it is one of a sub-channel, or of a service and its components in stream mode.
 #[tactic(auto, unfolding(crate::specs::Words::letters))]
 fn item_word(bytes: &[u8]) -> Option<Keyword>
     ensures found { IfSome result (λ k. bytes.now ≡ letters k) }
@@ -155,7 +155,7 @@ fn item_word(bytes: &[u8]) -> Option<Keyword>
     }
 }
 
-/// The word of these bytes, where it is one of a packet component.
+/// The keyword of these bytes, where it is one of a packet component.
 #[tactic(auto, unfolding(crate::specs::Words::letters))]
 fn packet_word(bytes: &[u8]) -> Option<Keyword>
     ensures found { IfSome result (λ k. bytes.now ≡ letters k) }
@@ -171,7 +171,7 @@ fn packet_word(bytes: &[u8]) -> Option<Keyword>
     }
 }
 
-/// The word of these bytes, where it is one of a change, or of its swap.
+/// The keyword of these bytes, where it is one of a change, or of its swap.
 #[tactic(auto, unfolding(crate::specs::Words::letters))]
 fn change_word(bytes: &[u8]) -> Option<Keyword>
     ensures found { IfSome result (λ k. bytes.now ≡ letters k) }
@@ -189,7 +189,7 @@ fn change_word(bytes: &[u8]) -> Option<Keyword>
     }
 }
 
-/// The word of these bytes, where it is one of waiting.
+/// The keyword of these bytes, where it is one of waiting.
 #[tactic(auto, unfolding(crate::specs::Words::letters))]
 fn wait_word(bytes: &[u8]) -> Option<Keyword>
     ensures found { IfSome result (λ k. bytes.now ≡ letters k) }
@@ -205,7 +205,7 @@ fn wait_word(bytes: &[u8]) -> Option<Keyword>
     }
 }
 
-/// The word of these bytes, where it is one that says what comes next, or a brace.
+/// The keyword of these bytes, where it is one that says what comes next, or a brace.
 #[tactic(auto, unfolding(crate::specs::Words::letters))]
 fn flow_word(bytes: &[u8]) -> Option<Keyword>
     ensures found { IfSome result (λ k. bytes.now ≡ letters k) }

@@ -53,7 +53,7 @@ fn is_bad(inside: Inside, kind: Kind) -> bool
     }
 }
 
-/// Whether a byte of this kind makes no token, and leaves what the lexer stands in.
+/// Whether a byte of this kind makes no token and leaves the lexer's state as it is.
 fn is_quiet(inside: Inside, kind: Kind) -> bool
     ensures { result ≡ true → IsQuiet inside kind }
 {
@@ -90,7 +90,7 @@ fn place_after(place: Place, kind: Kind) -> Place
 ///
 /// # Errors
 ///
-/// The first from the front of: `Byte` for a byte outside comments that has no place in a text, `Limit` for a
+/// The first from the front of: `Byte` for a byte outside comments that is not allowed in a text, `Limit` for a
 /// token past a limit; `Memory` where memory is refused.
 pub fn cut(alloc: Global, text: &str, limits: Limits) -> Result<Vec<Token>, ScriptFault>
     ensures tokens { IfOk result (λ v. lexed limits Nothing first_place text.now ≡ Ok v.items) }
@@ -190,7 +190,7 @@ fn fits(limits: Limits, token: Token) -> bool
 /// # Errors
 ///
 /// `Limit` at 1:1 for a text of more than 1,048,576 bytes; else the first from the front of: `Byte` for a byte
-/// outside comments that has no place in a script, `Limit` for an atom of more than 32 bytes or a token past
+/// outside comments that is not allowed in a script, `Limit` for an atom of more than 32 bytes or a token past
 /// line 65,535; `Memory` where memory is refused.
 #[tactic(auto, using(crate::proofs::Spans::within, crate::proofs::Pieces::cut_into, crate::proofs::Pieces::not_cut))]
 pub fn lex(alloc: Global, text: &str) -> Result<Vec<Token>, ScriptFault>

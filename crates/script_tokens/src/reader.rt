@@ -1,4 +1,4 @@
-//! The words of a text, one after another.
+//! The tokens of a text, one after another.
 
 use crate::fault::{Position, ScriptFault};
 use crate::first_keyword::{ItemKeyword, StatementKeyword};
@@ -38,7 +38,7 @@ impl<'a> Reader<'a> {
     ghost use Rattle.script_tokens.specs.Texts.{AreLetters};
     ghost use Rattle.script_tokens.specs.declared.keyword.Keyword.{Keyword};
 
-    /// The words of these tokens of a text.
+    /// A reader of these tokens of a text.
     pub fn new(text: &'a [u8], tokens: &'a [Token]) -> Self
         requires { AreWithin (length text.now) tokens.now }
         ensures { result ≡ record {
@@ -54,7 +54,7 @@ impl<'a> Reader<'a> {
         }
     }
 
-    /// The position of the next word, or just past the text.
+    /// The position of the next token, or just past the text.
     pub fn position(&self) -> Position {
         match self.tokens.first() {
             None => Position::past(self.text),
@@ -62,7 +62,7 @@ impl<'a> Reader<'a> {
         }
     }
 
-    /// The line of the next word; 0 where none is left.
+    /// The line of the next token; 0 where none is left.
     pub fn line(&self) -> u16
         ensures { 0 < length self.now.words → result ≡ line_of self.now.lines self.now.words }
     {
@@ -72,7 +72,7 @@ impl<'a> Reader<'a> {
         }
     }
 
-    /// The line of the last word of the text; 0 where it has none.
+    /// The line of the last token of the text; 0 where it has none.
     pub fn last_line(&self) -> u16
         ensures { result ≡ line_of_left self.now.lines 1 }
     {
@@ -82,7 +82,7 @@ impl<'a> Reader<'a> {
         }
     }
 
-    /// The bytes of the next word.
+    /// The bytes of the next token.
     pub fn peek(&self) -> Option<&'a [u8]>
         ensures { MatchOption result (self.now.words ≡ []) (λ w. BeginsWith self.now.words w.now) }
     {
@@ -92,7 +92,7 @@ impl<'a> Reader<'a> {
         }
     }
 
-    /// Passes over the next word.
+    /// Passes over the next token.
     pub fn advance(&mut self)
         ensures words { self.new.words ≡ drop 1 self.old.words }
         ensures lines { self.new.lines ≡ self.old.lines }
@@ -104,7 +104,7 @@ impl<'a> Reader<'a> {
         }
     }
 
-    /// The next word, where it is one of the grammar.
+    /// The next token, where it is a keyword or a brace.
     pub fn keyword(&self) -> Option<Keyword>
         ensures some { IsSome result → 0 < length self.now.words }
         ensures begins { IfSome result (λ k. BeginsWith self.now.words (letters k)) }
@@ -119,7 +119,7 @@ impl<'a> Reader<'a> {
         }
     }
 
-    /// The next word, where a statement begins with it.
+    /// The next token, where it is a keyword with which a statement begins.
     pub fn statement_keyword(&self) -> Option<StatementKeyword>
         ensures some { IsSome result → 0 < length self.now.words }
         ensures begins { IfSome result (λ k. BeginsWith self.now.words (letters (statement_keyword
@@ -133,7 +133,7 @@ impl<'a> Reader<'a> {
         }
     }
 
-    /// The next word, where an item begins with it.
+    /// The next token, where it is a keyword with which an item begins.
     pub fn item_keyword(&self) -> Option<ItemKeyword>
         ensures some { IsSome result → 0 < length self.now.words }
         ensures begins { IfSome result (λ k. BeginsWith self.now.words (letters (item_keyword k))) }
@@ -146,7 +146,7 @@ impl<'a> Reader<'a> {
         }
     }
 
-    /// Whether this word of the grammar is next.
+    /// Whether this keyword is next.
     pub fn is_next(&self, keyword: Keyword) -> bool
         ensures some { result ≡ true → 0 < length self.now.words }
         ensures begins { result ≡ true → BeginsWith self.now.words (letters keyword) }
@@ -159,11 +159,11 @@ impl<'a> Reader<'a> {
         }
     }
 
-    /// The next word, where it is an atom.
+    /// The next token, where it is an atom.
     ///
     /// # Errors
     ///
-    /// `Expected` where it is a brace, or no word is left.
+    /// `Expected` where it is a brace, or no token is left.
     #[tactic(auto, using(crate::proofs::Braces::no_open, crate::proofs::Braces::no_close))]
     pub fn atom(&self) -> Result<&'a [u8], ScriptFault>
         ensures some { OnOk result (0 < length self.now.words) }
@@ -189,7 +189,11 @@ impl<'a> Reader<'a> {
         ScriptFault::Expected(self.position())
     }
 
-    /// Passes over this word.
+    /// Passes over this keyword.
+    ///
+    /// # Errors
+    ///
+    /// `Expected` where it is not next.
     pub fn expect(&mut self, keyword: Keyword) -> Result<(), ScriptFault>
         ensures spells { OnOk result (Passes (letters keyword ∷ []) self.old self.new) }
         ensures none { OnErr result ((rest : List (List ℕ)) → self.old.words ≢ letters keyword ∷

@@ -1,4 +1,4 @@
-//! Tokens, and what the lexer stands in.
+//! Tokens, and the states of the lexer.
 
 use crate::fault::Position;
 
@@ -51,20 +51,20 @@ pub enum Kind {
     Bad,
 }
 
-/// A place of a text: how many bytes stand before it, and its position.
+/// A point of a text: its offset in bytes, and its position.
 #[derive(Clone, Copy, Debug, PartialEq, Eq)]
 pub struct Place {
     pub at: usize,
     pub position: Position,
 }
 
-/// What the lexer stands in.
+/// The state of the lexer: what the bytes so far have begun.
 #[derive(Clone, Copy, Debug, PartialEq, Eq)]
 pub enum Inside {
     /// Neither an atom nor a comment.
     Nothing,
     /// A comment.
     Comment,
-    /// An atom that began at this place.
+    /// An atom that began at this point.
     Atom(Place),
 }

@@ -1,7 +1,7 @@
 //! Reading values: numbers in their ranges, identifiers, profiles and times.
 //!
-//! Each call passes over what it reads. Where an atom stands that is no such value, the fault is `Number` at
-//! that atom; where a brace or the end stands, `Expected`.
+//! Each call passes over what it reads. If an atom is next that is no such value, the fault is `Number` at that atom; if
+//! a brace or the end of the text is next, `Expected`.
 
 ghost use Rattle.std.specs.Prelude.{◌≡◌, ℕ, ◌∷◌, ◌<◌, ◌≤◌, [], length, List, ◌≢◌, IfOk, OnOk, OnErr};
 ghost use Rattle.mux_types.specs.declared.numbers.Sid.{Sid};
@@ -257,7 +257,7 @@ pub fn time(reader: &mut Reader) -> Result<TimeOfDay, ScriptFault>
 ///
 /// # Errors
 ///
-/// `Expected` where no atom stands, one that is ill formed, or a word of the grammar.
+/// `Expected` where no atom is next, or one that is ill formed or a keyword.
 pub fn name<'a>(reader: &Reader<'a>) -> Result<&'a str, ScriptFault>
     ensures formed { IfOk result (λ s. IsName s.now) }
     ensures begins { IfOk result (λ s. BeginsWith reader.now.words s.now) }
