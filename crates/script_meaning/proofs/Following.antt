@@ -51,7 +51,7 @@ module _ (p : Program) where
   abbrev pub Comes : Reading → Reading → Type 0
   Comes x y = (n : ℕ) (z : Reading) → Performs p.plan y n z → (m : ℕ) × Performs p.plan x m z
 
-  -- over this many instructions from this place on, each that is carried out is something of these statements
+  -- over this many instructions from this pc on, each that is carried out is something of these statements
   abbrev pub Follows : ℕ → ℕ → List ℕ → Block → Type 0
   Follows zero pc cs b = Unit {0}
   Follows (suc n) pc cs b =
@@ -129,7 +129,7 @@ module _ (p : Program) where
     go_at : (n a b r : ℕ) (w : Option Spot) (cs : List ℕ) (k : Block) → a ≡ b → Goes n a r w cs k → Goes n b r w cs k
     go_at n a b r w cs k e g = subst (λ x. Goes n x r w cs k) e g
 
-    -- where an instruction stands after a block
+    -- where an instruction follows a block
     pub there_after : (line : ℕ) (i : Instr) (q pc : ℕ) (more : Spot → List Place) (w : Option Spot) (u : Spot) → w ≡ Some u → Stand whole pc (onward w [] (λ v. place_of_instr line i q v ∷ more v)) →
         (slice_get whole pc ≡ Some (place_of_instr line i q u)) × Stand whole (pc + 1) (more u)
     there_after line i q pc more None u e st = cc
@@ -173,7 +173,7 @@ module _ (p : Program) where
             next q (slice_set ds r (slice_index ds r - 1)) (omega (arith, le)) count' (set_below r (slice_index ds r - 1) cs0 ds below),
           ))
 
-      -- the rounds of a loop that is gone round this many times more
+      -- the iterations of a loop that has this many more
       rounds : Stand whole (pc + 1) (places p.plan (r + 1) (pc + 1) body start) → Out → There →
           (c m : ℕ) (cs : List ℕ) → m ≤ n → slice_index cs r ≡ c + 1 → SameBelow r cs0 cs → Follows m (pc + 1) cs (followed body (repeat line c body left))
       rounds st out here zero m cs le count below =

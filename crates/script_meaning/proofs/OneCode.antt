@@ -1,5 +1,5 @@
 -- A script has one code whose labels cost their needs: the table of configurations is that of its labels, each once, and
--- so each label tells one place in it.
+-- so each label gives one index in it.
 use Rattle.std.proofs.Common.{◌≡◌, ℕ, zero, suc, ◌+◌, ◌≤◌, ◌<◌, ◌⊎◌, List, [], ◌∷◌, ◌++◌, length, Option, Some, refl, sym, ap, ◌∙◌, subst, arith, inl, inr}
 use Rattle.std.specs.Prelude.{slice_get, Contains}
 use Rattle.mux_config.specs.Configuration.{Configuration}

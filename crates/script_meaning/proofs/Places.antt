@@ -10,7 +10,7 @@ use Rattle.script_front.specs.Block.{Block, nothing, basic, stop, when, either, 
 use Rattle.script_meaning.specs.declared.flow.Spot.{Spot}
 use Rattle.script_meaning.specs.Scheme.{Place, past, at_label, meet, join, onward, head, instr_of_act, falls_out, spot_after, alone}
 
--- these stand in the code from this place on
+-- these are in the code from this pc on
 abbrev pub Stand : List Place → ℕ → List Place → Type 0
 Stand code pc [] = Unit {0}
 Stand code pc (p ∷ ps) = (slice_get code pc ≡ Some p) × Stand code (pc + 1) ps
@@ -67,7 +67,7 @@ after_falls plan (repeat line n body rest) s =
 after_falls plan (forever line body rest) s = refl
 after_falls plan (apply line k named rest) s = onward_falls (spot_after plan named s) _ _ (falls_out rest) (after_falls plan named s) (λ u. after_falls plan rest u)
 
--- a jump stands at the end of a branch that falls out
+-- a jump is at the end of a branch that falls out
 pub jump_length : (line : ℕ) (i : Instr) (r : ℕ) (w : Option Spot) (f : Bool) → is_some w ≡ f → length (onward w [] (alone line i r)) ≡ (if f then 1 else 0)
 jump_length line i r None f e = ap (λ b. if b then 1 else 0) e
 jump_length line i r (Some u) f e = ap (λ b. if b then 1 else 0) e

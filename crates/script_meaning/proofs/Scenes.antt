@@ -15,7 +15,7 @@ use Rattle.script_meaning.specs.Meaning.{acts_as, scene_of, state_of_scene, acts
 abbrev plain : State → State
 plain s = state_of_scene (scene_of s)
 
--- it stands at the same place, with the same counters
+-- it is at the same pc, with the same counters
 abbrev pub SamePlace : State → State → Type 0
 SamePlace s t = (t.pc ≡ s.pc) × (t.counters ≡ s.counters)
 

@@ -127,7 +127,7 @@ rounds times = repeat 1 times (wait 1 nothing) nothing
 abbrev between : ℕ → Block → Reading
 between frames todo = reading todo (after frames all_open (Waits 0))
 
--- two rounds of one frame each, and then the end
+-- two iterations of one frame each, and then the end
 two_rounds : PerformsAll plan (between 0 (rounds 2)) (Frame ∷ Frame ∷ Frame ∷ []) (reading nothing (after 3 all_open Ended))
 two_rounds = (
   between 1 (rounds 1),
@@ -143,7 +143,7 @@ two_rounds = (
   ),
 )
 
--- a round more
+-- one iteration more
 not_three : (todo : Block) → PerformsAll plan (between 0 (rounds 2)) (Frame ∷ Frame ∷ Frame ∷ []) (between 3 todo) → ⊥
 not_three todo h = let e = held_same _ _ (all_one plan (Frame ∷ Frame ∷ Frame ∷ []) _ _ _ two_rounds h) in absurd (different e)
   where

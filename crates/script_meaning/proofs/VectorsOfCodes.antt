@@ -224,7 +224,7 @@ tabled =
     none : StandsIn no_configuration [] → ⊥
     none h = let e : None ≡ Some no_configuration = h.1 in absurd cc
 
--- the current configuration stands before the next one
+-- the current configuration is before the next one
 tabled_in_order : Tabled [] (mark 0 (knows one_sub Idle) ∷ []) [] → ⊥
 tabled_in_order h = let last : [] ≡ h.1 = h.4 in elim h.3 [
   | inl same ↦ let there : StandsIn one_sub h.0 = same.0 in let e : h.1 ≡ h.0 = same.1 in let none : StandsIn one_sub [] = subst (λ t. StandsIn one_sub t) (sym (last ∙ e)) there in let f : None ≡ Some one_sub = none.1 in absurd cc

@@ -113,7 +113,7 @@ ScriptsHaveOneCode = (s : Tree) (a b : Program) → IsCodeOf s a → IsCodeOf s 
 
 -- ---- scripts that can be compiled
 
--- how many repeats stand one inside another
+-- how deep repeats are nested
 abbrev pub nested : Block → ℕ
 nested nothing = 0
 nested (basic line act rest) = nested rest

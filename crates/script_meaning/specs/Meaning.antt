@@ -1,5 +1,5 @@
--- What a script says: its own machine, whose control is the list of statements that are still to do. It knows no place
--- in a code, no label and no counter.
+-- What a script says: its own machine, whose control is the list of statements that are still to do. It knows no
+-- index of an instruction, no label and no counter.
 use Rattle.std.specs.Prelude.{◌≡◌, ◌↔◌, ℕ, zero, suc, Bool, true, false, if◌then◌else◌, List, [], ◌∷◌, Option, None}
 use Rattle.mux_config.specs.Configuration.{Configuration}
 use Rattle.std.specs.List.{AllByRecursion}
@@ -27,7 +27,7 @@ use Rattle.script_meaning.specs.Compiled.{IsCodeOf, plan_of, body_of, opening_of
 
 -- ---- where a script has come to
 
--- what a player's state has beside its place in a code, and beside what only its bytes need
+-- what a player's state has beside its pc, and beside what only its bytes need
 pub record Scene : Type 0 where
   -- the current and the next configuration
   pub current : Configuration
@@ -107,7 +107,7 @@ followed (repeat line times body rest) more = repeat line times body (followed r
 followed (forever line body rest) more = forever line body (followed rest more)
 followed (apply line number named rest) more = apply line number named (followed rest more)
 
--- the first statement is done: a branch, a loop or a block that is applied becomes what it stands for, and any other
+-- the first statement is done: a branch, a loop or a block that is applied becomes what it means, and any other
 -- statement acts as its instruction; where nothing is left to do, that is `end`, after which nothing is left
 abbrev pub first_done : Plan → Block → Scene → Reading
 first_done plan nothing x = reading nothing (acts plan End x)
@@ -136,7 +136,7 @@ Performs plan x (suc n) y =
     (is_running x.scene.hold ≡ true) × IsFineToDo plan x.todo x.scene
     × Performs plan (first_done plan x.todo x.scene) n y
 
--- a frame begins: a swap that is due is made, and what is waited for ends where it is here
+-- a frame begins: a swap that is due is made, and a wait ends where its condition is met
 abbrev pub opens : Scene → Scene
 opens x = scene_of (ready (state_of_scene x))
 

@@ -3,7 +3,7 @@ use Rattle.std.specs.Prelude.{◌≡◌, ℕ, zero, suc, ◌+◌, ◌≤◌, ◌
 use Rattle.plan_code.specs.declared.instr.Instr.{Instr}
 use Rattle.plan_flow.specs.Rules.{continues, target_of, suspends}
 
--- the machine can go from an instruction to this place in the same frame
+-- the machine can go from an instruction to this pc in the same frame
 abbrev pub GoesTo : Instr → ℕ → ℕ → Type 0
 GoesTo i pc to = (suspends i ≡ false) × (((continues i ≡ true) × (to ≡ pc + 1)) ⊎ (target_of i ≡ Some to))
 
@@ -14,7 +14,7 @@ HasPath code pc (suc zero) = IsSome (slice_get code pc)
 HasPath code pc (suc (suc n)) =
     (i : Instr) × (to : ℕ) × (slice_get code pc ≡ Some i) × GoesTo i pc to × HasPath code to (suc n)
 
--- no path is longer than the budget: then no round is without a suspension
+-- no path is longer than the budget: then no cycle is without a suspension
 abbrev pub IsWithinBudget : ℕ → List Instr → Type 0
 IsWithinBudget budget code = (pc n : ℕ) → HasPath code pc n → n ≤ budget
 

@@ -31,7 +31,7 @@ IsUnreached (repeat line times body rest) at given = (at ≡ line) × (given ≡
 IsUnreached (forever line body rest) at given = (at ≡ line) × (given ≡ Table)
 IsUnreached (apply line number named rest) at given = (at ≡ line) × (given ≡ Table)
 
--- ways that meet, or a loop that is gone round, do not agree: `Mismatch`, at the line of the statement
+-- ways that meet, or a loop that comes round, do not agree: `Mismatch`, at the line of the statement
 abbrev pub IsMismatch : ℕ → Type 0 → ℕ → Cause → Type 0
 IsMismatch line agree at given = (agree → ⊥) × (at ≡ line) × (given ≡ Mismatch)
 
@@ -96,7 +96,7 @@ IsItemRefused (item ∷ items) c at given =
 abbrev pub IsOpeningRefused : Plan → Configuration → Cause → Type 0
 IsOpeningRefused plan c = WhereSome (first_fault c) OfConfig orelse Where (plan.period < pages_alone plan c) Round
 
--- what is tested in turn: the items, the opening at the line of `begin`, the statements, and last the costs
+-- what is tested, in this order: the items, the opening at the line of `begin`, the statements, and last the costs
 abbrev pub IsRefused : Tree → ℕ → Cause → Type 0
 IsRefused s at given =
     IsItemRefused s.items no_configuration at given

@@ -1,4 +1,4 @@
--- The code of a block of statements: its instructions, with what is known at each and where labels stand.
+-- The code of a block of statements: its instructions, with what is known at each and where labels are.
 use Rattle.std.specs.Prelude.{ℕ, ◌+◌, Bool, true, false, if◌then◌else◌, ◌&&◌, ◌||◌, List, [], ◌∷◌, ◌++◌, length, Option, Some, None}
 use Rattle.plan_code.specs.declared.plan.Plan.{Plan}
 use Rattle.plan_code.specs.declared.instr.Instr.{Instr}
@@ -16,7 +16,7 @@ use Rattle.script_meaning.specs.declared.flow.Spot.{Spot}
 abbrev pub at_label : Flow → Spot
 at_label t = record { flow = t; labelled = true }
 
--- where no label stands
+-- where there is no label
 abbrev pub past : Flow → Spot
 past t = record { flow = t; labelled = false }
 
@@ -29,7 +29,7 @@ meet None (Some t) = Some (at_label t.flow)
 meet (Some s) None = Some (at_label s.flow)
 meet (Some s) (Some t) = Some (at_label (merged s.flow t.flow))
 
--- after two branches: where the first doesn't fall out, the second continues and no label stands there
+-- after two branches: where the first doesn't fall out, the second continues and there is no label
 abbrev pub join : Option Spot → Option Spot → Option Spot
 join None second = second
 join (Some s) second = meet second (Some s)
@@ -61,7 +61,7 @@ falls_out (repeat line times body rest) = falls_out body && falls_out rest
 falls_out (forever line body rest) = false
 falls_out (apply line number named rest) = falls_out named && falls_out rest
 
--- the head of a loop: a label, where it can be gone round
+-- the head of a loop: a label, where it can be repeated
 abbrev pub head : Block → Spot → Spot
 head body s = record { flow = s.flow; labelled = if falls_out body then true else s.labelled }
 

@@ -1,4 +1,4 @@
-//! What is known where the code of a script has come to.
+//! What is known at the instructions of a script's code.
 
 ghost use Rattle.std.specs.Prelude.{◌≡◌, true};
 ghost use Rattle.plan_code.specs.declared.label.Swap.TheVariants.{Idle};
@@ -8,12 +8,12 @@ use mux_tables::Tables;
 use plan_code::Swap;
 use plan_flow::Flow;
 
-/// What is known where the code has come to, and whether a label stands there.
+/// What is known at an instruction of a code, and whether it has a label.
 #[derive(Drop)]
 pub struct Spot {
     /// What is known of the configurations and of the swap from the current one to the next.
     pub flow: Flow<Tables>,
-    /// Whether a label stands there.
+    /// Whether the instruction has a label.
     pub labelled: bool,
 }
 
@@ -27,7 +27,7 @@ fn copied(tables: &Tables) -> Tables
 }
 
 impl Spot {
-    /// What is known at the beginning: this configuration, and no swap is pending. A label stands there.
+    /// What is known at the beginning: this configuration, and no swap is pending. It has a label.
     pub fn opening(config: &Config) -> Spot
         ensures { result ≡ record {
           flow = record { current = config.now; next = config.now; pending = Idle };
@@ -59,13 +59,13 @@ impl Spot {
     }
 }
 
-/// Where a label stands, and what is known there.
+/// The instruction of a label, and what is known there.
 #[derive(Drop)]
 pub struct Mark {
-    /// The place of the instruction in the code, from 0.
+    /// The pc of the instruction, from 0.
     pub pc: u16,
     /// What is known there.
     pub flow: Flow<Tables>,
-    /// How many repeats stand around it: this many counters are set, the first ones.
+    /// How many repeats are around it: this many counters are set, the first ones.
     pub repeats: u8,
 }
