@@ -44,11 +44,13 @@ fn write_at(bytes: &mut [u8], offset: usize, piece: &[u8])
 
 /// Copies this many bytes from the front over those from an offset on.
 fn copy_front(bytes: &mut [u8], len: usize, offset: usize)
-    requires { offset + len ≤ length bytes.old }
+    requires before { len ≤ offset }
+    requires within { offset + len ≤ length bytes.old }
     ensures { bytes.new ≡ take offset bytes.old
         ++ (take len bytes.old ++ drop (offset + len) bytes.old) }
 {
-    bytes.copy_within(..len, offset);
+    let (front, behind) = bytes.split_at_mut(offset);
+    behind[..len].copy_from_slice(&front[..len]);
 }
 
 impl Batch {

@@ -27,3 +27,15 @@ returns c =
     let all = appended b copy text (take offset copy ++ (text ++ drop width (drop offset copy))) offset len fits c.copy_front.ensures text_long
     (ap (λ (w : ℕ). take offset copy ++ (text ++ drop w (drop offset copy))) is_width) in
     (text, all ∙ ap (λ (l : List ℕ). l ++ text) (sym view), λ s t alike counts is. c.recount_frames.ensures.frames s t alike counts (part ∙ ap (λ (k : ℕ). take k old) is_len ∙ is))
+
+pub copy_front-requires-clause-before : goal.copy_front-requires-clause-before
+copy_front-requires-clause-before c =
+    let b : List ℕ = c.self.inside.bytes in
+    let offset : ℕ = c.self.inside.len in
+    let len : ℕ = c.from.result * (32 * c.fibs.result) in
+    let is_len : len ≡ c.args.frames * (32 * fib_count c.args.plan.now.mode) = ap₂ (λ (m n : ℕ). m * (32 * n)) c.from.ensures c.fibs.ensures.value in
+    let whole : length b ≡ 16384 = c.self.invariant.1 in
+    let within : offset ≤ 16384 = c.self.invariant.0 in
+    let long : length c.args.self.now ≡ offset =
+    ap (λ (l : List ℕ). length l) (sym c.self.view_is) ∙ length-take-le offset b (omega (arith, whole, within)) in
+    omega (arith, is_len, long, c.requires.there)
