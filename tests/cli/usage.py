@@ -7,9 +7,9 @@ import rows
 from rows import ONE_PROGRAMME, hexadecimal
 
 COMMANDS = ("frame", "listen", "check", "diff", "compile", "verify", "play", "debug", "live", "map")
-FOUR_DIGITS = "four digits 0-9 A-F are wanted"
-NO_TEXT = b"error: a word of the command line is not UTF-8\n"
-TIME = "00:00:00 to 23:59:59 is wanted"
+FOUR_DIGITS = "expected four hexadecimal digits (0-9, A-F)"
+NO_TEXT = b"error: an argument is not UTF-8\n"
+TIME = "expected 00:00:00 to 23:59:59"
 
 
 def required(name):
@@ -30,7 +30,7 @@ def together(first, second):
 def wrong_command_lines(rows):
     """Command lines that are wrong, each with its line; no file is read, or there would be another line."""
     for line, wanted in (
-        ("", "a command is wanted: frame, listen, check, diff, compile, verify, play, debug, live, map or help"),
+        ("", "missing command; expected one of frame, listen, check, diff, compile, verify, play, debug, live, map, help"),
         ("fram", "unrecognized subcommand 'fram'; tip: a similar subcommand exists: 'frame'"),
         ("frame - --ensemble E1C5", required("--count <N>")),
         ("frame - --ensemble E1C --count 0", f"invalid value 'E1C' for '--ensemble <HHHH>': {FOUR_DIGITS}"),
@@ -62,7 +62,7 @@ def wrong_command_lines(rows):
         ("compile a --explain", required("<OUT>")),
     ):
         rows.answers(line, 2, f"error: {wanted}\n")
-    rows.answers(["\udcff"], 2, "error: a word of the command line is not UTF-8\n")
+    rows.answers(["\udcff"], 2, "error: an argument is not UTF-8\n")
 
 
 def wrong_options(rows):

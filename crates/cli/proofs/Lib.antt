@@ -1,0 +1,6 @@
+mod Appending
+mod Hearing
+mod Leading
+mod Naming
+mod OneAnswer
+mod PictureLines

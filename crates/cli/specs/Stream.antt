@@ -1,0 +1,46 @@
+-- What a new listener knows after a stream of FIBs.
+use Rattle.std.specs.Prelude.{◌≡◌, ℕ, ◌+◌, ◌/◌, ◌%◌, ◌<◌, ◌⊎◌, Bool, if◌then◌else◌, List, [], ◌∷◌, length, Result, Ok, Err}
+use Rattle.std.specs.Simd.{first_chunks}
+use Rattle.fib_reader.specs.Listening.{Listening, untuned, Hears}
+use Rattle.fib_reader.specs.declared.fault.FibFault.{FibFault}
+use Rattle.fib_reader.specs.declared.fault.ListenFault.TheVariants.{Fib, Full}
+use Rattle.cli.specs.declared.listings.listen.StreamFault.{StreamFault}
+use Rattle.cli.specs.declared.listings.listen.StreamFault.TheVariants.{NotWhole, Full as NoRoom}
+use Rattle.cli.specs.declared.listings.listen.Heard.{Heard}
+
+-- the FIBs of a stream, 32 bytes each
+abbrev pub fibs_of_stream : List ℕ → List (List ℕ)
+fibs_of_stream stream = first_chunks 32 (length stream / 32) stream
+
+-- one FIB more, and one damaged one more
+abbrev pub heard_more : Heard → Listening → Heard
+heard_more h l = record { fibs = h.fibs + 1; damaged = h.damaged; listener = l }
+
+abbrev pub damaged_more : Heard → Heard
+damaged_more h = record { fibs = h.fibs + 1; damaged = h.damaged + 1; listener = h.listener }
+
+-- these FIBs, one after the other, after what was heard before: each is heard, or is damaged and tells nothing; where a
+-- picture has no room for an entry, all ends
+abbrev pub HearsTheStream : List (List ℕ) → Heard → Result Heard StreamFault → Type 0
+HearsTheStream [] now given = given ≡ Ok now
+HearsTheStream (fib ∷ fibs) now given =
+    ((new : Listening) × Hears fib now.listener new (Ok tt) × HearsTheStream fibs (heard_more now new) given)
+    ⊎ (((fault : FibFault) × Hears fib now.listener now.listener (Err (Fib fault)) × HearsTheStream fibs (damaged_more now) given)
+    ⊎ (Hears fib now.listener now.listener (Err Full) × (given ≡ Err NoRoom)))
+
+-- nothing heard so far
+abbrev pub unheard : Heard
+unheard = record { fibs = 0; damaged = 0; listener = untuned }
+
+-- what comes of FIBs that were heard up to here, or that a picture had no room for
+abbrev pub ended : (has_room : Bool) → Heard → Result Heard StreamFault
+ended has_room heard = if has_room then Ok heard else Err NoRoom
+
+-- a stream is whole FIBs, all of which are heard
+abbrev pub HearsStream : List ℕ → Result Heard StreamFault → Type 0
+HearsStream stream (Err NotWhole) = 0 < length stream % 32
+HearsStream stream given = (length stream % 32 ≡ 0) × HearsTheStream (fibs_of_stream stream) unheard given
+
+-- a stream has one answer at most
+abbrev pub OneAnswer : Type 0
+OneAnswer = (stream : List ℕ) (one other : Result Heard StreamFault) → HearsStream stream one → HearsStream stream other → one ≡ other

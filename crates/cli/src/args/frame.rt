@@ -1,0 +1,158 @@
+//! The command line of `frame`, over a record or a script.
+
+use crate::args::parser::{Argument, Grammar, Kind, Page, Rule, Values};
+use crate::args::shared::{file, flag, mode, mode_of, number, ruled};
+use crate::args::{Request, UsageError};
+use console::hexadecimal::word_of;
+use fib_codec::Mode;
+use mux_config::Ensemble;
+use std::alloc::{AllocError, Global};
+
+/// What `frame` is asked for.
+#[derive(Clone, Copy)]
+pub struct FrameRequest<'a> {
+    /// The path of the configuration record, or `-` for standard input.
+    pub config: &'a str,
+    /// The transmission mode.
+    pub mode: Mode,
+    /// The identifier of the ensemble and the CIF count, without change flags.
+    pub ensemble: Ensemble,
+    /// Which page of the configuration, from 0.
+    pub page: u16,
+    /// Whether the FIBs are written as bytes, in place of digits.
+    pub raw: bool,
+}
+
+/// What `frame --script` is asked for.
+#[derive(Clone, Copy)]
+pub struct FrameScriptRequest<'a> {
+    /// The path of the script, or `-` for standard input.
+    pub script: &'a str,
+    /// The CIF count, 0 to 4999.
+    pub count: u16,
+    /// Which page of the configuration, from 0.
+    pub page: u16,
+    /// Whether the FIBs are written as bytes, in place of digits.
+    pub raw: bool,
+}
+
+const PAGE: Page = Page {
+    name: "frame",
+    about: "Writes the FIBs of one frame of a configuration",
+    long_about: LONG,
+    usage: USAGE,
+    after: AFTER,
+};
+
+const LONG: &str = "\
+Writes the FIBs of one frame of a configuration.
+
+In goes a configuration record, a short binary file. Out come lines of 64 hexadecimal digits: the
+FIBs of 32 bytes that a frame of 24 ms carries, CRCs included. There are three, in transmission
+mode 3 four. Where the configuration needs more than one frame, --page picks the frame.";
+
+const USAGE: &str = "\
+dabplan frame <CONFIG> --ensemble <HHHH> --count <N> [--page <K>] [--mode <M>] [--raw]
+       dabplan frame <SCRIPT> --script --count <N> [--page <K>] [--raw]";
+
+const AFTER: &str = "\
+The record, field by field (in brackets the bytes of a field, its high byte first):
+  sub-channels [1], services [1], packet components [1]   how many of each follow, 0 to 64
+  each sub-channel:       id [1] 0 to 63, first capacity unit [2], set [1] 0 is A and 1 is B,
+                          level [1] 1 to 4, kbit/s [2]
+  each service:           kind [1] 0 or 1, SId [2] for kind 0 or [4] for kind 1,
+                          how many components follow [1], at most 12 or 11
+    audio component:      0 [1], type [1] 0 to 63, sub-channel [1]
+    data component:       1 [1], type [1] 0 to 63, sub-channel [1]
+    packet component:     3 [1], SCId [2] 0 to 4095
+  each packet component:  SCId [2], DG flag [1] 0 where data groups are used, type [1] 0 to 63,
+                          sub-channel [1], address [2] 1 to 1023
+Sub-channels, services (those of kind 0 first) and packet components ascend by identifier.
+The first component of a service is its primary one.
+
+With --script the frame is that of the configuration that a script begins with, of its ensemble and
+in its mode. --raw writes the FIBs as bytes, so that 'dabplan listen -' can read them.
+
+Example: sub-channel 1 of 128 kbit/s at 3-A, and service C221 with audio of type 63 on it
+  printf '\\001\\001\\000\\001\\000\\000\\000\\003\\000\\200\\000\\302\\041\\001\\000\\077\\001' |
+    dabplan frame - --ensemble E1C5 --count 0
+
+Exit status:
+  0  the FIBs were printed
+  1  the record is no record ('record: Field 4' names its byte, from 0), or is refused as a
+     configuration ('refused: Overlap 1 2'), or CONFIG can't be read
+  2  the command line is wrong";
+
+/// The command `frame`.
+pub(crate) fn grammar<'a>(alloc: Global) -> Result<Grammar<'a>, AllocError> {
+    let config_help = "The configuration record or script: a file, or '-' for standard input";
+    let page_help = "Which frame of a configuration that needs more than one, from 0";
+    Grammar::of_command(alloc, PAGE)
+        .argument(file("config", "CONFIG", config_help))?
+        .argument(ensemble())?
+        .argument(count())?
+        .argument(number("page", "K", 0, 65535, Some("0"), page_help))?
+        .argument(mode())?
+        .argument(script())?
+        .argument(flag("raw", "Writes the FIBs as bytes in place of digits"))
+}
+
+/// The identifier of the ensemble, which a script has in itself.
+fn ensemble() -> Argument {
+    Argument {
+        name: "ensemble",
+        value_name: "HHHH",
+        help: "The identifier of the ensemble: four hexadecimal digits, upper case",
+        kind: Kind::Text(None),
+        rule: Rule::RequiredUnless("script"),
+    }
+}
+
+/// The CIF count of the frame.
+fn count() -> Argument {
+    let help =
+        "The CIF count of the frame, 0 to 4999; FIG 0/0 is sent where the mode's 4, 1, 1 or 2 divides it";
+    ruled(number("count", "N", 0, 4999, None, help), Rule::Required)
+}
+
+/// The option that reads a script in place of a record.
+fn script() -> Argument {
+    let help = "CONFIG is a script: a frame of its opening, of its ensemble and in its mode";
+    ruled(flag("script", help), Rule::ExcludesBoth("ensemble", "mode"))
+}
+
+/// What `frame` is asked for.
+pub(crate) fn request<'a>(values: &Values<'_, 'a>) -> Result<Request<'a>, UsageError<'a>> {
+    if values.flag("script") {
+        return script_request(values);
+    }
+    let digits = values.text("ensemble").unwrap_or("");
+    let Some(eid) = word_of(digits) else {
+        return Err(UsageError::Digits {
+            option: "--ensemble <HHHH>",
+            value: digits,
+        });
+    };
+    let config = values.some_text("config")?;
+    let count = values.some_u16("count")?;
+    let page = values.some_u16("page")?;
+    let mode = mode_of(values.some_number("mode")?).ok_or(UsageError::Nothing)?;
+    let ensemble = Ensemble::new(eid, 0, false, count, None).ok_or(UsageError::Nothing)?;
+    Ok(Request::Frame(FrameRequest {
+        config,
+        mode,
+        ensemble,
+        page,
+        raw: values.flag("raw"),
+    }))
+}
+
+/// What `frame --script` is asked for.
+fn script_request<'a>(values: &Values<'_, 'a>) -> Result<Request<'a>, UsageError<'a>> {
+    Ok(Request::FrameScript(FrameScriptRequest {
+        script: values.some_text("config")?,
+        count: values.some_u16("count")?,
+        page: values.some_u16("page")?,
+        raw: values.flag("raw"),
+    }))
+}

@@ -1,0 +1,79 @@
+//! Arguments that several commands have.
+
+ghost use Rattle.std.specs.Prelude.{◌≡◌};
+ghost use Rattle.cli.specs.Numbers.{mode_of_number};
+
+use crate::args::parser::{Argument, Kind, Rule};
+use fib_codec::Mode;
+
+/// An argument without an option: the path of a file.
+pub(crate) fn file(name: &'static str, value_name: &'static str, help: &'static str) -> Argument {
+    Argument {
+        name,
+        value_name,
+        help,
+        kind: Kind::Operand,
+        rule: Rule::Free,
+    }
+}
+
+/// An option without a value, which may be left out.
+pub(crate) fn flag(name: &'static str, help: &'static str) -> Argument {
+    Argument {
+        name,
+        value_name: "",
+        help,
+        kind: Kind::Flag,
+        rule: Rule::Free,
+    }
+}
+
+/// An option with a number from `lowest` to `highest`, which may be left out.
+pub(crate) fn number(
+    name: &'static str,
+    value_name: &'static str,
+    lowest: i64,
+    highest: i64,
+    default: Option<&'static str>,
+    help: &'static str,
+) -> Argument {
+    Argument {
+        name,
+        value_name,
+        help,
+        kind: Kind::Number(lowest, highest, default),
+        rule: Rule::Free,
+    }
+}
+
+/// The same argument, which says this of others.
+pub(crate) fn ruled(argument: Argument, rule: Rule) -> Argument {
+    Argument { rule, ..argument }
+}
+
+/// The transmission mode.
+pub(crate) fn mode() -> Argument {
+    let help = "The transmission mode, 1 to 4; in mode 3 a frame has four FIBs, else three";
+    number("mode", "M", 1, 4, Some("1"), help)
+}
+
+/// The option that explains a refusal.
+pub(crate) fn explain() -> Argument {
+    flag(
+        "explain",
+        "Explains a refusal: what is wrong, with objects and numbers, and what mends it",
+    )
+}
+
+/// The mode of this number; None where it is not 1 to 4.
+pub(crate) fn mode_of(number: u32) -> Option<Mode>
+    ensures { result ≡ mode_of_number number }
+{
+    match number {
+        1 => Some(Mode::I),
+        2 => Some(Mode::II),
+        3 => Some(Mode::III),
+        4 => Some(Mode::IV),
+        _ => None,
+    }
+}

@@ -1,0 +1,96 @@
+//! How a code is asked to start: the options of `play`, `debug` and `live` for its first frame.
+
+ghost use Rattle.std.specs.Prelude.{◌≡◌, ◌≢◌, ◌<◌, ℕ, None, IfSome};
+ghost use Rattle.script_tokens.specs.Spelling.{time_word};
+ghost use Rattle.script_tokens.specs.Times.{frame_at};
+
+use crate::args::UsageError;
+use crate::args::parser::{Argument, Kind, Rule, Values};
+use crate::args::shared::number;
+use console::hexadecimal::word_of;
+use plan_code::Contacts;
+use script_tokens::number as numbers;
+
+/// How a code starts to be played, which the code does not say.
+#[derive(Clone, Copy)]
+pub struct StartOptions {
+    /// The CIF count of the first frame.
+    pub count: u16,
+    /// The frame of the day of the first frame.
+    pub day: u32,
+    /// The contacts that are closed at first.
+    pub contacts: Contacts,
+}
+
+/// The CIF count of the first frame.
+pub(crate) fn count() -> Argument {
+    let help = "The CIF count of the first frame, 0 to 4999";
+    number("count", "N", 0, 65535, Some("0"), help)
+}
+
+/// The frame of the day of the first frame.
+pub(crate) fn day() -> Argument {
+    let help = "The frame of the day of the first frame, 0 to 3599999, in frames of 24 ms";
+    number("day", "N", 0, 4294967295, Some("0"), help)
+}
+
+/// The time of the day at the first frame.
+pub(crate) fn time() -> Argument {
+    Argument {
+        name: "time",
+        value_name: "HH:MM:SS",
+        help: "The time of the day at the first frame, 00:00:00 to 23:59:59, in place of --day",
+        kind: Kind::Text(None),
+        rule: Rule::Excludes("day"),
+    }
+}
+
+/// The contacts that are closed at first.
+pub(crate) fn contacts() -> Argument {
+    Argument {
+        name: "contacts",
+        value_name: "HHHH",
+        help: "The contacts that are closed at first: four hexadecimal digits, contact 0 the lowest bit",
+        kind: Kind::Text(Some("0000")),
+        rule: Rule::Free,
+    }
+}
+
+/// How a code is asked to start.
+pub(crate) fn start_options<'a>(values: &Values<'_, 'a>) -> Result<StartOptions, UsageError<'a>> {
+    let digits = values.text("contacts").unwrap_or("");
+    let Some(contacts) = word_of(digits) else {
+        return Err(UsageError::Digits {
+            option: "--contacts <HHHH>",
+            value: digits,
+        });
+    };
+    let count = values.some_u16("count")?;
+    let day = day_option(values)?;
+    Ok(StartOptions {
+        count,
+        day,
+        contacts: Contacts(contacts),
+    })
+}
+
+/// The frame of the day at which a code is asked to start, by `--time` or else by `--day`.
+fn day_option<'a>(values: &Values<'_, 'a>) -> Result<u32, UsageError<'a>> {
+    match values.text("time") {
+        Some(text) => day_at(text).ok_or(UsageError::Time(text)),
+        None => values.some_number("day"),
+    }
+}
+
+/// The first frame of the day, in frames of 24 ms, that begins at the time `HH:MM:SS` of a text or after it, as a script's
+/// times count it; None where the text is no time from 00:00:00 to 23:59:59.
+pub fn day_at(text: &str) -> Option<u32>
+    ensures found { IfSome result (λ day. (second : ℕ) × (second < 86400)
+        × (text.now ≡ time_word second) × (day ≡ frame_at second)) }
+    ensures none { result ≡ None → (second : ℕ) → second < 86400 → text.now ≢ time_word second }
+{
+    match numbers::time(text.as_bytes()) {
+        Some(time) => Some(time.frame().get()),
+        None => None,
+    }
+}

@@ -1,0 +1,220 @@
+//! `dabplan listen`: what a receiver makes of a stream of FIBs.
+
+ghost use Rattle.std.specs.Prelude.{◌≡◌, ◌≢◌, ℕ, List, Result, Err, Ok, IfOk, IfSome, OnOk, codes};
+ghost use Rattle.std.specs.Io.KnownBytes.{Appends, Consumes, IsAtEnd};
+ghost use Rattle.fib_reader.specs.Listening.{all_entries};
+ghost use Rattle.cli.specs.Listing.{AreLinesOf, IsListing, IsShown, ShowsStream, counts_line, refusal_line, swap_line};
+ghost use Rattle.cli.specs.Stream.{HearsStream, ended};
+ghost use Rattle.cli.specs.declared.listings.listen.Heard.{Heard as HeardOf};
+ghost use Rattle.cli.specs.declared.listings.listen.StreamFault.{StreamFault as FaultOf};
+
+use crate::listings::entries::print_entry;
+use console::exit::{Failure, Status, pieces_of};
+use console::files::{FileFault, Files};
+use console::pieces::Pieces;
+use fib_reader::{ListenFault, Listener, Picture};
+use std::alloc::Global;
+use std::io::{self, Read, Write};
+use thiserror::Error;
+
+/// Why a stream is refused.
+#[derive(Clone, Copy, Debug, PartialEq, Eq, Error)]
+pub enum StreamFault {
+    /// Its length is no multiple of 32 bytes.
+    #[error("refused: not whole FIBs")]
+    NotWhole,
+    /// A 65th service or packet component would enter a picture.
+    #[error("refused: Full")]
+    Full,
+}
+
+/// More pieces than any stream has: 2^50 of 256 KB.
+pub(crate) const MOST_PIECES: u64 = 1 << 50;
+
+/// What was heard of a stream.
+#[derive(Drop)]
+pub struct Heard {
+    /// How many FIBs it had.
+    pub fibs: u64,
+    /// How many of them were damaged.
+    pub damaged: u64,
+    /// The listener after the last of them.
+    pub listener: Listener,
+}
+
+impl Heard {
+    ghost use Rattle.std.specs.Prelude.{◌≡◌, ◌≤◌, ◌+◌, ◌^◌, Ok, Err, true, false, length};
+    ghost use Rattle.cli.specs.Stream.{unheard, HearsTheStream};
+    ghost use Rattle.cli.specs.declared.listings.listen.StreamFault.TheVariants.{Full as NoRoom};
+
+    /// Nothing heard so far.
+    pub(crate) fn new() -> Heard
+        ensures { result ≡ unheard }
+    {
+        Heard {
+            fibs: 0,
+            damaged: 0,
+            listener: Listener::new(),
+        }
+    }
+
+    /// Hears FIBs one after the other. A damaged one tells nothing; the first one at which a picture has no room ends all,
+    /// and the answer is false then.
+    pub(crate) fn hear(&mut self, fibs: &[[u8; 32]]) -> bool
+        requires few { self.old.fibs + length fibs.now ≤ 2 ^ 63 }
+        requires damaged { self.old.damaged ≤ self.old.fibs }
+        ensures heard { result ≡ true → HearsTheStream fibs.now self.old (Ok self.new) }
+        ensures full { result ≡ false → HearsTheStream fibs.now self.old (Err NoRoom) }
+        ensures few { self.new.fibs ≤ self.old.fibs + length fibs.now }
+        ensures damaged { self.new.damaged ≤ self.new.fibs }
+    {
+        for fib in fibs {
+            match self.listener.hear(fib) {
+                Ok(()) => {}
+                Err(ListenFault::Fib(_)) => self.damaged += 1,
+                Err(ListenFault::Full) => return false,
+            }
+            self.fibs += 1;
+        }
+        true
+    }
+}
+
+/// Does what `listen` is asked for: prints what was heard of the file, or of standard input where the path is `-`. It is
+/// heard piece by piece, so the memory is the same for a minute and a week.
+pub fn show_heard<'a, F: Files, W: Write>(
+    alloc: Global,
+    path: &'a str,
+    files: &mut F,
+    out: &mut W,
+) -> Result<Status, Failure<'a>>
+    ensures input { path.now ≡ codes "-" → IfSome (F.known_input files.old) (λ stream.
+        IfOk result (ShowsStream stream (W.contents out.old) (W.contents out.new))) }
+    ensures file { path.now ≢ codes "-" → IfSome (F.known files.old path.now) (λ stream.
+        IfOk result (ShowsStream stream (W.contents out.old) (W.contents out.new))) }
+{
+    let mut pieces = pieces_of(alloc, files, path)?;
+    let heard = match listen_to(&mut pieces) {
+        Ok(heard) => heard,
+        Err(fault) => return Err(Failure::of_file(fault, path)),
+    };
+    match print_answer(&heard, out) {
+        Ok(status) => Ok(status),
+        Err(_) => Err(Failure::Output),
+    }
+}
+
+/// Prints the listing of what was heard, or the line of a refusal.
+fn print_answer<W: Write>(heard: &Result<Heard, StreamFault>, out: &mut W) -> io::Result<Status>
+    ensures { IfOk result (λ status. (text : List ℕ) × IsShown heard.now status text
+        × Appends (W.contents out.old) (W.contents out.new) text) }
+{
+    match heard {
+        Ok(heard) => {
+            print_heard(heard, out)?;
+            Ok(Status::Done)
+        }
+        Err(fault) => {
+            print_refusal(*fault, out)?;
+            Ok(Status::Refused)
+        }
+    }
+}
+
+/// Prints the line of a refusal.
+fn print_refusal<W: Write>(fault: StreamFault, out: &mut W) -> io::Result<()>
+    ensures { OnOk result (Appends (W.contents out.old) (W.contents out.new) (refusal_line fault)) }
+{
+    match fault {
+        StreamFault::NotWhole => writeln!(out, "refused: not whole FIBs"),
+        StreamFault::Full => writeln!(out, "refused: Full"),
+    }
+}
+
+/// Hears a stream of FIBs with a new listener (EN 300 401 clauses 5.2.1 and 6.5), to the end of its pieces. A damaged FIB
+/// tells nothing; the first one at which a picture has no room ends all. A length that is no multiple of 32 bytes is told
+/// before that.
+///
+/// `Failed` where the source of the pieces fails.
+pub fn listen_to<R: Read + Drop>(
+    pieces: &mut Pieces<R>,
+) -> Result<Result<Heard, StreamFault>, FileFault>
+    ensures { IfOk result (λ given. (stream : List ℕ)
+        × Consumes pieces.old.left pieces.new.left stream
+        × IsAtEnd pieces.new.left × HearsStream stream given) }
+{
+    let mut heard = Heard::new();
+    let mut has_room = true;
+    for _ in 0..MOST_PIECES {
+        if !pieces.advance()? {
+            return Ok(ended(has_room, heard));
+        }
+        let (fibs, rest) = pieces.piece().as_chunks::<32>();
+        if !rest.is_empty() {
+            return Ok(Err(StreamFault::NotWhole));
+        }
+        if has_room {
+            has_room = heard.hear(fibs);
+        }
+    }
+    Err(FileFault::Failed)
+}
+
+/// What comes of whole FIBs, where each picture had room for all of them, and where not.
+fn ended(has_room: bool, heard: Heard) -> Result<Heard, StreamFault>
+    ensures { result ≡ ended has_room heard }
+{
+    if has_room {
+        Ok(heard)
+    } else {
+        Err(StreamFault::Full)
+    }
+}
+
+/// Prints what was heard.
+fn print_heard<W: Write>(heard: &Heard, out: &mut W) -> io::Result<()>
+    ensures { OnOk result ((text : List ℕ) × IsListing heard.now text
+        × Appends (W.contents out.old) (W.contents out.new) text) }
+{
+    let current = heard.listener.current();
+    let next = heard.listener.next();
+    print_counts(heard, out)?;
+    out.write_all(b"current\n")?;
+    print_picture(current, out)?;
+    out.write_all(b"next\n")?;
+    print_picture(next, out)?;
+    print_swap(heard.listener.swap_at(), out)
+}
+
+/// Prints how many FIBs were heard, and how many of them were damaged.
+fn print_counts<W: Write>(heard: &Heard, out: &mut W) -> io::Result<()>
+    ensures { OnOk result (Appends (W.contents out.old) (W.contents out.new)
+        (counts_line heard.now)) }
+{
+    let fibs = heard.fibs;
+    let damaged = heard.damaged;
+    writeln!(out, "fibs {fibs} damaged {damaged}")
+}
+
+/// Prints the low part of the CIF count at which a swap is awaited.
+fn print_swap<W: Write>(swap_at: Option<u8>, out: &mut W) -> io::Result<()>
+    ensures { OnOk result (Appends (W.contents out.old) (W.contents out.new)
+        (swap_line swap_at)) }
+{
+    match swap_at {
+        Some(low) => writeln!(out, "swap at low {low}"),
+        None => writeln!(out, "no swap"),
+    }
+}
+
+/// Prints the lines of each entry of a picture, in the order of its entries.
+fn print_picture<W: Write>(picture: &Picture, out: &mut W) -> io::Result<()>
+    ensures { OnOk result ((text : List ℕ) × AreLinesOf (all_entries picture.now) text
+        × Appends (W.contents out.old) (W.contents out.new) text) }
+{
+    let mut entries = picture.entries();
+    while let Some(entry) = entries.next() {
+        print_entry(&entry.value(), out)?;
+    }
+    Ok(())
+}

@@ -1,5 +1,0 @@
-mod Appending
-mod Hearing
-mod Naming
-mod OneAnswer
-mod PictureLines

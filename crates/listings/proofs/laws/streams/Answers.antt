@@ -1,5 +1,0 @@
-use Rattle.listings.proofs.OneAnswer.{one_answer}
-use Rattle.listings.proofs.laws.streams.Goals as goal
-
-pub returns : goal.returns
-returns c = one_answer c.one_list.ensures c.reading.ensures.apart
