@@ -17,6 +17,7 @@ audio 63 sub 1 in C221
 
 # A line of the text, and the caret under a column of it.
 EID = "an EId: four digits 0-9 A-F, in capitals and without 0x"
+ORDER = "hint: the header's order: 'ensemble', 'mode', which may be left out, 'period', 'notice', 'budget'"
 SID = "an SId: four or eight digits 0-9 A-F, in capitals and without 0x"
 
 
@@ -51,7 +52,14 @@ def faults(rows):
         (after("wait 70000"), "7:6: Number", "x.plan:7:6: expected a number of frames, 1 to 65535 or 'contact'; found '70000'",
          "    wait 70000", "         ^"),
         ("ensemble E1C5\nnotice 240 period 4 budget 20\nbegin\n", "2:1: Expected",
-         "x.plan:2:1: expected 'mode' or 'period'; found 'notice'", "    notice 240 period 4 budget 20", "    ^"),
+         "x.plan:2:1: expected 'mode' or 'period'; found 'notice'", "    notice 240 period 4 budget 20", "    ^", ORDER),
+        ("ensemble E1C5\nperiod 4 mode 1 notice 240 budget 20\nbegin\n", "2:10: Expected",
+         "x.plan:2:10: expected 'notice'; found 'mode'", "    period 4 mode 1 notice 240 budget 20", "             ^", ORDER),
+        ("mode 1 ensemble E1C5\nperiod 4 notice 240 budget 20\nbegin\n", "1:1: Expected",
+         "x.plan:1:1: expected 'ensemble'; found 'mode'", "    mode 1 ensemble E1C5", "    ^", ORDER),
+        (f"{HEAD}budget 20\nbegin\n", "6:1: Expected",
+         "x.plan:6:1: expected 'sub', 'service', 'audio', 'data', 'carry', 'packet', 'define' or 'begin'; found 'budget'",
+         "    budget 20", "    ^"),
         (after("comit in 250"), "7:1: Expected", "x.plan:7:1: expected a statement or the end of the script; found 'comit'",
          "    comit in 250", "    ^", "hint: write 'commit'"),
         (after("forever {\n  wait 5"), "9:1: Expected",
@@ -85,7 +93,16 @@ def edits(rows):
          "x.plan:7: sub 1 at 0 eep 3-A 128 is there already; line 3 added it",
          "hint: 'drop' it first, or take another number"),
         (after("drop component sub 1 in C221\ndrop sub 1\nrate sub 1 96"), "refused line 9: Edit IdAbsent",
-         "x.plan:9: sub 1 is not there; line 8 dropped it", "hint: the sub-channels there are none"),
+         "x.plan:9: sub 1 is not there; line 8 dropped it", "hint: there is no sub-channel"),
+        (after("rate sub 2 96"), "refused line 7: Edit IdAbsent",
+         "x.plan:7: sub 2 is not there", "hint: the sub-channels there are 1"),
+        (after("drop component sub 1 in C221\ndrop component sub 1 in C221"), "refused line 8: Edit IdAbsent",
+         "x.plan:8: service C221 (no component) has no component on sub 1; line 7 dropped it",
+         "hint: there is no component in it"),
+        (after("drop component sub 2 in C221"), "refused line 7: Edit IdAbsent",
+         "x.plan:7: service C221 (audio 63 sub 1) has no component on sub 2", "hint: name one that it has"),
+        (after("drop service C222"), "refused line 7: Edit IdAbsent",
+         "x.plan:7: service C222 is not there", "hint: add it first, as 'service C222' does"),
         (after("move sub 1 at 800"), "refused line 7: Edit PastEnd",
          "x.plan:7: sub 1 at 800 eep 3-A 128 has 96 CU, so CU 800 to 895; the last one is 863",
          "hint: it can begin at 768 at most; where its start and its rate change, 'move' before a rate that grows"),
@@ -117,6 +134,10 @@ def configurations(rows):
          "hint: sub 2 has room at 96"),
         (after("drop sub 1\ncommit in 250"), "refused line 8: Config Orphan",
          "x.plan:8: service C221 has a component on sub 1, which is not there; line 7 dropped it",
+         "hint: 'drop service C221' as well, which has no other component; or 'drop component sub 1 in C221' and give it"
+         " another one; or add what it names"),
+        (after("sub 2 at 96 eep 3-A 8\ndata 5 sub 2 in C221\ndrop sub 1\ncommit in 250"), "refused line 10: Config Orphan",
+         "x.plan:10: service C221 has a component on sub 1, which is not there; line 9 dropped it",
          "hint: 'drop component sub 1 in C221' as well, or add what it names"),
         (after(f"{packets}commit in 250"), "refused line 9: Config AddressUsed",
          "x.plan:9: packet 7 groups type 60 sub 1 address 9 and packet 8 raw type 60 sub 1 address 9 have one address on one"
@@ -134,11 +155,13 @@ def swaps(rows):
     """Commits and waits that are refused."""
     for script, first, *rest in (
         (after("rate sub 1 96\ncommit in 250\nrate sub 1 128"), "refused line 9: Pending",
-         "x.plan:9: a swap is pending that comes after 250 to 253 frames: the one of the commit in line 8",
-         "hint: 'join' before it, which waits for the swap; until then the next configuration is announced and stays as it is"),
+         "x.plan:9: a swap is pending that comes after 250 to 253 frames, by the commit in line 8; until then the next"
+         " configuration stays as it is",
+         "hint: 'join' behind the commit in line 8, or 'settle' before this line"),
         (after("rate sub 1 96\ncommit in 250\nwait contact 3 closed\nrate sub 1 128"), "refused line 10: Pending",
-         "x.plan:10: a swap may be pending, that comes after 252 frames at most: the one of the commit in line 8",
-         "hint: 'settle' before it: it waits for the swap, if it has not come yet"),
+         "x.plan:10: a swap may be pending, that comes after 252 frames at most, by the commit in line 8; until then the next"
+         " configuration stays as it is",
+         "hint: 'join' behind the commit in line 8, or 'settle' before this line"),
         (after("commit in 250"), "refused line 7: NoChange",
          "x.plan:7: nothing differs: the next configuration is the current one",
          "hint: leave the commit out, or edit before it"),
@@ -197,12 +220,32 @@ def costs(rows):
          "x.plan:92: the current configuration takes 4 pages, a frame each, the next 4, and both together, in the notice, 8;"
          " the period is 4 frames and the notice 12",
          "hint: a period of 8 or more, and a notice of 24 or more, which is three times both; or fewer entries"),
-        (after("repeat 2 { wait 1 " * 9 + "} " * 9), "refused: Limit",
-         "x.plan: the code would have more than 4096 instructions, 1024 labels or 256 configurations, or repeats would stand"
-         " nine deep",
-         "hint: 'repeat' in place of copies"),
     ):
         explained(rows, script, first, *rest)
+
+
+def limits(rows):
+    """Codes that would pass a limit: which, how much of it, and the line that passes it."""
+    moves = "".join(f"move sub 1 at {n}\ncommit in 250\njoin\nif contact 1 {{ }}\nwait 1\n" for n in range(1, 257))
+    for script, *rest in (
+        (after("wait 1\n" * 4097),
+         "x.plan:4103: the code has 4096 instructions before this line is done, the most of a code: number 4097 would come here",
+         "hint: 'repeat' in place of copies; each 'apply' adds the instructions of its block again"),
+        (after("wait 1\n" * 4095 + "wait 1"),
+         "x.plan:4102: the code has 4096 instructions before this line is done, the most of a code: number 4097 would come here",
+         "hint: 'repeat' in place of copies; each 'apply' adds the instructions of its block again"),
+        (after("if contact 1 { }\nwait 1\n" * 1024),
+         "x.plan:2053: the code has 1024 labels before this line is done, the most of a code: number 1025 would come here",
+         "hint: 'repeat' in place of copies; each 'if', 'repeat' and 'forever' has a label or two, again with each 'apply'"),
+        (after(moves),
+         "x.plan:1285: the code has 256 configurations at its labels before this line is done, the most of a code: number 257"
+         " would come here",
+         "hint: go back to earlier configurations, which count once; or fewer 'if', 'repeat' and 'forever' among the edits"),
+        (after("repeat 2 { wait 1\n" * 9 + "} " * 9),
+         "x.plan:15: this 'repeat' is inside 8 others, and a code has 8 counters, one for each",
+         "hint: one 'repeat' in place of two, as 'repeat 6' for a 'repeat 3' in a 'repeat 2'"),
+    ):
+        explained(rows, script, "refused: Limit", *rest)
 
 
 def without(name, line, count=1):
@@ -221,13 +264,15 @@ def first_mistakes(rows):
     busy = busy.replace("  drop sub 2\n", "  drop sub 2\n  drop sub 3\n  rate sub 1 128\n")
     for script, first, *rest in (
         (without("night_rate.plan", "join"), "refused line 12: Pending",
-         "x.plan:12: a swap may be pending, that comes after 252 frames at most: the one of the commit in line 10",
-         "hint: 'settle' before it: it waits for the swap, if it has not come yet"),
+         "x.plan:12: a swap may be pending, that comes after 252 frames at most, by the commit in line 10; until then the next"
+         " configuration stays as it is",
+         "hint: 'join' behind the commit in line 10, or 'settle' before this line"),
         (without("part_time_service.plan", "drop service"), "refused line 15: Config Orphan",
          "x.plan:15: service C223 has a component on sub 2, which is not there; line 14 dropped it",
-         "hint: 'drop component sub 2 in C223' as well, or add what it names"),
+         "hint: 'drop service C223' as well, which has no other component; or 'drop component sub 2 in C223' and give it"
+         " another one; or add what it names"),
         (night.replace("period 4 notice 240", "notice 240 period 4"), "2:1: Expected",
-         "x.plan:2:1: expected 'mode' or 'period'; found 'notice'", "    notice 240 period 4 budget 20", "    ^"),
+         "x.plan:2:1: expected 'mode' or 'period'; found 'notice'", "    notice 240 period 4 budget 20", "    ^", ORDER),
         (night.replace("05:59:54", "06:00"), "12:9: Number",
          "x.plan:12:9: expected a time HH:MM:SS, 00:00:00 to 23:59:59; found '06:00'",
          "      until 06:00", "            ^", "hint: write '06:00:00'"),
@@ -276,4 +321,4 @@ def accepted(rows):
 
 
 if __name__ == "__main__":
-    rows.main([faults, edits, configurations, swaps, ways, costs, first_mistakes, codes, accepted])
+    rows.main([faults, edits, configurations, swaps, ways, costs, limits, first_mistakes, codes, accepted])

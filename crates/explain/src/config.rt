@@ -1,6 +1,6 @@
 //! Configurations that are not sound, explained.
 
-use crate::edit::{is_there, put_since, sub_of};
+use crate::edit::{is_there, put_since, service_of, sub_of};
 use crate::history::{Deed, dropped_in};
 use crate::names::{end_of, put_carrier, put_packet, put_sid, put_sub, put_units, units_of};
 use mux_config::{Carrier, Component, Config, ConfigFault, Packet, Sid, Sub, SubId};
@@ -94,8 +94,46 @@ fn orphan_packet(config: &Config) -> Option<Packet> {
     None
 }
 
+/// Whether a service has a component that names what is there.
+fn has_component_there(config: &Config, sid: Sid) -> bool {
+    let Some(service) = service_of(config, sid) else {
+        return false;
+    };
+    for component in service.components.as_slice() {
+        if is_there(config, &component.carrier()) {
+            return true;
+        }
+    }
+    false
+}
+
+/// Writes what mends a service that names what is not there: without the component where it has others, and else without
+/// the service, which can't be without components.
+fn put_orphan_hint<W: Write>(
+    config: &Config,
+    sid: Sid,
+    carrier: &Carrier,
+    out: &mut W,
+) -> io::Result<()> {
+    if has_component_there(config, sid) {
+        out.write_all(b"hint: 'drop component ")?;
+        put_carrier(carrier, out)?;
+        out.write_all(b" in ")?;
+        put_sid(sid, out)?;
+        return out.write_all(b"' as well, or add what it names\n");
+    }
+    out.write_all(b"hint: 'drop service ")?;
+    put_sid(sid, out)?;
+    out.write_all(b"' as well, which has no other component; or 'drop component ")?;
+    put_carrier(carrier, out)?;
+    out.write_all(b" in ")?;
+    put_sid(sid, out)?;
+    out.write_all(b"' and give it another one; or add what it names\n")
+}
+
 /// A component of a service that names what is not there.
 fn put_orphan<W: Write>(
+    config: &Config,
     deeds: &[Deed],
     sid: Sid,
     carrier: &Carrier,
@@ -107,11 +145,7 @@ fn put_orphan<W: Write>(
     put_carrier(carrier, out)?;
     out.write_all(b", which is not there")?;
     put_since(dropped_in(deeds, carrier), "dropped", out)?;
-    out.write_all(b"hint: 'drop component ")?;
-    put_carrier(carrier, out)?;
-    out.write_all(b" in ")?;
-    put_sid(sid, out)?;
-    out.write_all(b"' as well, or add what it names\n")
+    put_orphan_hint(config, sid, carrier, out)
 }
 
 /// A packet component whose sub-channel is not there.
@@ -129,7 +163,7 @@ fn put_orphan_packet<W: Write>(deeds: &[Deed], packet: &Packet, out: &mut W) -> 
 /// A component or a packet component that names what is not there.
 fn explain_orphan<W: Write>(config: &Config, deeds: &[Deed], out: &mut W) -> io::Result<()> {
     if let Some((sid, carrier)) = orphan_component(config) {
-        return put_orphan(deeds, sid, &carrier, out);
+        return put_orphan(config, deeds, sid, &carrier, out);
     }
     if let Some(packet) = orphan_packet(config) {
         return put_orphan_packet(deeds, &packet, out);

@@ -50,7 +50,7 @@ fn costs_more(alloc: Global, text: &str, budget: u16) -> Result<bool, AllocError
     match compile(alloc, &script) {
         Ok(_code) => Ok(false),
         Err(CompileFault::Memory) => Err(AllocError),
-        Err(CompileFault::Limit) => Ok(false),
+        Err(CompileFault::Limit { .. }) => Ok(false),
         Err(CompileFault::Refused { cause, .. }) => Ok(cause == Cause::Cost),
     }
 }

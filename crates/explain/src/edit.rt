@@ -129,15 +129,17 @@ fn explain_used<W: Write>(
 
 /// Writes the sub-channels that are there.
 fn put_subs<W: Write>(config: &Config, out: &mut W) -> io::Result<()> {
-    out.write_all(b"hint: the sub-channels there are")?;
-    let mut count = 0u32;
+    let mut is_first = true;
     for sub in config.subs() {
+        if is_first {
+            out.write_all(b"hint: the sub-channels there are")?;
+        }
         let id = sub.id.get();
         write!(out, " {id}")?;
-        count = count.saturating_add(1);
+        is_first = false;
     }
-    if count == 0 {
-        return writeln!(out, " none");
+    if is_first {
+        out.write_all(b"hint: there is no sub-channel")?;
     }
     writeln!(out)
 }
@@ -184,6 +186,9 @@ fn component_absent<W: Write>(
     out.write_all(b" has no component on ")?;
     put_carrier(carrier, out)?;
     put_since(component_dropped_in(deeds, sid, carrier), "dropped", out)?;
+    if service.components.len() == 0 {
+        return out.write_all(b"hint: there is no component in it\n");
+    }
     out.write_all(b"hint: name one that it has\n")
 }
 

@@ -16,6 +16,7 @@ mod edit;
 mod expected;
 mod history;
 mod labels;
+mod limit;
 mod names;
 mod place;
 mod probe;

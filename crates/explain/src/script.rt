@@ -5,6 +5,7 @@ use crate::config::explain_config;
 use crate::cost::{Costs, costs_of, explain_costs};
 use crate::edit::explain_edit;
 use crate::history::Deed;
+use crate::limit::explain_code_limit;
 use crate::room::explain_opening;
 use crate::walk::{Stop, Walk};
 use crate::ways::{explain_loop, explain_ways};
@@ -252,10 +253,10 @@ pub fn explain_script<W: Write>(
         CompileFault::Refused { line, cause } => {
             explain_cause(alloc, path, text, script, line, cause, out)
         }
-        CompileFault::Limit => writeln!(
-            out,
-            "{path}: the code would have more than 4096 instructions, 1024 labels or 256 configurations, or repeats would stand nine deep\nhint: 'repeat' in place of copies"
-        ),
+        CompileFault::Limit { line, limit } => {
+            write!(out, "{path}:{line}: ")?;
+            explain_code_limit(limit, out)
+        }
         CompileFault::Memory => Ok(()),
     }
 }

@@ -5,7 +5,7 @@ use crate::place::{offset_of, put_bytes, show_position, token_at};
 use crate::probe::Front;
 use crate::repair::meant_by;
 use script_front::{Position, ScriptFault};
-use std::alloc::Global;
+use std::alloc::{AllocError, Global};
 use std::io::{self, Error, ErrorKind, Write};
 
 /// Writes where a fault is, and what is said of it begins behind that.
@@ -33,6 +33,59 @@ fn put_found<W: Write>(text: &str, position: Position, word: &str, out: &mut W) 
     out.write_all(b"'")
 }
 
+/// The words of a header, in its order.
+const HEADER: [&str; 5] = ["ensemble", "mode", "period", "notice", "budget"];
+
+/// Whether a token is a word of the header where another one of them may stand.
+fn is_out_of_order(alloc: Global, front: &Front, token: &[u8]) -> Result<bool, AllocError> {
+    let mut is_header = false;
+    let mut is_wanted = false;
+    for word in HEADER {
+        if word.as_bytes() == token {
+            is_header = true;
+        } else if front.passes(alloc, word)? {
+            is_wanted = true;
+        }
+    }
+    Ok(is_header && is_wanted)
+}
+
+/// What mends a token, as far as something is found that does.
+#[derive(Drop)]
+struct Mending {
+    /// Another token that may stand in its place.
+    meant: Option<String>,
+    /// Whether it is a word of the header that stands out of order.
+    is_out_of_order: bool,
+}
+
+/// What mends a token behind the beginning.
+fn mending_of(alloc: Global, front: &Front, token: &[u8]) -> Result<Mending, AllocError> {
+    let is_out_of_order = is_out_of_order(alloc, front, token)?;
+    let meant = if is_out_of_order {
+        None
+    } else {
+        meant_by(alloc, front, token)?
+    };
+    Ok(Mending {
+        meant,
+        is_out_of_order,
+    })
+}
+
+/// Writes what mends a token.
+fn put_mending<W: Write>(mending: &Mending, out: &mut W) -> io::Result<()> {
+    if mending.is_out_of_order {
+        return out.write_all(
+            b"hint: the header's order: 'ensemble', 'mode', which may be left out, 'period', 'notice', 'budget'\n",
+        );
+    }
+    match &mending.meant {
+        Some(token) => writeln!(out, "hint: write '{token}'"),
+        None => Ok(()),
+    }
+}
+
 /// Explains a token that may not stand where it does: what may, and what may have been meant.
 fn explain_token<W: Write>(
     alloc: Global,
@@ -45,7 +98,7 @@ fn explain_token<W: Write>(
     let Ok(expected) = Expected::at(alloc, &front) else {
         return Err(Error::from(ErrorKind::OutOfMemory));
     };
-    let Ok(meant) = meant_by(alloc, &front, token_of(text, position)) else {
+    let Ok(mending) = mending_of(alloc, &front, token_of(text, position)) else {
         return Err(Error::from(ErrorKind::OutOfMemory));
     };
     put_place(path, position, out)?;
@@ -55,10 +108,7 @@ fn explain_token<W: Write>(
     put_found(text, position, "found ", out)?;
     out.write_all(b"\n")?;
     show_position(text.as_bytes(), position, out)?;
-    match meant {
-        Some(token) => writeln!(out, "hint: write '{token}'"),
-        None => Ok(()),
-    }
+    put_mending(&mending, out)
 }
 
 /// Explains a byte that has no place in a script.

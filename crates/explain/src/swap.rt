@@ -32,19 +32,14 @@ pub(crate) fn explain_pending<W: Write>(
 ) -> io::Result<()> {
     put_swap(pending, out)?;
     match committed_in(deeds) {
-        Some(line) => writeln!(out, ": the one of the commit in line {line}")?,
-        None => writeln!(out)?,
-    }
-    match pending {
-        Swap::Perhaps(_) => writeln!(
+        Some(line) => writeln!(
             out,
-            "hint: 'settle' before it: it waits for the swap, if it has not come yet"
+            ", by the commit in line {line}; until then the next configuration stays as it is\nhint: 'join' behind the commit in line {line}, or 'settle' before this line"
         ),
-        Swap::Within(_, _) => writeln!(
+        None => writeln!(
             out,
-            "hint: 'join' before it, which waits for the swap; until then the next configuration is announced and stays as it is"
+            "; until then the next configuration stays as it is\nhint: 'settle' before this line"
         ),
-        Swap::Idle => Ok(()),
     }
 }
 

@@ -4,7 +4,8 @@ use crate::history::Deed;
 use mux_config::{Config, Store};
 use plan_code::{Instr, Plan, Swap};
 use plan_flow::{Cause, Flow};
-use script_front::{Act, Statement};
+use script_compiler::instr_of;
+use script_front::Statement;
 use std::alloc::{AllocError, Global};
 
 /// The most statements that are gone through: more than any code has instructions.
@@ -87,20 +88,6 @@ fn line_of(statement: &Statement) -> u16 {
         Statement::Repeat { line, .. } => *line,
         Statement::Forever { line, .. } => *line,
         Statement::Apply { line, .. } => *line,
-    }
-}
-
-/// The instruction of a statement without a block.
-pub(crate) fn instr_of(act: Act) -> Instr {
-    match act {
-        Act::Edit(edit) => Instr::Edit(edit),
-        Act::Wait(frames) => Instr::Wait(frames),
-        Act::WaitContact { contact, closed } => Instr::WaitContact { contact, closed },
-        Act::Until(time) => Instr::Until(time.frame()),
-        Act::CommitIn(delay) => Instr::CommitIn(delay),
-        Act::CommitAt(count) => Instr::CommitAt(count),
-        Act::Join => Instr::Join,
-        Act::Settle => Instr::Settle,
     }
 }
 

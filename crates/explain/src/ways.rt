@@ -5,6 +5,7 @@ use crate::swap::put_swap;
 use mux_config::Config;
 use plan_code::Swap;
 use plan_flow::Flow;
+use plan_flow::flow::is_idle;
 use std::io::{self, Write};
 
 /// What is said behind what holds on each of two ways.
@@ -14,28 +15,16 @@ struct Sides {
     there: &'static str,
 }
 
-/// Whether no swap is pending.
-fn is_idle(pending: Swap) -> bool {
-    match pending {
-        Swap::Idle => true,
-        Swap::Within(_, _) => false,
-        Swap::Perhaps(_) => false,
-    }
-}
-
-/// Whether what is known of the swap does not fit what is declared, whatever the configurations are.
+/// Whether what is known of the swap does not fit what is declared, whatever the configurations are: it does not even
+/// where all of these are empty.
 fn has_other_swap(known: Swap, declared: Swap) -> bool {
-    match (known, declared) {
-        (Swap::Idle, Swap::Idle) => false,
-        (Swap::Idle, Swap::Within(_, _)) => true,
-        (Swap::Idle, Swap::Perhaps(_)) => false,
-        (Swap::Within(low, high), Swap::Within(least, most)) => low < least || most < high,
-        (Swap::Within(_, high), Swap::Perhaps(most)) => most < high,
-        (Swap::Within(_, _), Swap::Idle) => true,
-        (Swap::Perhaps(high), Swap::Perhaps(most)) => most < high,
-        (Swap::Perhaps(_), Swap::Idle) => true,
-        (Swap::Perhaps(_), Swap::Within(_, _)) => true,
-    }
+    let empty = Config::new();
+    let flow = Flow {
+        current: Config::new(),
+        next: Config::new(),
+        pending: known,
+    };
+    !flow.fits(&empty, &empty, declared)
 }
 
 /// Writes the first difference between two configurations, where there is one; whether there is.

@@ -1,4 +1,4 @@
--- What holds of the labels of a script that is accepted.
+-- How deep the repeats of a script stand, and what it means that its code keeps within the limits.
 use Rattle.std.proofs.Common.{ℕ, ◌+◌, ◌≤◌, Bool, true, false, if◌then◌else◌, List, [], ◌∷◌, ◌++◌, length, Option, Some, None, arith}
 use Rattle.plan_code.specs.declared.instr.Instr.TheVariants.{End, Jump, Loop}
 use Rattle.plan_code.specs.declared.plan.Plan.{Plan}
@@ -6,9 +6,13 @@ use Rattle.plan_flow.specs.Flows.{moved}
 use Rattle.script_front.specs.Block.{Block, nothing, basic, stop, when, either, repeat, forever, apply}
 use Rattle.script_front.specs.Tree.{Tree}
 use Rattle.script_meaning.specs.declared.flow.Spot.{Spot}
-use Rattle.script_meaning.specs.Scheme.{Place, past, at_label, meet, join, onward, head, spot_after, place_of_instr, alone, places, mark_of, marks_of, instr_of_act, falls_out}
-use Rattle.script_meaning.specs.Compiled.{nested, body_of, beginning, opening_of, plan_of, places_of, IsAccepted}
+use Rattle.script_meaning.specs.Scheme.{Place, past, at_label, meet, join, onward, head, spot_after, place_of_instr, alone, places, all_places, mark_of, marks_of, instr_of_act, falls_out}
+use Rattle.script_meaning.specs.Compiled.{nested, body_of, places_of, IsAccepted}
 use Rattle.script_compiler.specs.Room.{HasRoomFor, IsDeepAtMost, named_by}
+use Rattle.script_compiler.specs.Space.{Keeps}
+use Rattle.script_compiler.specs.Limits.{IsWithin}
+use Rattle.script_compiler.specs.declared.fault.CodeLimit.{CodeLimit}
+use Rattle.script_compiler.specs.declared.fault.CodeLimit.TheVariants.{Instructions, Labels, Configurations, Counters}
 use Rattle.script_compiler.proofs.Rooms.{room_from}
 
 -- at most eight repeats stand around each of these
@@ -77,14 +81,20 @@ deep_marks pc (p ∷ ps) h = by p.spot.labelled (deep_marks (pc + 1) ps h.1)
     by false k = k
 
 -- so few repeats stand around its labels that there are counters for them
-pub accepted_deep : (s : Tree) → IsAccepted s → IsDeepAtMost 8 (marks_of 0 (places_of s))
-accepted_deep s a =
-    let plan = plan_of s in
-    let b = body_of s in
-    let t = beginning (opening_of s) in
-    let deep : nested b ≤ 8 = a.repeats in
-    deep_marks 0 (places_of s) (deep_both (places plan 0 0 b t) _ (places_deep plan b 0 0 t (omega (arith, deep))) (deep_onward (spot_after plan b t) (alone s.last_line End 0) (λ u. (omega arith, tt))))
+pub nested_deep : (plan : Plan) (last : ℕ) (b : Block) (t : Spot) → nested b ≤ 8 → IsDeepAtMost 8 (marks_of 0 (all_places plan last b t))
+nested_deep plan last b t deep =
+    deep_marks 0 (all_places plan last b t) (deep_both (places plan 0 0 b t) _ (places_deep plan b 0 0 t (omega (arith, deep))) (deep_onward (spot_after plan b t) (alone last End 0) (λ u. (omega arith, tt))))
 
--- and a table has room for what they name
-pub accepted_room : (s : Tree) → IsAccepted s → HasRoomFor [] (named_by (marks_of 0 (places_of s)))
-accepted_room s a = room_from (marks_of 0 (places_of s)) (λ table t. a.configurations table t)
+-- what it means for a code to be within a limit is what the compiler keeps to
+pub within_keeps : (k : CodeLimit) (s : Tree) → IsWithin k s → Keeps k (nested (body_of s)) (places_of s)
+within_keeps Instructions s h = h
+within_keeps Labels s h = h
+within_keeps Configurations s h = room_from (marks_of 0 (places_of s)) (λ table t. h table t)
+within_keeps Counters s h = h
+
+-- the code of a script that is accepted is within each limit
+pub accepted_within : (k : CodeLimit) (s : Tree) → IsAccepted s → IsWithin k s
+accepted_within Instructions s a = a.instructions
+accepted_within Labels s a = a.labels
+accepted_within Configurations s a = λ table t. a.configurations table t
+accepted_within Counters s a = a.repeats

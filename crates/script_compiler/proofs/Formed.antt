@@ -1,4 +1,4 @@
--- The code that is made of an accepted script has every field within its limits.
+-- The code that is made of a script has every field within its limits.
 use Rattle.std.proofs.Common.{◌≡◌, ◌≢◌, ℕ, zero, suc, ◌+◌, ◌≤◌, ◌<◌, Bool, true, false, if◌then◌else◌, List, [], ◌∷◌, ◌++◌, length, get_or, Option, Some, None, refl, sym, ap, ◌∙◌, subst, arith}
 use Rattle.std.specs.Prelude.{slice_get, slice_index, Contains}
 use Rattle.std.specs.Option.{option_map}
@@ -19,15 +19,16 @@ use Rattle.script_front.specs.Tree.{Tree, IsHeader, IsScript}
 use Rattle.script_meaning.specs.declared.flow.Mark.{Mark}
 use Rattle.script_meaning.specs.declared.flow.Spot.{Spot}
 use Rattle.script_meaning.specs.Scheme.{Place, mark_of, marks_of, spot_after, alone, onward, places}
-use Rattle.script_meaning.specs.Compiled.{plan_of, body_of, beginning, opening_of, places_of, lines_of_places, instrs_of, first_counters, Tabled, AreLabelsOf, IsAccepted}
+use Rattle.script_meaning.specs.Judged.{IsJudged}
+use Rattle.script_meaning.specs.Compiled.{plan_of, body_of, beginning, opening_of, places_of, lines_of_places, instrs_of, first_counters, nested, Tabled, AreLabelsOf}
 use Rattle.script_compiler.specs.declared.fault.CompileFault.{CompileFault}
 use Rattle.script_compiler.specs.declared.fault.CompileFault.TheVariants.{Refused, Limit, Memory}
 use Rattle.script_compiler.specs.Longest.{longest}
-use Rattle.script_compiler.specs.Refusals.{IsRefusal}
+use Rattle.script_compiler.specs.Refusals.{IsRefusal, IfLimit}
 use Rattle.script_compiler.specs.Room.{IsDeepAtMost}
 use Rattle.script_compiler.proofs.Accepting.{labels_length}
 use Rattle.script_compiler.proofs.Bounded.{IsBounded, AllWay, AllBounded, after_bounded, places_bounded}
-use Rattle.script_compiler.proofs.Deep.{accepted_deep}
+use Rattle.script_compiler.proofs.Deep.{nested_deep}
 use Rattle.script_compiler.proofs.First.{first_of_all}
 use Rattle.script_compiler.proofs.Labelled.{label_contained}
 use Rattle.script_compiler.proofs.Laid.{length_lines}
@@ -110,7 +111,7 @@ are_bounds Idle h k = tt
 are_bounds (Within lo hi) h k = (h.0, h.1, k)
 are_bounds (Perhaps hi) h k = (h, k)
 
-module _ (s : Tree) (script : IsScript s) (accepted : IsAccepted s) where
+module _ (s : Tree) (script : IsScript s) (judged : IsJudged (plan_of s) (body_of s) (beginning (opening_of s))) where
   abbrev start : Spot
   start = beginning (opening_of s)
 
@@ -119,8 +120,8 @@ module _ (s : Tree) (script : IsScript s) (accepted : IsAccepted s) where
       let least : 1 ≤ (plan_of s).notice = let n = script.headed.notice_from in omega (arith, n) in
       let plan = plan_of s in
       let a = spot_after plan (body_of s) start in
-      bounded_both (places plan 0 0 (body_of s) start) (onward a [] (alone s.last_line End 0)) (places_bounded plan (body_of s) 0 0 start least accepted.judged tt)
-      (bounded_alone a s.last_line End 0 (after_bounded plan (body_of s) start least accepted.judged tt))
+      bounded_both (places plan 0 0 (body_of s) start) (onward a [] (alone s.last_line End 0)) (places_bounded plan (body_of s) 0 0 start least judged tt)
+      (bounded_alone a s.last_line End 0 (after_bounded plan (body_of s) start least judged tt))
 
   places_in_range : AllByRecursion IsLine (lines_of_places (places_of s)) → AllRanged (places_of s)
   places_in_range h = all_ranged (plan_of s) s.last_line (body_of s) start script.headed.notice_to (instrs_from_lines (places_of s) h) tt
@@ -142,7 +143,15 @@ some_table n (l ∷ ls) h all = let c = all.0.current in omega (arith, c)
 
 -- ---- the code
 
-module _ (s : Tree) (plan : Plan) (config : Configuration) (lines : List Line) (marks : List Mark) (needs : List ℕ) (configs : List Configuration) (labels : List Label) (p : Parts s plan config lines marks needs configs labels) (script : IsScript s) (accepted : IsAccepted s) where
+-- the statements of a script may stand where they do, and its code is within its limits
+pub record IsKept (s : Tree) (configs : List Configuration) : Type 0 where
+  pub judged : IsJudged (plan_of s) (body_of s) (beginning (opening_of s))
+  pub repeats : nested (body_of s) ≤ 8
+  pub instructions : length (places_of s) ≤ 4096
+  pub labels : length (marks_of 0 (places_of s)) ≤ 1024
+  pub configurations : length configs ≤ 256
+
+module _ (s : Tree) (plan : Plan) (config : Configuration) (lines : List Line) (marks : List Mark) (needs : List ℕ) (configs : List Configuration) (labels : List Label) (p : Parts s plan config lines marks needs configs labels) (script : IsScript s) (kept : IsKept s configs) where
   abbrev all : List Place
   all = places_of s
 
@@ -175,9 +184,9 @@ module _ (s : Tree) (plan : Plan) (config : Configuration) (lines : List Line) (
   label_formed formed l has =
       let at = label_contained configs all labels 0 l labels_of_all has in
       let within = slice_get_within all at.index at.place at.there in
-      let few = accepted.instructions in
+      let few = kept.instructions in
       let pc = at.is.place in
-      let bounds = bounded_at all at.index at.place (places_in_bounds s script accepted) (places_in_range s script accepted (subst (λ (ls : List Line). AllByRecursion IsLine ls) lines_of_all formed)) at.there in
+      let bounds = bounded_at all at.index at.place (places_in_bounds s script kept.judged) (places_in_range s script kept.judged (subst (λ (ls : List Line). AllByRecursion IsLine ls) lines_of_all formed)) at.there in
       let pc_is : at.index ≡ l.pc = omega (arith, pc) in
       let cost = label_cost l has at.place.instr (subst (λ k. slice_get (instrs_of lines) k ≡ Some at.place.instr) pc_is (instr_there at.index at.place at.there)) in
       record {
@@ -185,7 +194,7 @@ module _ (s : Tree) (plan : Plan) (config : Configuration) (lines : List Line) (
         current = slice_get_within configs l.cur at.place.spot.flow.current at.is.current;
         following = slice_get_within configs l.next at.place.spot.flow.next at.is.following;
         bounds = subst AreBounds (sym at.is.pending) (are_bounds at.place.spot.flow.pending bounds.0 bounds.1);
-        set = each_at (λ (x : Label). x.counters.0 < 256) labels has.0 l l (counters_within configs (marks_of 0 all) labels labels_of_all (accepted_deep s accepted)) has.1 has.2;
+        set = each_at (λ (x : Label). x.counters.0 < 256) labels has.0 l l (counters_within configs (marks_of 0 all) labels labels_of_all (nested_deep (plan_of s) s.last_line (body_of s) (beginning (opening_of s)) kept.repeats)) has.1 has.2;
         cost_from = cost.0;
         cost_to = cost.1;
       }
@@ -198,15 +207,15 @@ module _ (s : Tree) (plan : Plan) (config : Configuration) (lines : List Line) (
       let count = labels_length configs (marks_of 0 all) labels labels_of_all in
       let some = some_marks first.place first.rest all first.is (first.labelled refl) in
       let some_labels : 1 ≤ length labels = omega (arith, count, some) in
-      let few_labels = accepted.labels in
+      let few_labels = kept.labels in
       let laid = ap length lines_of_all in
       let counted = length_lines all in
       let some_lines = some_places first.place first.rest all first.is in
-      let few_lines = accepted.instructions in
+      let few_lines = kept.instructions in
       record {
         planned = subst IsPlan (sym p.plan_is) (plan_formed s script.headed);
         configurations_from = some_table (length configs) labels some_labels labels_are;
-        configurations_to = accepted.configurations configs table_of_all;
+        configurations_to = kept.configurations;
         configurations_formed = made;
         labels_from = some_labels;
         labels_to = omega (arith, count, few_labels);
@@ -218,7 +227,7 @@ module _ (s : Tree) (plan : Plan) (config : Configuration) (lines : List Line) (
       }
 
 -- what comes neither where a script is refused nor where a limit is passed comes for want of memory alone
-pub fault_either : (X : Type 0) (e : CompileFault) → (IsRefusal e → X) → (e ≡ Limit → X) → e ≢ Memory → X
+pub fault_either : (X : Type 0) (e : CompileFault) → (IsRefusal e → X) → IfLimit e (λ _ _. X) → e ≢ Memory → X
 fault_either X (Refused line cause) r l other = r tt
-fault_either X Limit r l other = l refl
+fault_either X (Limit line limit) r l other = l
 fault_either X Memory r l other = absurd (other refl)

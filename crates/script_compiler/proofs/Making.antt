@@ -14,9 +14,11 @@ use Rattle.script_meaning.specs.Scheme.{all_places, marks_of}
 use Rattle.script_meaning.specs.Judged.{IsJudged}
 use Rattle.script_meaning.specs.Need.{IsWithinBudget}
 use Rattle.script_meaning.specs.Compiled.{plan_of, body_of, beginning, opening_of, places_of, lines_of_places, instrs_of, nested, AreFine, Tabled, AreLabelsOf, IsCodeOf, CostsItsNeeds, IsAccepted}
-use Rattle.script_compiler.specs.Space.{AreFew}
+use Rattle.script_compiler.specs.Space.{Keeps}
+use Rattle.script_compiler.specs.Limits.{IsWithin}
+use Rattle.script_compiler.specs.declared.fault.CodeLimit.{CodeLimit}
 use Rattle.script_compiler.specs.Longest.{longest, Priced}
-use Rattle.script_compiler.proofs.Deep.{accepted_room}
+use Rattle.script_compiler.proofs.Deep.{within_keeps}
 use Rattle.script_compiler.proofs.Accepting.{is_accepted, is_code_of}
 use Rattle.script_compiler.proofs.Paths.{within_from}
 use Rattle.script_compiler.proofs.Tabling.{costs_needs}
@@ -62,16 +64,12 @@ module _ (s : Tree) (plan : Plan) (config : Configuration) (lines : List Line) (
       (subst (λ (x : Configuration). pages_alone (plan_of s) x ≤ s.header.period) p.config_is (subst (λ (q : Plan). pages_alone q config ≤ q.period) p.plan_is period))
       (subst (λ (x : Configuration). IsJudged (plan_of s) (body_of s) (beginning x)) p.config_is (subst (λ (q : Plan). IsJudged q (body_of s) (beginning config)) p.plan_is judged)) deep parts_within
 
--- a script that is accepted keeps within the limits
-pub accepted_few : (s : Tree) → IsAccepted s → AreFew (places_of s)
-accepted_few s a = record { instructions = a.instructions; labels = a.labels; configurations = accepted_room s a }
-
 module _ (s : Tree) (plan : Plan) (config : Configuration) (plan_is : plan ≡ plan_of s) (config_is : config ≡ opening_of s) where
   same_places : places_of s ≡ all_places plan s.last_line (body_of s) (beginning config)
   same_places = ap (λ (q : Plan). all_places q s.last_line (body_of s) (beginning (opening_of s))) (sym plan_is) ∙ ap (λ x. all_places plan s.last_line (body_of s) (beginning x)) (sym config_is)
 
-  pub laid_few : IsAccepted s → AreFew (all_places plan s.last_line (body_of s) (beginning config))
-  laid_few a = subst AreFew same_places (accepted_few s a)
+  pub laid_few : (k : CodeLimit) → IsWithin k s → Keeps k (nested (body_of s)) (all_places plan s.last_line (body_of s) (beginning config))
+  laid_few k h = subst (λ ps. Keeps k (nested (body_of s)) ps) same_places (within_keeps k s h)
 
-  pub laid_judged : IsAccepted s → IsJudged plan (body_of s) (beginning config)
-  laid_judged a = subst (λ x. IsJudged plan (body_of s) (beginning x)) (sym config_is) (subst (λ (q : Plan). IsJudged q (body_of s) (beginning (opening_of s))) (sym plan_is) a.judged)
+  pub laid_judged : IsJudged (plan_of s) (body_of s) (beginning (opening_of s)) → IsJudged plan (body_of s) (beginning config)
+  laid_judged j = subst (λ x. IsJudged plan (body_of s) (beginning x)) (sym config_is) (subst (λ (q : Plan). IsJudged q (body_of s) (beginning (opening_of s))) (sym plan_is) j)

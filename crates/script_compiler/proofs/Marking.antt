@@ -117,10 +117,10 @@ pub shallow_marks : (table : List Configuration) (most : ℕ) (ms : List ShortMa
 shallow_marks table most [] h = tt
 shallow_marks table most (m ∷ ms) h = (h.0, shallow_marks table most ms h.1)
 
-pub too_deep : (most : ℕ) (ms : List ShortMark) (k : ℕ) (d : ShortMark) → k < length ms → most < (get_or ms k d).repeats → AreShallow most ms → ⊥
-too_deep most [] k d lt deep h = absurd (omega (arith, lt))
-too_deep most (x ∷ ms) zero d lt deep h = let few = h.0 in absurd (omega (arith, deep, few))
-too_deep most (x ∷ ms) (suc k) d lt deep h = too_deep most ms k d (omega (arith, lt)) deep h.1
+pub shallow_at : (most : ℕ) (ms : List ShortMark) (k : ℕ) (d : ShortMark) → k < length ms → AreShallow most ms → (get_or ms k d).repeats ≤ most
+shallow_at most [] k d lt h = absurd (omega (arith, lt))
+shallow_at most (x ∷ xs) zero d lt h = h.0
+shallow_at most (x ∷ xs) (suc k) d lt h = shallow_at most xs k d (omega (arith, lt)) h.1
 
 pub ok_each : {A B : Type 0} (x : Result A B) {P Q : A → Type 0} → ((y : A) → P y → Q y) → IfOk x P → IfOk x Q
 ok_each (Ok y) m h = m y h

@@ -12,6 +12,7 @@ use Rattle.script_compiler.specs.declared.short.ShortSpot.{ShortSpot}
 use Rattle.script_compiler.specs.Marked.{MarkedTable, configuration_at, mark_in}
 use Rattle.script_compiler.specs.Pool.{spot_in}
 use Rattle.script_compiler.specs.Room.{HasRoomFor, Leaves}
+use Rattle.script_compiler.specs.declared.fault.CodeLimit.TheVariants.{Configurations}
 use Rattle.script_compiler.specs.Space.{HasSpace, HasTable, IsCovered}
 use Rattle.script_compiler.specs.Working.{Work}
 use Rattle.script_compiler.proofs.Marking.{mark_is, one_mark}
@@ -20,12 +21,13 @@ use Rattle.script_compiler.proofs.Spaces.{room_names}
 pub table_as : (v w : Work) → w.marks ≡ v.marks → HasTable v → HasTable w
 table_as v w e h = record {
   few = subst (λ (m : MarkedTable). length m.table ≤ 256) (sym e) h.few;
+  labels = subst (λ (m : MarkedTable). length m.items ≤ 1024) (sym e) h.labels;
   room = subst (λ (m : MarkedTable). Leaves [] m.table m.items) (sym e) h.room;
   tabled = subst (λ (m : MarkedTable). Tabled [] m.items m.table) (sym e) h.tabled;
 }
 
 -- the table has room for the configurations of a label here
-pub room_here : (w : Work) (s : ShortSpot) (ps : List Place) → spot_in w.pool s ≡ w.now → HasTable w → IsCovered w.now.flow ps → HasSpace w ps
+pub room_here : (w : Work) (s : ShortSpot) (ps : List Place) → spot_in w.pool s ≡ w.now → HasTable w → IsCovered w.now.flow ps → HasSpace Configurations w ps
     → HasRoomFor w.marks.table (configuration_at w.pool s.current ∷ configuration_at w.pool s.next ∷ [])
 room_here w s ps same table cover space =
     subst (λ (x : Spot). HasRoomFor w.marks.table (x.flow.current ∷ x.flow.next ∷ [])) (sym same) (room_names w w.now.flow ps table cover space)

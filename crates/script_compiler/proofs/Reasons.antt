@@ -36,18 +36,18 @@ err_two (Err y) m h k = m y h k
 
 pub refused_map : (e : CompileFault) {P Q : ℕ → Cause → Type 0} → ((at : ℕ) (given : Cause) → P at given → Q at given) → IfRefused e P → IfRefused e Q
 refused_map (Refused at given) m h = m at given h
-refused_map Limit m h = tt
+refused_map (Limit line limit) m h = tt
 refused_map Memory m h = tt
 
 -- where it refuses a script, memory was not wanting
 pub refused_but_memory : (e : CompileFault) {P Q : ℕ → Cause → Type 0} → ((at : ℕ) (given : Cause) → e ≢ Memory → P at given → Q at given) → IfRefused e P → IfRefused e Q
 refused_but_memory (Refused at given) m h = m at given (λ is. cc) h
-refused_but_memory Limit m h = tt
+refused_but_memory (Limit line limit) m h = tt
 refused_but_memory Memory m h = tt
 
 pub no_refusal : (e : CompileFault) (P : ℕ → Cause → Type 0) → (IsRefusal e → ⊥) → IfRefused e P
 no_refusal (Refused at given) P h = absurd (h tt)
-no_refusal Limit P h = tt
+no_refusal (Limit line limit) P h = tt
 no_refusal Memory P h = tt
 
 pub refused_here : (e : CompileFault) (line : ℕ) (cause : Cause) (P : ℕ → Cause → Type 0) → e ≡ Refused line cause → P line cause → IfRefused e P
@@ -87,7 +87,7 @@ module _ (plan : Plan) (r line c : ℕ) (first rest : Block) (w0 w2 w3 : Work) (
       by (Refused at given) h k =
           let whole = whole_of plan r (length w2.lines.items) first (past w0.now.flow) w2 w3 f refl fork.now left in
           inr (whole.judged, inl ((λ agree. k tt w0.saved.items w0.now (left.lays.saved ∙ fork.saved) (subst (λ w. WaysAgree w (Some w0.now)) whole.leads agree)), h.0, h.1))
-      by Limit h k = tt
+      by (Limit line limit) h k = tt
       by Memory h k = tt
 
 module _ (plan : Plan) (r line c jump : ℕ) (first second rest : Block) (w0 w2 w3 w6 w7 : Work) (f1 f2 : Bool) (e : CompileFault) where
@@ -110,7 +110,7 @@ module _ (plan : Plan) (r line c jump : ℕ) (first second rest : Block) (w0 w2 
           let one = whole_of plan r (length w2.lines.items) first (past w0.now.flow) w2 w3 f1 refl fork.now left in
           let two = whole_of plan r (length w6.lines.items) second (at_label w0.now.flow) w6 w7 f2 refl turn.now left2 in
           inr (one.judged, inr (two.judged, inl ((λ agree. k tt w0.saved.items (way f1 w3) (some_is f1 w3) (left2.lays.saved ∙ turn.saved) (subst (λ w. BranchesAgree w (way f2 w7)) one.leads (subst (λ w. BranchesAgree (spot_after plan first (past w0.now.flow)) w) two.leads agree))), h.0, h.1)))
-      by Limit h k = tt
+      by (Limit line limit) h k = tt
       by Memory h k = tt
 
 module _ (plan : Plan) (r line n : ℕ) (body rest : Block) (w0 w1 w2 w3 : Work) (f falls : Bool) (e : CompileFault) where
@@ -127,7 +127,7 @@ module _ (plan : Plan) (r line n : ℕ) (body rest : Block) (w0 w1 w2 w3 : Work)
           let is : w2.now ≡ start = head_is body falls w1 w2 ef n2 ∙ ap (λ s. head body s) n1 in
           let whole = whole_of plan (r + 1) (length w2.lines.items) body start w2 w3 f refl is left in
           inr (whole.judged, inl ((λ round. k tt w1.saved.items w2.now (left.lays.saved ∙ s2) (subst (λ s. ComesRound (way f w3) s) (sym is) (subst (λ w. ComesRound w start) whole.leads round))), h.0, h.1))
-      by Limit h k = tt
+      by (Limit line limit) h k = tt
       by Memory h k = tt
 
 module _ (plan : Plan) (r line : ℕ) (body rest : Block) (w0 w2 w3 : Work) (f falls : Bool) (e : CompileFault) where
@@ -144,7 +144,7 @@ module _ (plan : Plan) (r line : ℕ) (body rest : Block) (w0 w2 w3 : Work) (f f
           let is : w2.now ≡ start = head_is body falls w0 w2 ef n2 in
           let whole = whole_of plan r (length w2.lines.items) body start w2 w3 f refl is left in
           inr (whole.judged, inl ((λ round. k tt w0.saved.items w2.now (left.lays.saved ∙ s2) (subst (λ s. ComesRound (way f w3) s) (sym is) (subst (λ w. ComesRound w start) whole.leads round))), h.0, h.1))
-      by Limit h k = tt
+      by (Limit line limit) h k = tt
       by Memory h k = tt
 
 -- ---- a block's statements

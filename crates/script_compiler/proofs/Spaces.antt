@@ -1,5 +1,5 @@
 -- Room for what is still to be laid down.
-use Rattle.std.proofs.Common.{◌≡◌, ℕ, zero, suc, ◌+◌, ◌≤◌, inl, inr, Bool, true, false, if◌then◌else◌, List, [], ◌∷◌, ◌++◌, length, Option, Some, None, is_some, Result, Ok, Err, refl, sym, ap, ◌∙◌, subst, arith, append_assoc, length-append}
+use Rattle.std.proofs.Common.{◌≡◌, ℕ, zero, suc, ◌+◌, ◌<◌, ◌≤◌, inl, inr, Bool, true, false, if◌then◌else◌, List, [], ◌∷◌, ◌++◌, length, Option, Some, None, is_some, Result, Ok, Err, refl, sym, ap, ◌∙◌, subst, arith, append_assoc, length-append}
 use Rattle.std.specs.Prelude.{slice_get, IfErr}
 use Rattle.mux_config.specs.Configuration.{Configuration}
 use Rattle.plan_code.specs.declared.instr.Instr.{Instr}
@@ -15,7 +15,11 @@ use Rattle.script_meaning.specs.declared.flow.Spot.{Spot}
 use Rattle.script_meaning.specs.Scheme.{Place, place_of_instr, alone, onward, at_label, meet, spot_after, places, mark_of, marks_of}
 use Rattle.script_meaning.specs.Compiled.{StandsIn, Added, Tabled, lines_of_places}
 use Rattle.script_compiler.specs.Working.{Work}
+use Rattle.script_compiler.specs.declared.fault.CodeLimit.{CodeLimit}
+use Rattle.script_compiler.specs.declared.fault.CodeLimit.TheVariants.{Instructions, Labels, Configurations, Counters}
 use Rattle.script_compiler.specs.declared.fault.CompileFault.{CompileFault}
+use Rattle.script_compiler.specs.declared.fault.CompileFault.TheVariants.{Refused, Limit, Memory}
+use Rattle.script_compiler.specs.Refusals.{IfLimit}
 use Rattle.script_compiler.specs.Laying.{Lays, jumping, way}
 use Rattle.script_compiler.specs.Room.{HasRoomFor, Leaves, named_by}
 use Rattle.script_compiler.specs.Space.{count_of_labels, names_of, HasSpace, HasTable, IsCovered, Covers}
@@ -62,45 +66,44 @@ marks_named pc (p ∷ ps) = named_if p.spot.labelled (mark_of pc p) (marks_of (p
 
 -- ---- what has been laid down of what there was room for
 
-pub space_from : (v w : Work) (n : ℕ) (ps qs : List Place) → length w.lines.items ≡ length v.lines.items + length ps → w.marks.items ≡ v.marks.items ++ marks_of n ps → HasSpace v (ps ++ qs) → HasSpace w qs
-space_from v w n ps qs lines marks h = record {
-  lines = let k = h.lines in let a = length-append ps qs in omega (arith, k, a, lines);
-  labels = let k = h.labels in let a = labels_both ps qs in let m = ap length marks ∙ length-append v.marks.items (marks_of n ps) in let c = marks_count n ps in omega (arith, k, a, m, c);
-  configurations =
-      let e : named_by v.marks.items ++ names_of (ps ++ qs) ≡ named_by w.marks.items ++ names_of qs =
-      ap (λ xs. named_by v.marks.items ++ xs) (names_both ps qs) ∙ sym (append_assoc (named_by v.marks.items) (names_of ps) (names_of qs))
-      ∙ ap (λ xs. (named_by v.marks.items ++ xs) ++ names_of qs) (sym (marks_named n ps)) ∙ ap (λ xs. xs ++ names_of qs) (sym (named_both v.marks.items (marks_of n ps))) ∙ ap (λ ms. named_by ms ++ names_of qs) (sym marks) in
-      subst (λ cs. HasRoomFor [] cs) e h.configurations;
-}
+pub space_from : (k : CodeLimit) (v w : Work) (n : ℕ) (ps qs : List Place) → length w.lines.items ≡ length v.lines.items + length ps → w.marks.items ≡ v.marks.items ++ marks_of n ps → HasSpace k v (ps ++ qs) → HasSpace k w qs
+space_from Instructions v w n ps qs lines marks h = let a = length-append ps qs in omega (arith, h, a, lines)
+space_from Labels v w n ps qs lines marks h =
+    let a = labels_both ps qs in let m = ap length marks ∙ length-append v.marks.items (marks_of n ps) in let c = marks_count n ps in omega (arith, h, a, m, c)
+space_from Configurations v w n ps qs lines marks h =
+    let e : named_by v.marks.items ++ names_of (ps ++ qs) ≡ named_by w.marks.items ++ names_of qs =
+    ap (λ xs. named_by v.marks.items ++ xs) (names_both ps qs) ∙ sym (append_assoc (named_by v.marks.items) (names_of ps) (names_of qs))
+    ∙ ap (λ xs. (named_by v.marks.items ++ xs) ++ names_of qs) (sym (marks_named n ps)) ∙ ap (λ xs. xs ++ names_of qs) (sym (named_both v.marks.items (marks_of n ps))) ∙ ap (λ ms. named_by ms ++ names_of qs) (sym marks) in
+    subst (λ cs. HasRoomFor [] cs) e h
+space_from Counters v w n ps qs lines marks h = tt
 
-pub space_after : (v w : Work) (ps qs : List Place) → Lays v w ps → HasSpace v (ps ++ qs) → HasSpace w qs
-space_after v w ps qs l h = space_from v w (length v.lines.items) ps qs (laid_length v w ps l) l.marks h
+pub space_after : (k : CodeLimit) (v w : Work) (ps qs : List Place) → Lays v w ps → HasSpace k v (ps ++ qs) → HasSpace k w qs
+space_after k v w ps qs l h = space_from k v w (length v.lines.items) ps qs (laid_length v w ps l) l.marks h
 
 -- only what is known at a place counts
-pub space_spot : (w : Work) (p q : Place) (ps : List Place) → p.spot ≡ q.spot → HasSpace w (p ∷ ps) → HasSpace w (q ∷ ps)
-space_spot w p q ps e h =
-    let names : names_of (p ∷ ps) ≡ names_of (q ∷ ps) = ap (λ (s : Spot). if s.labelled then s.flow.current ∷ s.flow.next ∷ names_of ps else names_of ps) e in
+pub space_spot : (k : CodeLimit) (w : Work) (p q : Place) (ps : List Place) → p.spot ≡ q.spot → HasSpace k w (p ∷ ps) → HasSpace k w (q ∷ ps)
+space_spot Instructions w p q ps e h = h
+space_spot Labels w p q ps e h =
     let count : count_of_labels (p ∷ ps) ≡ count_of_labels (q ∷ ps) = ap (λ (s : Spot). if s.labelled then 1 + count_of_labels ps else count_of_labels ps) e in
-    record {
-      lines = h.lines;
-      labels = let k = h.labels in omega (arith, k, count);
-      configurations = subst (λ cs. HasRoomFor [] (named_by w.marks.items ++ cs)) names h.configurations;
-    }
+    omega (arith, h, count)
+space_spot Configurations w p q ps e h =
+    let names : names_of (p ∷ ps) ≡ names_of (q ∷ ps) = ap (λ (s : Spot). if s.labelled then s.flow.current ∷ s.flow.next ∷ names_of ps else names_of ps) e in
+    subst (λ cs. HasRoomFor [] (named_by w.marks.items ++ cs)) names h
+space_spot Counters w p q ps e h = tt
 
-pub space_one : (v w : Work) (n : ℕ) (line r : ℕ) (i : Instr) (p : Place) (ps : List Place) → p.spot ≡ v.now → length w.lines.items ≡ length v.lines.items + 1 → w.marks.items ≡ v.marks.items ++ marks_of n (alone line i r v.now) → HasSpace v (p ∷ ps) → HasSpace w ps
-space_one v w n line r i p ps e lines marks h = space_from v w n (alone line i r v.now) ps lines marks (space_spot v p (place_of_instr line i r v.now) ps e h)
+pub space_one : (k : CodeLimit) (v w : Work) (n : ℕ) (line r : ℕ) (i : Instr) (p : Place) (ps : List Place) → p.spot ≡ v.now → length w.lines.items ≡ length v.lines.items + 1 → w.marks.items ≡ v.marks.items ++ marks_of n (alone line i r v.now) → HasSpace k v (p ∷ ps) → HasSpace k w ps
+space_one k v w n line r i p ps e lines marks h = space_from k v w n (alone line i r v.now) ps lines marks (space_spot k v p (place_of_instr line i r v.now) ps e h)
 
 -- the same instructions and labels
-pub space_as : (v w : Work) (ps : List Place) → length w.lines.items ≡ length v.lines.items → w.marks.items ≡ v.marks.items → HasSpace v ps → HasSpace w ps
-space_as v w ps lines marks h = record {
-  lines = let k = h.lines in omega (arith, k, lines);
-  labels = let k = h.labels in let m = ap length marks in omega (arith, k, m);
-  configurations = subst (λ ms. HasRoomFor [] (named_by ms ++ names_of ps)) (sym marks) h.configurations;
-}
+pub space_as : (k : CodeLimit) (v w : Work) (ps : List Place) → length w.lines.items ≡ length v.lines.items → w.marks.items ≡ v.marks.items → HasSpace k v ps → HasSpace k w ps
+space_as Instructions v w ps lines marks h = omega (arith, h, lines)
+space_as Labels v w ps lines marks h = let m = ap length marks in omega (arith, h, m)
+space_as Configurations v w ps lines marks h = subst (λ ms. HasRoomFor [] (named_by ms ++ names_of ps)) (sym marks) h
+space_as Counters v w ps lines marks h = tt
 
-pub space_onward : (w : Work) (line line' r r' : ℕ) (i j : Instr) (a : Option Spot) (ps : List Place) → HasSpace w (onward a [] (alone line i r) ++ ps) → HasSpace w (onward a [] (alone line' j r') ++ ps)
-space_onward w line line' r r' i j None ps h = h
-space_onward w line line' r r' i j (Some s) ps h = space_spot w (place_of_instr line i r s) (place_of_instr line' j r' s) ps refl h
+pub space_onward : (k : CodeLimit) (w : Work) (line line' r r' : ℕ) (i j : Instr) (a : Option Spot) (ps : List Place) → HasSpace k w (onward a [] (alone line i r) ++ ps) → HasSpace k w (onward a [] (alone line' j r') ++ ps)
+space_onward k w line line' r r' i j None ps h = h
+space_onward k w line line' r r' i j (Some s) ps h = space_spot k w (place_of_instr line i r s) (place_of_instr line' j r' s) ps refl h
 
 -- ---- labels that are wanted
 
@@ -175,26 +178,26 @@ covers_block plan r pc b s more onward_to = λ l. elim (first_of plan r pc b s) 
 -- ---- a label put down
 
 -- a label has room where one is wanted
-pub room_label : (w : Work) (t : Flow) (ps : List Place) → IsCovered t ps → HasSpace w ps → length w.marks.items + 1 ≤ 1024
+pub room_label : (w : Work) (t : Flow) (ps : List Place) → IsCovered t ps → HasSpace Labels w ps → length w.marks.items + 1 ≤ 1024
 room_label w t ps cover h =
-    let k = h.labels in
     let e : count_of_labels ps ≡ count_of_labels (cover.place ∷ cover.rest) = ap count_of_labels cover.is in
     let f : count_of_labels (cover.place ∷ cover.rest) ≡ 1 + count_of_labels cover.rest = ap (λ (b : Bool). if b then 1 + count_of_labels cover.rest else count_of_labels cover.rest) cover.labelled in
-    omega (arith, k, e, f)
+    omega (arith, h, e, f)
 
 -- and so have the configurations that it names
-pub room_names : (w : Work) (t : Flow) (ps : List Place) → HasTable w → IsCovered t ps → HasSpace w ps → HasRoomFor w.marks.table (t.current ∷ t.next ∷ [])
+pub room_names : (w : Work) (t : Flow) (ps : List Place) → HasTable w → IsCovered t ps → HasSpace Configurations w ps → HasRoomFor w.marks.table (t.current ∷ t.next ∷ [])
 room_names w t ps table cover h =
     let p = cover.place in
     let more = names_of cover.rest in
     let e : names_of ps ≡ p.spot.flow.current ∷ p.spot.flow.next ∷ more = ap names_of cover.is ∙ ap (λ (b : Bool). if b then p.spot.flow.current ∷ p.spot.flow.next ∷ more else more) cover.labelled in
-    let room : HasRoomFor w.marks.table (p.spot.flow.current ∷ p.spot.flow.next ∷ more) = table.room (p.spot.flow.current ∷ p.spot.flow.next ∷ more) (subst (λ cs. HasRoomFor [] (named_by w.marks.items ++ cs)) e h.configurations) in
+    let room : HasRoomFor w.marks.table (p.spot.flow.current ∷ p.spot.flow.next ∷ more) = table.room (p.spot.flow.current ∷ p.spot.flow.next ∷ more) (subst (λ cs. HasRoomFor [] (named_by w.marks.items ++ cs)) e h) in
     room_fewer w.marks.table (t.current ∷ t.next ∷ []) (p.spot.flow.current ∷ p.spot.flow.next ∷ more) (λ c k. stands_more p.spot.flow.current p.spot.flow.next c more (cover.names c k)) room
 
 -- the table after a label
-pub table_mark : (v w : Work) (one : List Configuration) (m : Mark) → Added m.flow.current v.marks.table one → Added m.flow.next one w.marks.table → w.marks.items ≡ v.marks.items ++ m ∷ [] → length w.marks.table ≤ 256 → HasTable v → HasTable w
-table_mark v w one m a b e few table = record {
+pub table_mark : (v w : Work) (one : List Configuration) (m : Mark) → Added m.flow.current v.marks.table one → Added m.flow.next one w.marks.table → w.marks.items ≡ v.marks.items ++ m ∷ [] → length w.marks.table ≤ 256 → length v.marks.items < 1024 → HasTable v → HasTable w
+table_mark v w one m a b e few fewer table = record {
   few = few;
+  labels = let n = ap length e ∙ length-append v.marks.items (m ∷ []) in omega (arith, n, fewer);
   room = subst (λ ms. Leaves [] w.marks.table ms) (sym e) (leaves_both [] v.marks.table w.marks.table v.marks.items (m ∷ []) table.room (leaves_mark m v.marks.table one w.marks.table a b));
   tabled = subst (λ ms. Tabled [] ms w.marks.table) (sym e) (tabled_more v.marks.table one w.marks.table v.marks.items m [] table.tabled a b);
 }
@@ -212,26 +215,32 @@ room_next table one a b added room = room_right one a b (room_added a table one 
 
 -- ---- a way that continues
 
-pub err_each : {A : Type 0} (x : Result A CompileFault) {P Q : CompileFault → Type 0} → ((y : CompileFault) → P y → Q y) → IfErr x P → IfErr x Q
-err_each (Ok f) m h = h
-err_each (Err y) m h = m y h
+-- where a fault says that a limit is passed
+pub limit_map : (e : CompileFault) {P Q : ℕ → CodeLimit → Type 0} → ((at : ℕ) (k : CodeLimit) → P at k → Q at k) → IfLimit e P → IfLimit e Q
+limit_map (Refused line cause) m h = tt
+limit_map (Limit line k) m h = m line k h
+limit_map Memory m h = tt
 
-pub space_back : (w : Work) (falls : Bool) (m n : ℕ) (i : Instr) (ps : List Place) → falls ≡ true → HasSpace w (onward (way falls w) [] (alone m i n) ++ ps) → HasSpace w (place_of_instr m i n w.now ∷ ps)
-space_back w falls m n i ps e h = subst (λ f. HasSpace w (onward (way f w) [] (alone m i n) ++ ps)) e h
+pub limits_map : {A : Type 0} (x : Result A CompileFault) {P Q : ℕ → CodeLimit → Type 0} → ((at : ℕ) (k : CodeLimit) → P at k → Q at k) → IfErr x (λ e. IfLimit e P) → IfErr x (λ e. IfLimit e Q)
+limits_map (Ok a) m h = h
+limits_map (Err e) m h = limit_map e m h
 
-pub space_end : (w : Work) (falls : Bool) (m n : ℕ) (i : Instr) → falls ≡ true → HasSpace w (onward (way falls w) [] (alone m i n)) → HasSpace w (place_of_instr m i n w.now ∷ [])
-space_end w falls m n i e h = subst (λ f. HasSpace w (onward (way f w) [] (alone m i n))) e h
+pub space_back : (k : CodeLimit) (w : Work) (falls : Bool) (m n : ℕ) (i : Instr) (ps : List Place) → falls ≡ true → HasSpace k w (onward (way falls w) [] (alone m i n) ++ ps) → HasSpace k w (place_of_instr m i n w.now ∷ ps)
+space_back k w falls m n i ps e h = subst (λ f. HasSpace k w (onward (way f w) [] (alone m i n) ++ ps)) e h
+
+pub space_end : (k : CodeLimit) (w : Work) (falls : Bool) (m n : ℕ) (i : Instr) → falls ≡ true → HasSpace k w (onward (way falls w) [] (alone m i n)) → HasSpace k w (place_of_instr m i n w.now ∷ [])
+space_end k w falls m n i e h = subst (λ f. HasSpace k w (onward (way f w) [] (alone m i n))) e h
 
 -- after the way out of a first branch
-pub space_left : (v w : Work) (falls : Bool) (line r m n : ℕ) (i : Instr) (ps : List Place) → length w.lines.items ≡ length v.lines.items + length (lines_of_places (jumping falls line r v)) → w.marks.items ≡ v.marks.items ++ marks_of (length v.lines.items) (jumping falls line r v) → HasSpace v (onward (way falls v) [] (alone m i n) ++ ps) → HasSpace w ps
-space_left v w falls line r m n i ps lines marks h =
-    space_from v w (length v.lines.items) (jumping falls line r v) ps (let k = length_lines (jumping falls line r v) in omega (arith, lines, k)) marks (space_onward v m line n r i (Jump 0) (way falls v) ps h)
+pub space_left : (k : CodeLimit) (v w : Work) (falls : Bool) (line r m n : ℕ) (i : Instr) (ps : List Place) → length w.lines.items ≡ length v.lines.items + length (lines_of_places (jumping falls line r v)) → w.marks.items ≡ v.marks.items ++ marks_of (length v.lines.items) (jumping falls line r v) → HasSpace k v (onward (way falls v) [] (alone m i n) ++ ps) → HasSpace k w ps
+space_left k v w falls line r m n i ps lines marks h =
+    space_from k v w (length v.lines.items) (jumping falls line r v) ps (let n = length_lines (jumping falls line r v) in omega (arith, lines, n)) marks (space_onward k v m line n r i (Jump 0) (way falls v) ps h)
 
 pub none_of : {A : Type 0} (x : Option A) → is_some x ≡ false → x ≡ None
 none_of None e = refl
 none_of (Some a) e = cc
 
-pub space_restored : (v w : Work) (falls : Bool) (m n : ℕ) (i : Instr) (ps : List Place) → v.lines ≡ w.lines → v.marks ≡ w.marks → v.now ≡ w.now → HasSpace w (onward (way falls w) [] (alone m i n) ++ ps) → HasSpace v (onward (way falls v) [] (alone m i n) ++ ps)
-space_restored v w falls m n i ps lines marks now h =
-    let there = space_as w v (onward (way falls w) [] (alone m i n) ++ ps) (ap (λ x. length x.items) lines) (ap (λ x. x.items) marks) h in
-    subst (λ (s : Spot). HasSpace v (onward (if falls then Some s else None) [] (alone m i n) ++ ps)) (sym now) there
+pub space_restored : (k : CodeLimit) (v w : Work) (falls : Bool) (m n : ℕ) (i : Instr) (ps : List Place) → v.lines ≡ w.lines → v.marks ≡ w.marks → v.now ≡ w.now → HasSpace k w (onward (way falls w) [] (alone m i n) ++ ps) → HasSpace k v (onward (way falls v) [] (alone m i n) ++ ps)
+space_restored k v w falls m n i ps lines marks now h =
+    let there = space_as k w v (onward (way falls w) [] (alone m i n) ++ ps) (ap (λ x. length x.items) lines) (ap (λ x. x.items) marks) h in
+    subst (λ (s : Spot). HasSpace k v (onward (if falls then Some s else None) [] (alone m i n) ++ ps)) (sym now) there

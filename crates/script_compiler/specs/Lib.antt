@@ -4,6 +4,7 @@ pub mod Longest
 pub mod Room
 pub mod Fingerprint
 pub mod Space
+pub mod Limits
 pub mod Marked
 pub mod Costs
 pub mod Reaching

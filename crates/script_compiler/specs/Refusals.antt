@@ -1,17 +1,18 @@
--- Which faults refuse a script, and why. Of this a public contract cites `IfRefused` alone.
+-- Which faults refuse a script, and why. Of this public contracts cite `IfRefused` and `IfLimit`.
 use Rattle.std.specs.Prelude.{◌≡◌, ℕ}
 use Rattle.plan_code.specs.declared.plan.Plan.{Plan}
 use Rattle.plan_code.specs.declared.instr.Instr.{Instr}
 use Rattle.plan_flow.specs.declared.cause.Cause.{Cause}
 use Rattle.plan_flow.specs.Flows.{Flow, known_at}
 use Rattle.plan_flow.specs.Causes.{FlowRefused}
+use Rattle.script_compiler.specs.declared.fault.CodeLimit.{CodeLimit}
 use Rattle.script_compiler.specs.declared.fault.CompileFault.{CompileFault}
 use Rattle.script_compiler.specs.declared.fault.CompileFault.TheVariants.{Refused, Limit, Memory}
 
 -- neither a limit nor want of memory
 abbrev pub IsRefusal : CompileFault → Type 0
 IsRefusal (Refused line cause) = Unit {0}
-IsRefusal Limit = ⊥
+IsRefusal (Limit line limit) = ⊥
 IsRefusal Memory = ⊥
 
 -- at this line, with the first cause why the instruction is refused
@@ -21,5 +22,11 @@ IsRefusedAs plan line i t e = (cause : Cause) × (e ≡ Refused line cause) × F
 -- what holds of its line and its cause, where it refuses the script
 abbrev pub IfRefused : CompileFault → (ℕ → Cause → Type 0) → Type 0
 IfRefused (Refused line cause) holds = holds line cause
-IfRefused Limit holds = Unit {0}
+IfRefused (Limit line limit) holds = Unit {0}
 IfRefused Memory holds = Unit {0}
+
+-- what holds of its line and the limit, where it says that the code would pass one
+abbrev pub IfLimit : CompileFault → (ℕ → CodeLimit → Type 0) → Type 0
+IfLimit (Refused line cause) holds = Unit {0}
+IfLimit (Limit line limit) holds = holds line limit
+IfLimit Memory holds = Unit {0}

@@ -8,9 +8,8 @@ ghost use Rattle.script_meaning.specs.Judged.{WaysAgree, BranchesAgree, ComesRou
 ghost use Rattle.script_meaning.specs.Compiled.{lines_of_places};
 ghost use Rattle.plan_flow.specs.declared.cause.Cause.TheVariants.{Mismatch};
 ghost use Rattle.script_compiler.specs.Pool.{Extends, IsInPool, spot_in};
-ghost use Rattle.script_compiler.specs.Refusals.{IsRefusal, IfRefused};
+ghost use Rattle.script_compiler.specs.Refusals.{IsRefusal, IfRefused, IfLimit};
 ghost use Rattle.script_compiler.specs.Space.{HasSpace, HasTable, IsCovered, Covers};
-ghost use Rattle.script_compiler.specs.declared.fault.CompileFault.TheVariants.{Limit};
 ghost use Rattle.script_compiler.specs.Laying.{Forks, ClosesIf, Turns, GoesRound, IsAfterBranches, jumping, way, spots_of};
 
 use crate::fault::CompileFault;
@@ -31,8 +30,9 @@ impl Work {
         ensures room { OnOk result (length self.new.lines.items ≤ 4096) }
         ensures refused { IfErr result (λ e. IsRefusal e → ⊥) }
         ensures table { OnOk result (HasTable self.new) }
-        ensures limited { IfErr result (λ e. e ≡ Limit → (p : Place) (ps : List Place)
-            → p.spot ≡ self.old.now → HasSpace self.old (p ∷ ps) → ⊥) }
+        ensures at { IfErr result (λ e. IfLimit e (λ at _. at ≡ line)) }
+        ensures limited { IfErr result (λ e. IfLimit e (λ _ limit. (p : Place) (ps : List Place)
+            → p.spot ≡ self.old.now → HasSpace limit self.old (p ∷ ps) → ⊥)) }
     {
         if let Err(fault) = self.save() {
             return Err(fault);
@@ -42,7 +42,7 @@ impl Work {
 
     /// The head of a loop: what is known here is kept, and a label stands here if it can be gone round.
     #[inline(never)]
-    pub(crate) fn enter(&mut self, falls: bool) -> Result<(), CompileFault>
+    pub(crate) fn enter(&mut self, falls: bool, line: u16) -> Result<(), CompileFault>
         requires table { HasTable self.old }
         ensures lines { self.new.lines ≡ self.old.lines }
         ensures marks { self.new.marks ≡ self.old.marks }
@@ -55,11 +55,12 @@ impl Work {
             ++ self.new.now ∷ []) }
         ensures refused { IfErr result (λ e. IsRefusal e → ⊥) }
         ensures table { OnOk result (HasTable self.new) }
-        ensures limited { IfErr result (λ e. e ≡ Limit → (ps : List Place)
-            → (falls ≡ true → IsCovered self.old.now.flow ps) → HasSpace self.old ps → ⊥) }
+        ensures at { IfErr result (λ e. IfLimit e (λ at _. at ≡ line)) }
+        ensures limited { IfErr result (λ e. IfLimit e (λ _ limit. (ps : List Place) → (falls ≡ true
+            → IsCovered self.old.now.flow ps) → HasSpace limit self.old ps → ⊥)) }
     {
         if falls {
-            if let Err(fault) = self.mark() {
+            if let Err(fault) = self.mark(line) {
                 return Err(fault);
             }
         }
@@ -88,8 +89,10 @@ impl Work {
         ensures why { IfErr result (λ e. IfRefused e (λ at given. (at ≡ line)
             × (given ≡ Mismatch))) }
         ensures table { OnOk result (HasTable self.new) }
-        ensures limited { IfErr result (λ e. e ≡ Limit → (m n : ℕ) (i : Instr) (ps : List Place)
-            → HasSpace self.old (onward (way falls self.old) [] (alone m i n) ++ ps) → ⊥) }
+        ensures at { IfErr result (λ e. IfLimit e (λ at _. at ≡ line)) }
+        ensures limited { IfErr result (λ e. IfLimit e (λ _ limit. (m n : ℕ) (i : Instr)
+            (ps : List Place) → HasSpace limit self.old (onward (way falls self.old) [] (alone m i
+            n) ++ ps) → ⊥)) }
     {
         let entry = self.restore();
         if !falls {
@@ -117,18 +120,19 @@ impl Work {
         ensures why { IfErr result (λ e. IfRefused e (λ at given. (at ≡ line)
             × (given ≡ Mismatch))) }
         ensures table { OnOk result (HasTable self.new) }
-        ensures limited { IfErr result (λ e. e ≡ Limit → (ps : List Place)
-            → ((u : Spot) → meet (way falls self.old) (Some (spot_in self.old.pool other.now))
-            ≡ Some u → IsCovered u.flow ps) → HasSpace self.old ps → ⊥) }
+        ensures at { IfErr result (λ e. IfLimit e (λ at _. at ≡ line)) }
+        ensures limited { IfErr result (λ e. IfLimit e (λ _ limit. (ps : List Place) → ((u : Spot)
+            → meet (way falls self.old) (Some (spot_in self.old.pool other.now)) ≡ Some u
+            → IsCovered u.flow ps) → HasSpace limit self.old ps → ⊥)) }
     {
         if !falls {
             self.take(other);
-            return self.mark();
+            return self.mark(line);
         }
         if !self.meet(other) {
             return Err(refused(line, Cause::Mismatch));
         }
-        self.mark()
+        self.mark(line)
     }
 
     /// The end of an `if` without `else`: its block's way, if it falls out, and the one past it meet.
@@ -155,10 +159,11 @@ impl Work {
         ensures why { IfErr result (λ e. IfRefused e (λ at given. (at ≡ line)
             × (given ≡ Mismatch))) }
         ensures table { OnOk result (HasTable self.new) }
-        ensures limited { IfErr result (λ e. e ≡ Limit → (front : List Spot) (entry : Spot)
-            → self.old.saved.items ≡ front ++ entry ∷ [] → (ps : List Place)
-            → ((u : Spot) → meet (way falls self.old) (Some entry) ≡ Some u → IsCovered u.flow ps)
-            → HasSpace self.old ps → ⊥) }
+        ensures at { IfErr result (λ e. IfLimit e (λ at _. at ≡ line)) }
+        ensures limited { IfErr result (λ e. IfLimit e (λ _ limit. (front : List Spot)
+            (entry : Spot) → self.old.saved.items ≡ front ++ entry ∷ [] → (ps : List Place) → ((u
+            : Spot) → meet (way falls self.old) (Some entry) ≡ Some u → IsCovered u.flow ps)
+            → HasSpace limit self.old ps → ⊥)) }
     {
         let entry = self.restore();
         let target = self.len() as u16;
@@ -183,8 +188,10 @@ impl Work {
         ensures room { OnOk result (length self.new.lines.items ≤ 4096) }
         ensures table { OnOk result (HasTable self.new) }
         ensures refused { IfErr result (λ e. IsRefusal e → ⊥) }
-        ensures limited { IfErr result (λ e. e ≡ Limit → (m n : ℕ) (i : Instr) (ps : List Place)
-            → HasSpace self.old (onward (way falls self.old) [] (alone m i n) ++ ps) → ⊥) }
+        ensures at { IfErr result (λ e. IfLimit e (λ at _. at ≡ line)) }
+        ensures limited { IfErr result (λ e. IfLimit e (λ _ limit. (m n : ℕ) (i : Instr)
+            (ps : List Place) → HasSpace limit self.old (onward (way falls self.old) [] (alone m i
+            n) ++ ps) → ⊥)) }
     {
         if !falls {
             return Ok(());
@@ -213,10 +220,11 @@ impl Work {
         ensures room { OnOk result (length self.new.lines.items ≤ 4096) }
         ensures refused { IfErr result (λ e. IsRefusal e → ⊥) }
         ensures table { OnOk result (HasTable self.new) }
-        ensures limited { IfErr result (λ e. e ≡ Limit → (front : List Spot) (entry : Spot)
-            → self.old.saved.items ≡ front ++ entry ∷ [] → (m n : ℕ) (i : Instr) (ps : List Place)
-            → HasSpace self.old (onward (way falls self.old) [] (alone m i n) ++ ps)
-            → IsCovered entry.flow ps → ⊥) }
+        ensures at { IfErr result (λ e. IfLimit e (λ at _. at ≡ line)) }
+        ensures limited { IfErr result (λ e. IfLimit e (λ _ limit. (front : List Spot)
+            (entry : Spot) → self.old.saved.items ≡ front ++ entry ∷ [] → (m n : ℕ) (i : Instr)
+            (ps : List Place) → HasSpace limit self.old (onward (way falls self.old) [] (alone m i
+            n) ++ ps) → IsCovered entry.flow ps → ⊥)) }
     {
         let entry = self.restore();
         if let Err(fault) = self.leave(falls, line, counters) {
@@ -225,7 +233,7 @@ impl Work {
         let target = self.len() as u16;
         self.aim(at, line, Instr::Test { contact, target });
         self.take(&entry);
-        self.mark()
+        self.mark(line)
     }
 
     /// The end of a second branch, where it meets the first if that fell out.
@@ -254,10 +262,11 @@ impl Work {
         ensures why { IfErr result (λ e. IfRefused e (λ at given. (at ≡ line)
             × (given ≡ Mismatch))) }
         ensures table { OnOk result (HasTable self.new) }
-        ensures limited { IfErr result (λ e. e ≡ Limit → (front : List Spot) (a : Option Spot)
-            → first ≡ is_some a → self.old.saved.items ≡ front ++ spots_of a → (ps : List Place)
-            → ((u : Spot) → join a (way second self.old) ≡ Some u → Covers u ps)
-            → HasSpace self.old ps → ⊥) }
+        ensures at { IfErr result (λ e. IfLimit e (λ at _. at ≡ line)) }
+        ensures limited { IfErr result (λ e. IfLimit e (λ _ limit. (front : List Spot)
+            (a : Option Spot) → first ≡ is_some a → self.old.saved.items ≡ front ++ spots_of a
+            → (ps : List Place) → ((u : Spot) → join a (way second self.old) ≡ Some u → Covers u ps)
+            → HasSpace limit self.old ps → ⊥)) }
     {
         if !first {
             return Ok(second);

@@ -13,9 +13,10 @@ ghost use Rattle.mux_config.specs.Sound.{IsSound};
 ghost use Rattle.script_compiler.specs.Laying.{tables, lays_nothing};
 ghost use Rattle.script_meaning.specs.Refused.{IsRefusedIn, IsRefused};
 ghost use Rattle.plan_flow.specs.declared.cause.Cause.TheVariants.{Cost};
-ghost use Rattle.script_compiler.specs.Refusals.{IsRefusal, IfRefused};
-ghost use Rattle.script_compiler.specs.Space.{AreFew};
-ghost use Rattle.script_compiler.specs.declared.fault.CompileFault.TheVariants.{Limit, Memory};
+ghost use Rattle.script_compiler.specs.Refusals.{IsRefusal, IfRefused, IfLimit};
+ghost use Rattle.script_compiler.specs.Space.{Keeps};
+ghost use Rattle.script_compiler.specs.Limits.{Passes};
+ghost use Rattle.script_compiler.specs.declared.fault.CompileFault.TheVariants.{Memory};
 ghost use Rattle.plan_code.specs.Program.{IsProgram};
 ghost use Rattle.plan_verifier.specs.Typing.{IsTyped};
 ghost use Rattle.script_meaning.specs.Meaning.{PlaysAsItReads};
@@ -80,6 +81,8 @@ fn lay(alloc: Global, plan: &Plan, script: &Script, config: &Config) -> Result<L
         script.now.last_line (body_of script.now) (beginning config.now))) }
     ensures table { IfOk result (λ w. Tabled [] w.marks.items w.marks.table) }
     ensures room { IfOk result (λ w. length w.lines.items ≤ 4096) }
+    ensures labels { IfOk result (λ w. length w.marks.items ≤ 1024) }
+    ensures configurations { IfOk result (λ w. length w.marks.table ≤ 256) }
     ensures judged { IsOk result → IsJudged plan.now (body_of script.now)
         (beginning config.now) }
     ensures repeats { IsOk result → nested (body_of script.now) ≤ 8 }
@@ -87,10 +90,10 @@ fn lay(alloc: Global, plan: &Plan, script: &Script, config: &Config) -> Result<L
         (beginning config.now) → ⊥) }
     ensures why { IfErr result (λ e. IfRefused e (λ at given. IsRefusedIn plan.now
         (body_of script.now) (beginning config.now) at given)) }
-    ensures limited { IfErr result (λ e. e ≡ Limit → IsJudged plan.now (body_of script.now)
-        (beginning config.now) → nested (body_of script.now) ≤ 8
-        → AreFew (all_places plan.now script.now.last_line (body_of script.now)
-        (beginning config.now)) → ⊥) }
+    ensures limited { IfErr result (λ e. IfLimit e (λ _ limit. IsJudged plan.now
+        (body_of script.now) (beginning config.now) → Keeps limit (nested (body_of script.now))
+        (all_places plan.now script.now.last_line (body_of script.now) (beginning config.now))
+        → ⊥)) }
 {
     let known = known_of(alloc, script.blocks())?;
     let silent = silent_of(alloc, script.blocks())?;
@@ -133,6 +136,7 @@ fn test_costs(alloc: Global, lines: &[Line], needs: &[u16], budget: u8) -> Resul
         < slice_index needs.now pc)) }
     ensures why { IfErr result (λ e. IfRefused e (λ at given. given ≡ Cost)) }
     ensures line { IfErr result (λ e. IfRefused e (λ at given. HasCostAt budget lines.now at)) }
+    ensures unlimited { IfErr result (λ e. IfLimit e (λ _ _. ⊥)) }
 {
     let Some(over) = first_over(needs, budget) else {
         return Ok(());
@@ -169,8 +173,9 @@ fn promise(script: &Script, code: &Code)
 /// # Errors
 ///
 /// `Refused` with the first fault that is found as the code is laid down, in text order: of an item, of the opening
-/// at the line of `begin`, and of a statement, where `Table` says that it cannot be reached. `Limit` only where a limit
-/// of codes would be passed, `Memory` where memory was refused. Costs come last: `Cost` is at the line of the first instruction
+/// at the line of `begin`, and of a statement, where `Table` says that it cannot be reached. `Limit` names the first limit
+/// of codes that is passed: where each statement may stand where it stands, the whole code is not within that limit.
+/// `Memory` where memory was refused. Costs come last: `Cost` is at the line of the first instruction
 /// that ends a loop which can be gone round without a suspension, or else of the first instruction from which more
 /// instructions than the budget can run in one frame. A script that is accepted is refused only for want of memory.
 pub fn compile(alloc: Global, script: &Script) -> Result<Code, CompileFault>
@@ -190,6 +195,7 @@ pub fn compile(alloc: Global, script: &Script) -> Result<Code, CompileFault>
         cause)) }
     ensures cost { IfErr result (λ e. IfRefused e (λ line cause. cause ≡ Cost
         → IsCostRefused script.now line)) }
+    ensures limit { IfErr result (λ e. IfLimit e (λ _ limit. Passes limit script.now)) }
 {
     let plan = plan_of(script);
     let config = built(script.items())?;
@@ -204,6 +210,6 @@ pub fn compile(alloc: Global, script: &Script) -> Result<Code, CompileFault>
             promise(script, &code);
             Ok(code)
         }
-        None => Err(CompileFault::Limit),
+        None => unreachable!(),
     }
 }

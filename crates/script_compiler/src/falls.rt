@@ -37,7 +37,8 @@ fn falls(known: &[bool], statement: &Statement) -> bool
             let number = usize::from(block.get());
             number >= known.len() || known[number]
         }
-        _ => true,
+        Statement::Act { .. } => true,
+        Statement::If { .. } => true,
     }
 }
 
@@ -64,6 +65,11 @@ fn is_silent(known: &[bool], statement: &Statement) -> bool
             let number = usize::from(block.get());
             number >= known.len() || known[number]
         }
-        _ => false,
+        Statement::Act { .. } => false,
+        Statement::End { .. } => false,
+        Statement::If { .. } => false,
+        Statement::IfElse { .. } => false,
+        Statement::Repeat { .. } => false,
+        Statement::Forever { .. } => false,
     }
 }

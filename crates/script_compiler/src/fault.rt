@@ -4,6 +4,19 @@ use plan_flow::Cause;
 use std::alloc::AllocError;
 use thiserror::Error;
 
+/// A limit of codes.
+#[derive(Clone, Copy, Debug, PartialEq, Eq)]
+pub enum CodeLimit {
+    /// A code has 4,096 instructions at most.
+    Instructions,
+    /// A code has 1,024 labels at most.
+    Labels,
+    /// The table of a code has 256 configurations at most.
+    Configurations,
+    /// A code has eight counters, so that repeats stand eight deep at most.
+    Counters,
+}
+
 /// Why a script is not compiled. Printed it is the line that `dabplan compile` prints: `refused line L: CAUSE`,
 /// `refused: Limit` or `no memory`.
 #[derive(Clone, Copy, Debug, PartialEq, Eq, Error)]
@@ -12,10 +25,10 @@ pub enum CompileFault {
     /// token, also inside a defined block, or that of `begin` for the opening as a whole.
     #[error("refused line {line}: {cause}")]
     Refused { line: u16, cause: Cause },
-    /// The code would have more instructions, labels or configurations than a code can have, or repeats would
-    /// stand nine deep.
+    /// The code would pass this limit. The line is that of the first token of the statement whose code passes it, or
+    /// that of the text's last token for the `End` that follows the statements.
     #[error("refused: Limit")]
-    Limit,
+    Limit { line: u16, limit: CodeLimit },
     /// Memory was refused.
     #[error("no memory")]
     Memory,

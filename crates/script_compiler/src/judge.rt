@@ -13,8 +13,8 @@ use plan_code::{Instr, Plan};
 use plan_flow::Flow;
 use script_front::Act;
 
-/// The instruction of a statement that is one.
-pub(crate) fn instr_of(act: Act) -> Instr
+/// The instruction of a statement that is one, such as an edit or a wait.
+pub fn instr_of(act: Act) -> Instr
     ensures { result ≡ instr_of_act act }
 {
     match act {

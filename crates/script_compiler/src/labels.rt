@@ -3,8 +3,7 @@
 ghost use Rattle.std.specs.Prelude.{◌≡◌, ℕ, ◌<◌, ◌≤◌, None, [], ◌∷◌, ◌++◌, map, slice_index, OnOk, IfOk, IfErr, IfSome};
 ghost use Rattle.script_meaning.specs.Compiled.{first_counters};
 ghost use Rattle.script_compiler.specs.Marked.{label_of_mark, AreShallow};
-ghost use Rattle.script_compiler.specs.Refusals.{IsRefusal};
-ghost use Rattle.script_compiler.specs.declared.fault.CompileFault.TheVariants.{Limit, Memory};
+ghost use Rattle.script_compiler.specs.declared.fault.CompileFault.TheVariants.{Memory};
 
 use crate::fault::CompileFault;
 use crate::needs::at;
@@ -27,23 +26,24 @@ fn first_counters(count: u8) -> Option<Counters>
     Some(set)
 }
 
-/// The label that stands at a mark.
-fn label_of(mark: &ShortMark, needs: &[u16]) -> Result<Label, CompileFault>
+/// The label that stands at a mark, around which no more repeats stand than there are counters.
+fn label_of(mark: &ShortMark, needs: &[u16]) -> Label
     requires bytes { (pc : ℕ) → slice_index needs.now pc ≤ 255 }
-    ensures made { IfOk result (λ l. l ≡ label_of_mark needs.now mark.now) }
-    ensures limited { IfErr result (λ e. (e ≡ Limit) × (8 < mark.now.repeats)) }
+    requires deep { mark.now.repeats ≤ 8 }
+    ensures { result ≡ label_of_mark needs.now mark.now }
 {
-    let Some(counters) = first_counters(mark.repeats) else {
-        return Err(CompileFault::Limit);
+    let counters = match first_counters(mark.repeats) {
+        Some(counters) => counters,
+        None => unreachable!(),
     };
-    Ok(Label {
+    Label {
         pc: mark.pc,
         cur: mark.cur,
         next: mark.next,
         pending: mark.pending,
         counters,
         cost: at(needs, usize::from(mark.pc)) as u8,
-    })
+    }
 }
 
 /// One label more.
@@ -61,24 +61,20 @@ fn add(labels: &mut Vec<Label>, label: Label) -> Result<(), CompileFault>
 ///
 /// # Errors
 ///
-/// `Limit` where more repeats stand around one than there are counters, `Memory`.
+/// `Memory`.
 pub(crate) fn labels_of(
     alloc: Global,
     marks: &[ShortMark],
     needs: &[u16],
 ) -> Result<Vec<Label>, CompileFault>
-    requires { (pc : ℕ) → slice_index needs.now pc ≤ 255 }
+    requires needs { (pc : ℕ) → slice_index needs.now pc ≤ 255 }
+    requires deep { AreShallow 8 marks.now }
     ensures labels { IfOk result (λ l. l.items ≡ map (label_of_mark needs.now) marks.now) }
-    ensures refused { IfErr result (λ e. IsRefusal e → ⊥) }
-    ensures limited { IfErr result (λ e. e ≡ Limit → AreShallow 8 marks.now → ⊥) }
+    ensures memory { IfErr result (λ e. e ≡ Memory) }
 {
     let mut labels = Vec::new(alloc);
     for mark in marks {
-        let label = match label_of(mark, needs) {
-            Ok(label) => label,
-            Err(fault) => return Err(fault),
-        };
-        if let Err(fault) = add(&mut labels, label) {
+        if let Err(fault) = add(&mut labels, label_of(mark, needs)) {
             return Err(fault);
         }
     }

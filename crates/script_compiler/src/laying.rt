@@ -8,12 +8,12 @@ ghost use Rattle.plan_flow.specs.Rules.{IsFine};
 ghost use Rattle.script_meaning.specs.Scheme.{Place, past, at_label, alone, onward, marks_of, instr_of_act};
 ghost use Rattle.plan_flow.specs.Causes.{FlowRefused};
 ghost use Rattle.script_compiler.specs.Pool.{Extends, IsInPool, spot_in};
-ghost use Rattle.script_compiler.specs.Refusals.{IsRefusal, IfRefused};
+ghost use Rattle.script_compiler.specs.Refusals.{IsRefusal, IfRefused, IfLimit};
 ghost use Rattle.script_compiler.specs.Space.{HasSpace, HasTable, IsCovered, Covers};
-ghost use Rattle.script_compiler.specs.declared.fault.CompileFault.TheVariants.{Limit, Memory};
+ghost use Rattle.script_compiler.specs.declared.fault.CodeLimit.TheVariants.{Instructions};
 ghost use Rattle.script_compiler.specs.Laying.{Lays, line_of_instr, way};
 
-use crate::fault::CompileFault;
+use crate::fault::{CodeLimit, CompileFault};
 use crate::judge::instr_of;
 use crate::short::{ShortMark, ShortSpot};
 use crate::work::Work;
@@ -23,8 +23,9 @@ use script_front::Act;
 
 impl Work {
     /// A label here, which names the configurations of these numbers. Its cost is found later.
-    fn put_mark(&mut self, counters: u8, here: &ShortSpot) -> Result<(), CompileFault>
+    fn put_mark(&mut self, line: u16, counters: u8, here: &ShortSpot) -> Result<(), CompileFault>
         requires room { length self.old.lines.items ≤ 4096 }
+        requires few { length self.old.marks.items < 1024 }
         requires within { IsInPool (length self.old.pool) here.now }
         requires same { spot_in self.old.pool here.now ≡ self.old.now }
         requires labelled { self.old.now.labelled ≡ true }
@@ -38,14 +39,15 @@ impl Work {
         ensures now { OnOk result (self.new.now ≡ past self.old.now.flow) }
         ensures refused { IfErr result (λ e. IsRefusal e → ⊥) }
         ensures table { OnOk result (HasTable self.new) }
-        ensures limited { IfErr result (λ e. e ≡ Limit → (ps : List Place)
-            → IsCovered self.old.now.flow ps → HasSpace self.old ps → ⊥) }
+        ensures at { IfErr result (λ e. IfLimit e (λ at _. at ≡ line)) }
+        ensures limited { IfErr result (λ e. IfLimit e (λ _ limit. (ps : List Place) → IsCovered
+            self.old.now.flow ps → HasSpace limit self.old ps → ⊥)) }
     {
-        let cur = match self.marks.index_of(here.current) {
+        let cur = match self.marks.index_of(line, here.current) {
             Ok(cur) => cur,
             Err(fault) => return Err(fault),
         };
-        let next = match self.marks.index_of(here.next) {
+        let next = match self.marks.index_of(line, here.next) {
             Ok(next) => next,
             Err(fault) => return Err(fault),
         };
@@ -64,7 +66,7 @@ impl Work {
     }
 
     /// Lays the label down that stands here, if one does.
-    fn put_label(&mut self, counters: u8) -> Result<(), CompileFault>
+    fn put_label(&mut self, line: u16, counters: u8) -> Result<(), CompileFault>
         requires room { length self.old.lines.items ≤ 4096 }
         requires table { HasTable self.old }
         ensures lines { self.new.lines ≡ self.old.lines }
@@ -76,20 +78,24 @@ impl Work {
         ensures now { OnOk result (self.new.now ≡ past self.old.now.flow) }
         ensures refused { IfErr result (λ e. IsRefusal e → ⊥) }
         ensures table { OnOk result (HasTable self.new) }
-        ensures limited { IfErr result (λ e. e ≡ Limit → (ps : List Place) → Covers self.old.now ps
-            → HasSpace self.old ps → ⊥) }
+        ensures at { IfErr result (λ e. IfLimit e (λ at _. at ≡ line)) }
+        ensures limited { IfErr result (λ e. IfLimit e (λ _ limit. (ps : List Place) → Covers
+            self.old.now ps → HasSpace limit self.old ps → ⊥)) }
     {
         if !self.now.labelled {
             return Ok(());
         }
         if self.marks.len() >= usize::from(MOST_LABELS) {
-            return Err(CompileFault::Limit);
+            return Err(CompileFault::Limit {
+                line,
+                limit: CodeLimit::Labels,
+            });
         }
         let here = match self.here() {
             Ok(here) => here,
             Err(fault) => return Err(fault),
         };
-        self.put_mark(counters, &here)
+        self.put_mark(line, counters, &here)
     }
 
     /// Lays an instruction down.
@@ -104,10 +110,15 @@ impl Work {
         ensures room { OnOk result (length self.new.lines.items ≤ 4096) }
         ensures refused { IfErr result (λ e. IsRefusal e → ⊥) }
         ensures table { HasTable self.new }
-        ensures limited { IfErr result (λ e. e ≡ Limit → 4096 ≤ length self.old.lines.items) }
+        ensures at { IfErr result (λ e. IfLimit e (λ at _. at ≡ line)) }
+        ensures limited { IfErr result (λ e. IfLimit e (λ _ limit. (limit ≡ Instructions) × (4096
+            ≤ length self.old.lines.items))) }
     {
         if self.lines.len() >= usize::from(MOST_INSTRUCTIONS) {
-            return Err(CompileFault::Limit);
+            return Err(CompileFault::Limit {
+                line,
+                limit: CodeLimit::Instructions,
+            });
         }
         let number = line;
         if self.lines.push(Line { number, instr }).is_err() {
@@ -128,10 +139,11 @@ impl Work {
         ensures room { OnOk result (length self.new.lines.items ≤ 4096) }
         ensures refused { IfErr result (λ e. IsRefusal e → ⊥) }
         ensures table { OnOk result (HasTable self.new) }
-        ensures limited { IfErr result (λ e. e ≡ Limit → (p : Place) (ps : List Place)
-            → p.spot ≡ self.old.now → HasSpace self.old (p ∷ ps) → ⊥) }
+        ensures at { IfErr result (λ e. IfLimit e (λ at _. at ≡ line)) }
+        ensures limited { IfErr result (λ e. IfLimit e (λ _ limit. (p : Place) (ps : List Place)
+            → p.spot ≡ self.old.now → HasSpace limit self.old (p ∷ ps) → ⊥)) }
     {
-        if let Err(fault) = self.put_label(counters) {
+        if let Err(fault) = self.put_label(line, counters) {
             return Err(fault);
         }
         self.put_instr(line, instr)
@@ -161,10 +173,11 @@ impl Work {
         ensures why { IfErr result (λ e. IfRefused e (λ at given. (at ≡ line) × FlowRefused
             plan.now (instr_of_act act.now) (known_at self.old.now.flow) given)) }
         ensures table { OnOk result (HasTable self.new) }
-        ensures limited { IfErr result (λ e. e ≡ Limit → (p : Place) (ps : List Place)
-            → p.spot ≡ self.old.now → HasSpace self.old (p ∷ ps) → ⊥) }
+        ensures at { IfErr result (λ e. IfLimit e (λ at _. at ≡ line)) }
+        ensures limited { IfErr result (λ e. IfLimit e (λ _ limit. (p : Place) (ps : List Place)
+            → p.spot ≡ self.old.now → HasSpace limit self.old (p ∷ ps) → ⊥)) }
     {
-        if let Err(fault) = self.put_label(counters) {
+        if let Err(fault) = self.put_label(line, counters) {
             return Err(fault);
         }
         if let Err(fault) = self.pass(plan, line, act) {
@@ -177,7 +190,7 @@ impl Work {
     }
 
     /// Says that a label stands here, where there is room for it and for what it names.
-    pub(crate) fn mark(&mut self) -> Result<(), CompileFault>
+    pub(crate) fn mark(&mut self, line: u16) -> Result<(), CompileFault>
         requires table { HasTable self.old }
         ensures lines { self.new.lines ≡ self.old.lines }
         ensures marks { self.new.marks ≡ self.old.marks }
@@ -185,18 +198,25 @@ impl Work {
         ensures now { OnOk result (self.new.now ≡ at_label self.old.now.flow) }
         ensures refused { IfErr result (λ e. IsRefusal e → ⊥) }
         ensures table { HasTable self.new }
-        ensures limited { IfErr result (λ e. e ≡ Limit → (ps : List Place)
-            → IsCovered self.old.now.flow ps → HasSpace self.old ps → ⊥) }
+        ensures at { IfErr result (λ e. IfLimit e (λ at _. at ≡ line)) }
+        ensures limited { IfErr result (λ e. IfLimit e (λ _ limit. (ps : List Place) → IsCovered
+            self.old.now.flow ps → HasSpace limit self.old ps → ⊥)) }
     {
         if !self.now.labelled && self.marks.len() >= usize::from(MOST_LABELS) {
-            return Err(CompileFault::Limit);
+            return Err(CompileFault::Limit {
+                line,
+                limit: CodeLimit::Labels,
+            });
         }
         let here = match self.here() {
             Ok(here) => here,
             Err(fault) => return Err(fault),
         };
         if !self.marks.has_room_for_both(here.current, here.next) {
-            return Err(CompileFault::Limit);
+            return Err(CompileFault::Limit {
+                line,
+                limit: CodeLimit::Configurations,
+            });
         }
         self.now.labelled = true;
         Ok(())
@@ -227,8 +247,9 @@ impl Work {
         ensures room { OnOk result (length self.new.lines.items ≤ 4096) }
         ensures refused { IfErr result (λ e. IsRefusal e → ⊥) }
         ensures table { OnOk result (HasTable self.new) }
-        ensures limited { IfErr result (λ e. e ≡ Limit → HasSpace self.old (onward
-            (way falls self.old) [] (alone line End 0)) → ⊥) }
+        ensures at { IfErr result (λ e. IfLimit e (λ at _. at ≡ line)) }
+        ensures limited { IfErr result (λ e. IfLimit e (λ _ limit. HasSpace limit self.old (onward
+            (way falls self.old) [] (alone line End 0)) → ⊥)) }
     {
         if !falls {
             return Ok(());

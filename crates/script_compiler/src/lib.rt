@@ -28,4 +28,5 @@ mod table;
 mod work;
 
 pub use compiler::compile;
-pub use fault::CompileFault;
+pub use fault::{CodeLimit, CompileFault};
+pub use judge::instr_of;

@@ -5,9 +5,10 @@ ghost use Rattle.script_meaning.specs.Compiled.{Added, AreLabelsOf};
 ghost use Rattle.script_compiler.specs.Longest.{Priced};
 ghost use Rattle.script_compiler.specs.Marked.{configuration_at, mark_in};
 ghost use Rattle.script_compiler.specs.Pool.{Extends};
-ghost use Rattle.script_compiler.specs.Refusals.{IsRefusal};
+ghost use Rattle.script_compiler.specs.Refusals.{IsRefusal, IfLimit};
 ghost use Rattle.script_compiler.specs.Room.{HasRoomFor, IsDeepAtMost};
-ghost use Rattle.script_compiler.specs.declared.fault.CompileFault.TheVariants.{Limit, Memory};
+ghost use Rattle.script_compiler.specs.declared.fault.CodeLimit.TheVariants.{Configurations};
+ghost use Rattle.script_compiler.specs.declared.fault.CompileFault.TheVariants.{Memory};
 
 use crate::fault::CompileFault;
 use crate::labels::labels_of;
@@ -86,12 +87,13 @@ impl Marks {
         self.table.config(number)
     }
 
-    /// The index in the table of the configuration of a number, which is added where it is not there yet.
+    /// The index in the table of the configuration of a number, which is added where it is not there yet, for a label of
+    /// the statement in this line.
     ///
     /// # Errors
     ///
     /// `Limit` where the table is full, `Memory`.
-    pub(crate) fn index_of(&mut self, number: usize) -> Result<u16, CompileFault>
+    pub(crate) fn index_of(&mut self, line: u16, number: usize) -> Result<u16, CompileFault>
         requires number { number < length self.old.pool }
         requires room { length self.old.table ≤ 256 }
         ensures items { self.new.items ≡ self.old.items }
@@ -102,10 +104,11 @@ impl Marks {
         ensures index { IfOk result (λ i. slice_get self.new.table i
             ≡ Some (configuration_at self.old.pool number)) }
         ensures refused { IfErr result (λ e. IsRefusal e → ⊥) }
-        ensures limited { IfErr result (λ e. e ≡ Limit
-            → HasRoomFor self.old.table (configuration_at self.old.pool number ∷ []) → ⊥) }
+        ensures at { IfErr result (λ e. IfLimit e (λ at _. at ≡ line)) }
+        ensures limited { IfErr result (λ e. IfLimit e (λ _ limit. (limit ≡ Configurations)
+            × (HasRoomFor self.old.table (configuration_at self.old.pool number ∷ []) → ⊥))) }
     {
-        self.table.index_of(number)
+        self.table.index_of(line, number)
     }
 
     /// Whether the table has room for those of the configurations of two numbers that it does not have.
@@ -139,13 +142,13 @@ impl Marks {
     ///
     /// # Errors
     ///
-    /// `Limit` where more repeats stand around one than there are counters, `Memory`.
+    /// `Memory`.
     pub(crate) fn labels(&self, alloc: Global, needs: &[u16]) -> Result<Vec<Label>, CompileFault>
-        requires { (pc : ℕ) → slice_index needs.now pc ≤ 255 }
+        requires needs { (pc : ℕ) → slice_index needs.now pc ≤ 255 }
+        requires deep { IsDeepAtMost 8 self.now.items }
         ensures labels { IfOk result (λ l. AreLabelsOf self.now.table self.now.items l.items) }
         ensures costs { IfOk result (λ l. Priced needs.now l.items) }
-        ensures refused { IfErr result (λ e. IsRefusal e → ⊥) }
-        ensures limited { IfErr result (λ e. e ≡ Limit → IsDeepAtMost 8 self.now.items → ⊥) }
+        ensures memory { IfErr result (λ e. e ≡ Memory) }
     {
         labels_of(alloc, &self.short, needs)
     }

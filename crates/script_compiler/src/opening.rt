@@ -1,6 +1,6 @@
 //! The configuration that a script begins with.
 
-ghost use Rattle.std.specs.Prelude.{◌≡◌, ◌≢◌, ◌≤◌, ◌↔◌, None, OnOk, IsOk, IfOk, IfErr};
+ghost use Rattle.std.specs.Prelude.{◌≡◌, ◌≤◌, ◌↔◌, None, OnOk, IsOk, IfOk, IfErr};
 ghost use Rattle.mux_config.specs.Configuration.{nothing};
 ghost use Rattle.mux_config.specs.Edits.{changed, edit_fault};
 ghost use Rattle.mux_config.specs.Sound.{IsSound};
@@ -9,8 +9,7 @@ ghost use Rattle.plan_flow.specs.Causes.{WhereSome};
 ghost use Rattle.plan_flow.specs.declared.cause.Cause.TheVariants.{Edit as OfEdit};
 ghost use Rattle.script_meaning.specs.Compiled.{with_items, AreFine};
 ghost use Rattle.script_meaning.specs.Refused.{IsItemRefused, IsOpeningRefused};
-ghost use Rattle.script_compiler.specs.Refusals.{IfRefused};
-ghost use Rattle.script_compiler.specs.declared.fault.CompileFault.TheVariants.{Limit};
+ghost use Rattle.script_compiler.specs.Refusals.{IfRefused, IfLimit};
 
 use crate::fault::CompileFault;
 use crate::refusal::refused;
@@ -23,7 +22,7 @@ use script_front::Item;
 fn add(item: &Item, config: &mut Config) -> Result<(), CompileFault>
     ensures made { OnOk result (config.new ≡ changed item.now.edit config.old) }
     ensures fine { IsOk result ↔ (edit_fault item.now.edit config.old ≡ None) }
-    ensures unlimited { IfErr result (λ e. e ≢ Limit) }
+    ensures unlimited { IfErr result (λ e. IfLimit e (λ _ _. ⊥)) }
     ensures why { IfErr result (λ e. IfRefused e (λ at given. (at ≡ item.now.line)
         × WhereSome (edit_fault item.now.edit config.old) OfEdit given)) }
 {
@@ -37,7 +36,7 @@ fn add(item: &Item, config: &mut Config) -> Result<(), CompileFault>
 pub(crate) fn built(items: &[Item]) -> Result<Config, CompileFault>
     ensures made { IfOk result (λ c. c ≡ with_items items.now nothing) }
     ensures fine { IsOk result ↔ AreFine items.now nothing }
-    ensures unlimited { IfErr result (λ e. e ≢ Limit) }
+    ensures unlimited { IfErr result (λ e. IfLimit e (λ _ _. ⊥)) }
     ensures why { IfErr result (λ e. IfRefused e (λ at given. IsItemRefused items.now nothing at
         given)) }
 {
@@ -54,7 +53,7 @@ pub(crate) fn built(items: &[Item]) -> Result<Config, CompileFault>
 pub(crate) fn test(plan: &Plan, config: &Config, line: u16) -> Result<(), CompileFault>
     ensures fine { IsOk result ↔ (IsSound config.now × (pages_alone plan.now config.now
         ≤ plan.now.period)) }
-    ensures unlimited { IfErr result (λ e. e ≢ Limit) }
+    ensures unlimited { IfErr result (λ e. IfLimit e (λ _ _. ⊥)) }
     ensures why { IfErr result (λ e. IfRefused e (λ at given. (at ≡ line)
         × IsOpeningRefused plan.now config.now given)) }
 {

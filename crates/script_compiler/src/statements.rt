@@ -7,12 +7,11 @@ ghost use Rattle.plan_flow.specs.declared.cause.Cause.TheVariants.{Table};
 ghost use Rattle.script_meaning.specs.Judged.{IsJudged};
 ghost use Rattle.script_meaning.specs.Refused.{IsRefusedIn, IsUnreached};
 ghost use Rattle.script_compiler.specs.Laying.{Left, tables, lays_nothing};
-ghost use Rattle.script_compiler.specs.Refusals.{IsRefusal, IfRefused};
+ghost use Rattle.script_compiler.specs.Refusals.{IsRefusal, IfRefused, IfLimit};
 ghost use Rattle.script_compiler.specs.Space.{HasTable, CanLay};
-ghost use Rattle.script_compiler.specs.declared.fault.CompileFault.TheVariants.{Limit};
 
 use crate::falls::all_fall;
-use crate::fault::CompileFault;
+use crate::fault::{CodeLimit, CompileFault};
 use crate::refusal::refused;
 use crate::work::Work;
 use plan_code::{ContactId, CounterId, Instr, Plan, Times};
@@ -61,8 +60,8 @@ impl Work {
         ensures why { IfErr result (λ e. IfRefused e (λ at given. IsRefusedIn plan.now
             (block_of (tables blocks.now) statements.now) self.old.now at given)) }
         ensures table { OnOk result (HasTable self.new) }
-        ensures limited { IfErr result (λ e. e ≡ Limit → CanLay plan.now counters
-            (block_of (tables blocks.now) statements.now) self.old → ⊥) }
+        ensures limited { IfErr result (λ e. IfLimit e (λ _ limit. CanLay limit plan.now counters
+            (block_of (tables blocks.now) statements.now) self.old → ⊥)) }
     {
         let mut goes_on = true;
         for statement in statements {
@@ -102,8 +101,8 @@ impl Work {
         ensures why { IfErr result (λ e. (rest : Block) → IfRefused e (λ at given. IsRefusedIn
             plan.now (before (tables blocks.now) statement.now rest) self.old.now at given)) }
         ensures table { OnOk result (HasTable self.new) }
-        ensures limited { IfErr result (λ e. e ≡ Limit → (rest : Block) → CanLay plan.now
-            counters (before (tables blocks.now) statement.now rest) self.old → ⊥) }
+        ensures limited { IfErr result (λ e. IfLimit e (λ _ limit. (rest : Block) → CanLay limit
+            plan.now counters (before (tables blocks.now) statement.now rest) self.old → ⊥)) }
     {
         match statement {
             Statement::Act { line, act } => self.act(plan, *line, counters, act),
@@ -182,9 +181,9 @@ impl Work {
             plan.now (when line contact (block_of (tables blocks.now) first.now) rest)
             self.old.now at given)) }
         ensures table { OnOk result (HasTable self.new) }
-        ensures limited { IfErr result (λ e. e ≡ Limit → (rest : Block) → CanLay plan.now
-            counters (when line contact (block_of (tables blocks.now) first.now) rest) self.old
-            → ⊥) }
+        ensures limited { IfErr result (λ e. IfLimit e (λ _ limit. (rest : Block) → CanLay limit
+            plan.now counters (when line contact (block_of (tables blocks.now) first.now) rest)
+            self.old → ⊥)) }
     {
         let at = self.len();
         if let Err(fault) = self.fork(line, counters, Instr::Test { contact, target: 0 }) {
@@ -228,9 +227,9 @@ impl Work {
             plan.now (either line contact (block_of (tables blocks.now) first.now)
             (block_of (tables blocks.now) second.now) rest) self.old.now at given)) }
         ensures table { OnOk result (HasTable self.new) }
-        ensures limited { IfErr result (λ e. e ≡ Limit → (rest : Block) → CanLay plan.now
-            counters (either line contact (block_of (tables blocks.now) first.now)
-            (block_of (tables blocks.now) second.now) rest) self.old → ⊥) }
+        ensures limited { IfErr result (λ e. IfLimit e (λ _ limit. (rest : Block) → CanLay limit
+            plan.now counters (either line contact (block_of (tables blocks.now) first.now)
+            (block_of (tables blocks.now) second.now) rest) self.old → ⊥)) }
     {
         let at = self.len();
         if let Err(fault) = self.fork(line, counters, Instr::Test { contact, target: 0 }) {
@@ -279,18 +278,21 @@ impl Work {
             plan.now (repeat line times (block_of (tables blocks.now) body.now) rest)
             self.old.now at given)) }
         ensures table { OnOk result (HasTable self.new) }
-        ensures limited { IfErr result (λ e. e ≡ Limit → (rest : Block) → CanLay plan.now
-            counters (repeat line times (block_of (tables blocks.now) body.now) rest) self.old
-            → ⊥) }
+        ensures limited { IfErr result (λ e. IfLimit e (λ _ limit. (rest : Block) → CanLay limit
+            plan.now counters (repeat line times (block_of (tables blocks.now) body.now) rest)
+            self.old → ⊥)) }
     {
         let Some(counter) = CounterId::new(counters) else {
-            return Err(CompileFault::Limit);
+            return Err(CompileFault::Limit {
+                line,
+                limit: CodeLimit::Counters,
+            });
         };
         if let Err(fault) = self.put(line, counters, Instr::Set { counter, times }) {
             return Err(fault);
         }
         let target = self.len() as u16;
-        if let Err(fault) = self.enter(all_fall(known, body)) {
+        if let Err(fault) = self.enter(all_fall(known, body), line) {
             return Err(fault);
         }
         let falls = match self.block(plan, known, silent, blocks, counters + 1, body) {
@@ -335,11 +337,12 @@ impl Work {
             plan.now (forever line (block_of (tables blocks.now) body.now) rest)
             self.old.now at given)) }
         ensures table { OnOk result (HasTable self.new) }
-        ensures limited { IfErr result (λ e. e ≡ Limit → (rest : Block) → CanLay plan.now
-            counters (forever line (block_of (tables blocks.now) body.now) rest) self.old → ⊥) }
+        ensures limited { IfErr result (λ e. IfLimit e (λ _ limit. (rest : Block) → CanLay limit
+            plan.now counters (forever line (block_of (tables blocks.now) body.now) rest) self.old
+            → ⊥)) }
     {
         let target = self.len() as u16;
-        if let Err(fault) = self.enter(all_fall(known, body)) {
+        if let Err(fault) = self.enter(all_fall(known, body), line) {
             return Err(fault);
         }
         let falls = match self.block(plan, known, silent, blocks, counters, body) {

@@ -4,11 +4,12 @@ ghost use Rattle.std.specs.Prelude.{◌≡◌, ◌≢◌, ◌≤◌, ◌<◌, �
 ghost use Rattle.script_meaning.specs.Compiled.{Added};
 ghost use Rattle.script_compiler.specs.Marked.{configuration_at};
 ghost use Rattle.script_compiler.specs.Pool.{AreBelow, Extends, IsDistinct};
-ghost use Rattle.script_compiler.specs.Refusals.{IsRefusal};
+ghost use Rattle.script_compiler.specs.Refusals.{IsRefusal, IfLimit};
 ghost use Rattle.script_compiler.specs.Room.{HasRoomFor};
-ghost use Rattle.script_compiler.specs.declared.fault.CompileFault.TheVariants.{Limit, Memory};
+ghost use Rattle.script_compiler.specs.declared.fault.CodeLimit.TheVariants.{Configurations};
+ghost use Rattle.script_compiler.specs.declared.fault.CompileFault.TheVariants.{Memory};
 
-use crate::fault::CompileFault;
+use crate::fault::{CodeLimit, CompileFault};
 use crate::pool::Pool;
 use mux_config::{Config, Store};
 use mux_tables::Tables;
@@ -114,12 +115,13 @@ impl ConfigTable {
         Ok(())
     }
 
-    /// The index in the table of the configuration of a number, which is added where it is not there yet.
+    /// The index in the table of the configuration of a number, which is added where it is not there yet, for a label of
+    /// the statement in this line.
     ///
     /// # Errors
     ///
     /// `Limit` where the table is full, `Memory`.
-    pub(crate) fn index_of(&mut self, number: usize) -> Result<u16, CompileFault>
+    pub(crate) fn index_of(&mut self, line: u16, number: usize) -> Result<u16, CompileFault>
         requires number { number < length self.old.pool }
         requires room { length self.old.table ≤ 256 }
         ensures pool { self.new.pool ≡ self.old.pool }
@@ -130,15 +132,19 @@ impl ConfigTable {
             ≡ Some (configuration_at self.old.pool number)) }
         ensures unchanged { IfErr result (λ _. self.new.table ≡ self.old.table) }
         ensures refused { IfErr result (λ e. IsRefusal e → ⊥) }
-        ensures limited { IfErr result (λ e. e ≡ Limit
-            → HasRoomFor self.old.table (configuration_at self.old.pool number ∷ []) → ⊥) }
+        ensures at { IfErr result (λ e. IfLimit e (λ at _. at ≡ line)) }
+        ensures limited { IfErr result (λ e. IfLimit e (λ _ limit. (limit ≡ Configurations)
+            × (HasRoomFor self.old.table (configuration_at self.old.pool number ∷ []) → ⊥))) }
     {
         if let Some(index) = self.find(number) {
             return Ok(index as u16);
         }
         let index = self.len();
         if index >= usize::from(MOST_CONFIGURATIONS) {
-            return Err(CompileFault::Limit);
+            return Err(CompileFault::Limit {
+                line,
+                limit: CodeLimit::Configurations,
+            });
         }
         if let Err(fault) = self.add(number) {
             return Err(fault);

@@ -9,9 +9,9 @@ ghost use Rattle.script_meaning.specs.Scheme.{past, meet, instr_of_act};
 ghost use Rattle.script_meaning.specs.Judged.{WaysAgree};
 ghost use Rattle.script_meaning.specs.Compiled.{beginning};
 ghost use Rattle.script_compiler.specs.Pool.{Extends, IsInPool, spot_in};
-ghost use Rattle.script_compiler.specs.Refusals.{IsRefusal, IsRefusedAs};
+ghost use Rattle.script_compiler.specs.Refusals.{IsRefusal, IfLimit, IsRefusedAs};
 ghost use Rattle.script_compiler.specs.Space.{HasTable};
-ghost use Rattle.script_compiler.specs.declared.fault.CompileFault.TheVariants.{Limit, Memory};
+ghost use Rattle.script_compiler.specs.declared.fault.CompileFault.TheVariants.{Memory};
 ghost use Rattle.script_compiler.specs.Laying.{way};
 
 use crate::fault::CompileFault;
@@ -166,7 +166,7 @@ impl Work {
             ++ self.old.now ∷ []) }
         ensures refused { IfErr result (λ e. IsRefusal e → ⊥) }
         ensures table { HasTable self.new }
-        ensures limited { IfErr result (λ e. e ≡ Limit → ⊥) }
+        ensures limited { IfErr result (λ e. IfLimit e (λ _ _. ⊥)) }
     {
         let here = match self.here() {
             Ok(here) => here,

@@ -1,4 +1,4 @@
-use Rattle.std.proofs.Common.{false, true, rules, ℕ, ◌<◌, ◌+◌, [], refl, sym, ap, ◌∙◌, ◌≡◌, ◌≢◌, arith, subst, get_or, List, inl, inr}
+use Rattle.std.proofs.Common.{false, true, rules, ℕ, ◌<◌, ◌+◌, [], refl, sym, ap, ◌∙◌, ◌≡◌, ◌≢◌, arith, subst, get_or, length, List, inl, inr}
 use Rattle.mux_config.specs.Configuration.{Configuration, nothing}
 use Rattle.plan_code.specs.declared.instr.Line.{Line}
 use Rattle.plan_code.specs.declared.plan.Plan.{Plan}
@@ -16,11 +16,14 @@ use Rattle.script_compiler.specs.Longest.{longest, Priced}
 use Rattle.script_compiler.specs.declared.fault.CompileFault.TheVariants.{Memory}
 use Rattle.script_compiler.proofs.Refusing.{over_budget}
 use Rattle.script_compiler.specs.Room.{IsDeepAtMost}
-use Rattle.script_compiler.proofs.Deep.{accepted_deep}
-use Rattle.script_compiler.proofs.Formed.{fault_either, parts_formed}
-use Rattle.script_compiler.proofs.Making.{laid_few, laid_judged, Parts, parts_code, parts_cost, parts_accepted}
+use Rattle.script_compiler.proofs.Deep.{nested_deep, accepted_within}
+use Rattle.script_compiler.proofs.Laid.{length_lines}
+use Rattle.script_compiler.proofs.Spaces.{limit_map}
+use Rattle.script_compiler.specs.Limits.{Passes}
+use Rattle.script_compiler.proofs.Formed.{IsKept, fault_either, parts_formed}
+use Rattle.script_compiler.proofs.Making.{laid_few, laid_judged, Parts, places_are, lines_are, parts_code, parts_cost, parts_accepted}
 use Rattle.script_meaning.specs.Refused.{IsItemRefused, IsOpeningRefused, IsRefusedIn, IsRefused}
-use Rattle.script_compiler.specs.Refusals.{IfRefused}
+use Rattle.script_compiler.specs.Refusals.{IfRefused, IfLimit}
 use Rattle.script_compiler.proofs.Reasons.{refused_map, refused_but_memory, opening_fine}
 use Rattle.script_compiler.proofs.compiler.compile.Goals as goal
 
@@ -83,26 +86,28 @@ returns-in_err-work-clause-refused c =
     let config = c.in_ok-config.config in
     let config_is : config ≡ opening_of s = c.in_ok-config.ensures.made ∙ ap (λ xs. with_items xs nothing) c.items.ensures.value in
     let h : c.in_err-work.field-0.0 ≢ Memory → IsAccepted s → ⊥ = λ is accepted.
-    let judged = laid_judged s plan config c.plan_of-plan.ensures config_is accepted in
-    let few = laid_few s plan config c.plan_of-plan.ensures config_is accepted in
-    fault_either ⊥ c.in_err-work.field-0.0 (λ r. c.in_err-work.ensures.refused r judged) (λ l. c.in_err-work.ensures.limited l judged accepted.repeats few) is in
+    let judged = laid_judged s plan config c.plan_of-plan.ensures config_is accepted.judged in
+    fault_either ⊥ c.in_err-work.field-0.0 (λ r. c.in_err-work.ensures.refused r judged)
+    (limit_map c.in_err-work.field-0.0 (λ at k past. past judged (laid_few s plan config c.plan_of-plan.ensures config_is k (accepted_within k s accepted))) c.in_err-work.ensures.limited) is in
     search (rules, h)
 
-pub returns-in_err-labels-clause-refused : goal.returns-in_err-labels-clause-refused
-returns-in_err-labels-clause-refused c =
+pub returns-in_err-work-clause-limit : goal.returns-in_err-work-clause-limit
+returns-in_err-work-clause-limit c =
     let s = c.args.script.now in
     let plan = c.plan_of-plan.result in
     let config = c.in_ok-config.config in
     let config_is : config ≡ opening_of s = c.in_ok-config.ensures.made ∙ ap (λ xs. with_items xs nothing) c.items.ensures.value in
-    let places_are = ap (λ (p : Plan). all_places p s.last_line (body_of s) (beginning config)) c.plan_of-plan.ensures ∙ ap (λ x. all_places (plan_of s) s.last_line (body_of s) (beginning x)) config_is in
-    let marks_are : c.in_ok-work.work.marks.items ≡ marks_of 0 (places_of s) = c.in_ok-work.ensures.marks ∙ ap (λ ps. marks_of 0 ps) places_are in
-    let h : c.in_err-labels.field-0.0 ≢ Memory → IsAccepted s → ⊥ = λ is accepted.
-    let deep = subst (λ (ms : List Mark). IsDeepAtMost 8 ms) (sym marks_are) (accepted_deep s accepted) in
-    fault_either ⊥ c.in_err-labels.field-0.0 (λ r. c.in_err-labels.ensures.refused r) (λ l. c.in_err-labels.ensures.limited l deep) is in
+    let h : IfLimit c.in_err-work.field-0.0 (λ _ limit. Passes limit s) = limit_map c.in_err-work.field-0.0 (λ at k past judged within.
+    past (laid_judged s plan config c.plan_of-plan.ensures config_is judged) (laid_few s plan config c.plan_of-plan.ensures config_is k within)) c.in_err-work.ensures.limited in
     search (rules, h)
 
-pub returns-clause-refused : goal.returns-clause-refused
-returns-clause-refused c =
+pub labels-requires-clause-deep : goal.labels-requires-clause-deep
+labels-requires-clause-deep c =
+    let s = c.args.script.now in
+    subst (λ (ms : List Mark). IsDeepAtMost 8 ms) (sym c.in_ok-work.ensures.marks) (nested_deep c.plan_of-plan.result s.last_line (body_of s) (beginning c.in_ok-config.config) (c.in_ok-work.ensures.repeats refl))
+
+pub unreachable-requires : goal.unreachable-requires
+unreachable-requires c =
     let s = c.args.script.now in
     let plan = c.plan_of-plan.result in
     let config = c.in_ok-config.config in
@@ -122,8 +127,17 @@ returns-clause-refused c =
       labelled = subst (λ (t : List Configuration). AreLabelsOf t marks labels) (sym c.in_ok-configs.ensures.value) c.in_ok-labels.ensures.labels;
       priced = subst (λ xs. Priced xs labels) c.deref-4.ensures.value c.in_ok-labels.ensures.costs;
     } in
-    λ is accepted.
-    let formed = parts_formed s plan config lines marks needs configs labels parts c.items.ensures.formed accepted c.in-None.ensures.configurations c.in-None.ensures.lines in
+    let places = all_places plan s.last_line (body_of s) (beginning config) in
+    let same : places ≡ places_of s = places_are s plan config lines marks needs configs labels parts in
+    let marked : marks ≡ marks_of 0 (places_of s) = parts.marked ∙ ap (λ ps. marks_of 0 ps) same in
+    let kept : IsKept s configs = record {
+      judged = subst (λ (x : Configuration). IsJudged (plan_of s) (body_of s) (beginning x)) parts.config_is (subst (λ (q : Plan). IsJudged q (body_of s) (beginning config)) parts.plan_is (c.in_ok-work.ensures.judged refl));
+      repeats = c.in_ok-work.ensures.repeats refl;
+      instructions = let few = c.in_ok-work.ensures.room in let n = ap length (lines_are s plan config lines marks needs configs labels parts) in let m = length_lines (places_of s) in omega (arith, few, n, m);
+      labels = let few = c.in_ok-work.ensures.labels in let n = ap length marked in omega (arith, few, n);
+      configurations = let few = c.in_ok-work.ensures.configurations in let n = ap length c.in_ok-configs.ensures.value in omega (arith, few, n);
+    } in
+    let formed = parts_formed s plan config lines marks needs configs labels parts c.items.ensures.formed kept c.in-None.ensures.configurations c.in-None.ensures.lines in
     let no : false ≡ true = c.in-None.ensures.within.1 formed in cc
 
 pub returns-in_err-config-clause-why : goal.returns-in_err-config-clause-why

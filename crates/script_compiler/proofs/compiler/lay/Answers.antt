@@ -7,7 +7,9 @@ use Rattle.script_compiler.specs.Laying.{Lays, way, tables}
 use Rattle.script_compiler.specs.Space.{HasSpace}
 use Rattle.script_compiler.proofs.Whole.{laid_whole}
 use Rattle.script_compiler.proofs.Fitting.{table_none, can_whole, space_whole_end}
+use Rattle.script_compiler.proofs.Spaces.{limit_map}
 use Rattle.script_meaning.specs.declared.flow.Spot.{Spot}
+use Rattle.script_meaning.specs.Judged.{IsJudged}
 use Rattle.script_meaning.specs.Refused.{IsRefusedIn}
 use Rattle.script_compiler.proofs.Reasons.{refused_map, no_refusal}
 use Rattle.script_compiler.proofs.compiler.lay.Goals as goal
@@ -52,19 +54,29 @@ pub block-requires-clause-table : goal.block-requires-clause-table
 block-requires-clause-table c = table_none _ c.new-work.ensures.table c.new-work.ensures.marks
 
 pub returns-in-Err-clause-limited : goal.returns-in-Err-clause-limited
-returns-in-Err-clause-limited c = λ is judged deep few.
+returns-in-Err-clause-limited c =
     let s = c.args.script.now in
     let w0 = c.new-work.result in
     let same : block_of (tables c.blocks-4.result.now) c.statements.result.now ≡ body_of s = ap (λ xs. block_of (table_of [] xs) c.statements.result.now) c.blocks-4.ensures.value ∙ ap (λ xs. block_of (table_of [] s.blocks) xs) c.statements.ensures.value in
-    c.in-Err.ensures.limited is (can_whole c.args.plan.now s.last_line (body_of s) (block_of (tables c.blocks-4.result.now) c.statements.result.now) (beginning c.args.config.now) w0 same c.new-work.ensures.lines c.new-work.ensures.marks c.new-work.ensures.now judged deep few)
+    limit_map c.in-Err.fault (λ at k past judged few.
+    past (can_whole k c.args.plan.now s.last_line (body_of s) (block_of (tables c.blocks-4.result.now) c.statements.result.now) (beginning c.args.config.now) w0 same c.new-work.ensures.lines c.new-work.ensures.marks c.new-work.ensures.now judged few)) c.in-Err.ensures.limited
 
 pub returns-clause-limited : goal.returns-clause-limited
-returns-clause-limited c = λ is judged deep few.
+returns-clause-limited c =
     let s = c.args.script.now in
     let w0 = c.new-work.result in
     let same : block_of (tables c.blocks-4.result.now) c.statements.result.now ≡ body_of s = ap (λ xs. block_of (table_of [] xs) c.statements.result.now) c.blocks-4.ensures.value ∙ ap (λ xs. block_of (table_of [] s.blocks) xs) c.statements.ensures.value in
-    let space = space_whole_end c.args.plan.now s.last_line (body_of s) (block_of (tables c.blocks-4.result.now) c.statements.result.now) (beginning c.args.config.now) w0 c.block.new.self c.in-Ok.falls same c.new-work.ensures.lines c.new-work.ensures.marks c.new-work.ensures.now c.in-Ok.ensures.left few in
-    c.in-Err-close.ensures.limited is (subst (λ n. HasSpace c.block.new.self (onward (way c.in-Ok.falls c.block.new.self) [] (alone n End 0))) (sym c.last_line.ensures) space)
+    limit_map c.in-Err-close.fault (λ at k past judged few.
+    let space = space_whole_end k c.args.plan.now s.last_line (body_of s) (block_of (tables c.blocks-4.result.now) c.statements.result.now) (beginning c.args.config.now) w0 c.block.new.self c.in-Ok.falls same c.new-work.ensures.lines c.new-work.ensures.marks c.new-work.ensures.now c.in-Ok.ensures.left few in
+    past (subst (λ n. HasSpace k c.block.new.self (onward (way c.in-Ok.falls c.block.new.self) [] (alone n End 0))) (sym c.last_line.ensures) space)) c.in-Err-close.ensures.limited
+
+pub returns-in-Err-clause-refused : goal.returns-in-Err-clause-refused
+returns-in-Err-clause-refused c = λ is judged.
+    let s = c.args.script.now in
+    let w0 = c.new-work.result in
+    let same : block_of (tables c.blocks-4.result.now) c.statements.result.now ≡ body_of s = ap (λ xs. block_of (table_of [] xs) c.statements.result.now) c.blocks-4.ensures.value ∙ ap (λ xs. block_of (table_of [] s.blocks) xs) c.statements.ensures.value in
+    let there = subst (λ b. IsJudged c.args.plan.now b (beginning c.args.config.now)) (sym same) judged in
+    c.in-Err.ensures.refused is (subst (λ (x : Spot). IsJudged c.args.plan.now (block_of (tables c.blocks-4.result.now) c.statements.result.now) x) (sym c.new-work.ensures.now) there)
 
 pub returns-in-Err-clause-why : goal.returns-in-Err-clause-why
 returns-in-Err-clause-why c =

@@ -1,5 +1,5 @@
-use Rattle.script_compiler.proofs.Marking.{too_deep}
+use Rattle.script_compiler.proofs.Marking.{shallow_at}
 use Rattle.script_compiler.proofs.labels.labels_of.Goals as goal
 
-pub returns-in-Err-clause-limited : goal.returns-in-Err-clause-limited
-returns-in-Err-clause-limited c = λ is shallow. too_deep 8 c.args.marks.now c.loop-mark.mark-index _ c.loop-mark-test.true c.in-Err.ensures.limited.1 shallow
+pub label_of-requires-clause-deep : goal.label_of-requires-clause-deep
+label_of-requires-clause-deep c = shallow_at 8 c.args.marks.now c.loop-mark.mark-index _ c.loop-mark-test.true c.requires.deep

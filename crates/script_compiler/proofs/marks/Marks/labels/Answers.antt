@@ -7,7 +7,6 @@ use Rattle.script_compiler.specs.Pool.{MarkedPool}
 use Rattle.script_compiler.specs.Marked.{mark_in, label_of_mark, AreShallow}
 use Rattle.script_compiler.specs.Room.{IsDeepAtMost}
 use Rattle.script_compiler.proofs.Marking.{labels_at, priced_at, shallow_marks, ok_each}
-use Rattle.script_compiler.proofs.Spaces.{err_each}
 use Rattle.script_compiler.proofs.marks.Marks.labels.Goals as goal
 
 pub returns-clause-labels : goal.returns-clause-labels
@@ -23,10 +22,9 @@ returns-clause-labels c =
 pub returns-clause-costs : goal.returns-clause-costs
 returns-clause-costs c = ok_each c.labels_of.result (λ l e. subst (λ (xs : List Label). Priced c.args.needs.now xs) (sym e) (priced_at c.args.needs.now c.deref.result.now)) c.labels_of.ensures.labels
 
-pub returns-clause-limited : goal.returns-clause-limited
-returns-clause-limited c =
+pub labels_of-requires-clause-deep : goal.labels_of-requires-clause-deep
+labels_of-requires-clause-deep c =
     let table = c.self.inside.table.table in
     let short = c.self.inside.short.items in
-    err_each c.labels_of.result (λ e f is deep.
-    let few = shallow_marks table 8 short (subst (λ (v : MarkedPool). IsDeepAtMost 8 v.items) (sym c.self.view_is) deep) in
-    f is (subst (λ (ms : List ShortMark). AreShallow 8 ms) (sym c.deref.ensures.value) few)) c.labels_of.ensures.limited
+    let few = shallow_marks table 8 short (subst (λ (v : MarkedPool). IsDeepAtMost 8 v.items) (sym c.self.view_is) c.requires.deep) in
+    subst (λ (ms : List ShortMark). AreShallow 8 ms) (sym c.deref.ensures.value) few

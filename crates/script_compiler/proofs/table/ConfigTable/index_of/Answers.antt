@@ -1,13 +1,16 @@
-use Rattle.std.proofs.Common.{◌≤◌, length, arith}
+use Rattle.std.proofs.Common.{◌≤◌, length, refl, arith}
 use Rattle.script_compiler.specs.Marked.{configuration_at}
 use Rattle.script_compiler.proofs.Rooms.{full_table}
 use Rattle.script_compiler.proofs.Tabling.{last_new}
 use Rattle.script_compiler.proofs.table.ConfigTable.index_of.Goals as goal
 
 pub returns-then-index-from-clause-limited : goal.returns-then-index-from-clause-limited
-returns-then-index-from-clause-limited c = λ _ room.
-    let full : 256 ≤ length c.args.self.now.table = omega (arith, c.len-index.ensures, c.if-index-from.true) in
-    full_table c.args.self.now.table (configuration_at c.args.self.now.pool c.args.number) (c.find.ensures.none c.in_default.is) full room
+returns-then-index-from-clause-limited c = (
+  refl,
+  λ room.
+      let full : 256 ≤ length c.args.self.now.table = omega (arith, c.len-index.ensures, c.if-index-from.true) in
+      full_table c.args.self.now.table (configuration_at c.args.self.now.pool c.args.number) (c.find.ensures.none c.in_default.is) full room,
+)
 
 pub returns-clause-index : goal.returns-clause-index
 returns-clause-index c =

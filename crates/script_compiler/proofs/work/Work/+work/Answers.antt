@@ -12,7 +12,7 @@ use Rattle.script_compiler.proofs.Refusing.{block_refused, block_unreached, refu
 use Rattle.script_compiler.proofs.Laid.{left_start}
 use Rattle.script_compiler.proofs.Reasons.{err_two, no_refusal, why_as, act_why, apply_why, when_body_why, when_why, either_first_why, either_second_why, either_why, repeat_body_why, repeat_why, forever_body_why, forever_why, block_why, block_unreached_why}
 use Rattle.script_compiler.proofs.Arms.{is_end}
-use Rattle.script_compiler.proofs.Spaces.{err_each}
+use Rattle.script_compiler.proofs.Spaces.{limit_map, limits_map}
 use Rattle.script_compiler.proofs.Fitting.{limited_as, block_limited, act_limited, stop_limited, when_limited, either_limited, repeat_limited, apply_limited, can_when_first, can_when_closed, can_either_first, can_either_turned, can_either_second, can_either_closed, can_repeat_entered, can_repeat_body, can_repeat_closed, can_forever_entered, can_forever_body, can_forever_closed}
 use Rattle.script_compiler.proofs.work.Work.+work.Goals as goal
 
@@ -149,18 +149,18 @@ statement-returns-else-silent-number-clause-refused t c =
     (apply_refused c.args.plan.now c.args.self.now.now c.block.result c.in-Apply.line c.in-Apply.block inner c.block.ensures.refused)
 
 pub block-returns-in-Err-clause-limited : goal.block-returns-in-Err-clause-limited
-block-returns-in-Err-clause-limited t c = λ is can.
-    block_limited c.args.plan.now c.args.counters (tables c.args.blocks.now) c.args.statements.now c.loop-statement.statement-index c.statement-item.result c.args.self.now c.loop-statement.self c.loop-statement.goes_on c.statement-item.is c.loop-statement-test.true c.if-not-goes_on.false c.loop-statement.invariant.left (c.in-Err.ensures.limited is) can
+block-returns-in-Err-clause-limited t c = limit_map c.in-Err.fault (λ at k past can.
+    block_limited k c.args.plan.now c.args.counters (tables c.args.blocks.now) c.args.statements.now c.loop-statement.statement-index c.statement-item.result c.args.self.now c.loop-statement.self c.loop-statement.goes_on c.statement-item.is c.loop-statement-test.true c.if-not-goes_on.false c.loop-statement.invariant.left past can) c.in-Err.ensures.limited
 
 pub statement-returns-in-Act-clause-limited : goal.statement-returns-in-Act-clause-limited
 statement-returns-in-Act-clause-limited t c =
     let table = tables c.args.blocks.now in
     limited_as c.args.plan.now c.args.counters c.args.self.now c.act.result (λ rest. before table c.args.statement.now rest) (λ rest. basic c.in-Act.line c.in-Act.act rest) (λ rest. is_act table c.args.statement.now c.in-Act.line c.in-Act.act c.in-Act.is rest)
-    (err_each c.act.result (λ y h is rest can. act_limited c.args.plan.now c.args.counters c.in-Act.line c.in-Act.act c.args.self.now (h is) rest can) c.act.ensures.limited)
+    (limits_map c.act.result (λ at k past rest can. act_limited k c.args.plan.now c.args.counters c.in-Act.line c.in-Act.act c.args.self.now past rest can) c.act.ensures.limited)
 
 pub statement-returns-in-Err-clause-limited : goal.statement-returns-in-Err-clause-limited
-statement-returns-in-Err-clause-limited t c = λ is rest can.
-    stop_limited c.args.plan.now c.args.counters c.in-End.line c.args.self.now (c.in-Err.ensures.limited is) rest (subst (λ b. CanLay c.args.plan.now c.args.counters b c.args.self.now) (is_end (tables c.args.blocks.now) c.args.statement.now c.in-End.line c.in-End.is rest) can)
+statement-returns-in-Err-clause-limited t c = limit_map c.in-Err.fault (λ at k past rest can.
+    stop_limited k c.args.plan.now c.args.counters c.in-End.line c.args.self.now past rest (subst (λ b. CanLay k c.args.plan.now c.args.counters b c.args.self.now) (is_end (tables c.args.blocks.now) c.args.statement.now c.in-End.line c.in-End.is rest) can)) c.in-Err.ensures.limited
 
 pub statement-returns-in-If-clause-limited : goal.statement-returns-in-If-clause-limited
 statement-returns-in-If-clause-limited t c =
@@ -196,87 +196,87 @@ statement-returns-else-silent-number-clause-limited t c =
     (apply_limited c.args.plan.now c.args.counters c.args.self.now c.block.result c.in-Apply.line c.in-Apply.block inner c.block.ensures.limited)
 
 pub when-returns-in-Err-clause-limited : goal.when-returns-in-Err-clause-limited
-when-returns-in-Err-clause-limited t c = λ is rest can.
+when-returns-in-Err-clause-limited t c = limit_map c.in-Err.fault (λ at k past rest can.
     let first = block_of (tables c.args.blocks.now) c.args.first.now in
-    when_limited c.args.plan.now c.args.counters c.args.line c.args.contact first c.args.self.now (c.in-Err.ensures.limited is) rest can
+    when_limited k c.args.plan.now c.args.counters c.args.line c.args.contact first c.args.self.now past rest can) c.in-Err.ensures.limited
 
 pub when-returns-in-Err-block-clause-limited : goal.when-returns-in-Err-block-clause-limited
-when-returns-in-Err-block-clause-limited t c = λ is rest can.
+when-returns-in-Err-block-clause-limited t c = limit_map c.in-Err-block.fault (λ at k past rest can.
     let first = block_of (tables c.args.blocks.now) c.args.first.now in
-    c.in-Err-block.ensures.limited is (can_when_first c.args.plan.now c.args.counters c.args.line c.args.contact first rest c.args.self.now c.fork.new.self c.block.new.self true c.in_default.ensures.forks can)
+    past (can_when_first k c.args.plan.now c.args.counters c.args.line c.args.contact first rest c.args.self.now c.fork.new.self c.block.new.self true c.in_default.ensures.forks can)) c.in-Err-block.ensures.limited
 
 pub when-returns-clause-limited : goal.when-returns-clause-limited
 when-returns-clause-limited t c =
     let first = block_of (tables c.args.blocks.now) c.args.first.now in
-    err_each c.close_if.result (λ y h is rest can. can_when_closed c.args.plan.now c.args.counters c.args.line c.args.contact first rest c.args.self.now c.fork.new.self c.block.new.self c.in-Ok.falls c.in_default.ensures.forks c.in-Ok.ensures.left (h is) can) c.close_if.ensures.limited
+    limits_map c.close_if.result (λ at k past rest can. can_when_closed k c.args.plan.now c.args.counters c.args.line c.args.contact first rest c.args.self.now c.fork.new.self c.block.new.self c.in-Ok.falls c.in_default.ensures.forks c.in-Ok.ensures.left past can) c.close_if.ensures.limited
 
 pub either-returns-in-Err-clause-limited : goal.either-returns-in-Err-clause-limited
-either-returns-in-Err-clause-limited t c = λ is rest can.
+either-returns-in-Err-clause-limited t c = limit_map c.in-Err.fault (λ at k past rest can.
     let first = block_of (tables c.args.blocks.now) c.args.first.now in
     let second = block_of (tables c.args.blocks.now) c.args.second.now in
-    either_limited c.args.plan.now c.args.counters c.args.line c.args.contact first second c.args.self.now (c.in-Err.ensures.limited is) rest can
+    either_limited k c.args.plan.now c.args.counters c.args.line c.args.contact first second c.args.self.now past rest can) c.in-Err.ensures.limited
 
 pub either-returns-in-Err-block-clause-limited : goal.either-returns-in-Err-block-clause-limited
-either-returns-in-Err-block-clause-limited t c = λ is rest can.
+either-returns-in-Err-block-clause-limited t c = limit_map c.in-Err-block.fault (λ at k past rest can.
     let first = block_of (tables c.args.blocks.now) c.args.first.now in
     let second = block_of (tables c.args.blocks.now) c.args.second.now in
-    c.in-Err-block.ensures.limited is (can_either_first c.args.plan.now c.args.counters c.args.line c.args.contact first second rest c.args.self.now c.fork.new.self c.block.new.self c.block.new.self c.block.new.self true true c.in_default.ensures.forks can)
+    past (can_either_first k c.args.plan.now c.args.counters c.args.line c.args.contact first second rest c.args.self.now c.fork.new.self c.block.new.self c.block.new.self c.block.new.self true true c.in_default.ensures.forks can)) c.in-Err-block.ensures.limited
 
 pub either-returns-in-Err-turn-clause-limited : goal.either-returns-in-Err-turn-clause-limited
-either-returns-in-Err-turn-clause-limited t c = λ is rest can.
+either-returns-in-Err-turn-clause-limited t c = limit_map c.in-Err-turn.fault (λ at k past rest can.
     let first = block_of (tables c.args.blocks.now) c.args.first.now in
     let second = block_of (tables c.args.blocks.now) c.args.second.now in
-    can_either_turned c.args.plan.now c.args.counters c.args.line c.args.contact first second rest c.args.self.now c.fork.new.self c.block.new.self c.turn.new.self c.turn.new.self c.in-Ok.falls true c.in_default.ensures.forks c.in-Ok.ensures.left (c.in-Err-turn.ensures.limited is) can
+    can_either_turned k c.args.plan.now c.args.counters c.args.line c.args.contact first second rest c.args.self.now c.fork.new.self c.block.new.self c.turn.new.self c.turn.new.self c.in-Ok.falls true c.in_default.ensures.forks c.in-Ok.ensures.left past can) c.in-Err-turn.ensures.limited
 
 pub either-returns-in-Err-block-2-clause-limited : goal.either-returns-in-Err-block-2-clause-limited
-either-returns-in-Err-block-2-clause-limited t c = λ is rest can.
+either-returns-in-Err-block-2-clause-limited t c = limit_map c.in-Err-block-2.fault (λ at k past rest can.
     let first = block_of (tables c.args.blocks.now) c.args.first.now in
     let second = block_of (tables c.args.blocks.now) c.args.second.now in
-    c.in-Err-block-2.ensures.limited is (can_either_second c.args.plan.now c.args.counters c.args.line c.args.contact first second rest c.args.self.now c.fork.new.self c.block.new.self c.turn.new.self c.turn.new.self c.in-Ok.falls true c.len-at.result c.in_default.ensures.forks c.in-Ok.ensures.left c.in_default-turn.ensures.turns can)
+    past (can_either_second k c.args.plan.now c.args.counters c.args.line c.args.contact first second rest c.args.self.now c.fork.new.self c.block.new.self c.turn.new.self c.turn.new.self c.in-Ok.falls true c.len-at.result c.in_default.ensures.forks c.in-Ok.ensures.left c.in_default-turn.ensures.turns can)) c.in-Err-block-2.ensures.limited
 
 pub either-returns-clause-limited : goal.either-returns-clause-limited
 either-returns-clause-limited t c =
     let first = block_of (tables c.args.blocks.now) c.args.first.now in
     let second = block_of (tables c.args.blocks.now) c.args.second.now in
-    err_each c.close_else.result (λ y h is rest can. can_either_closed c.args.plan.now c.args.counters c.args.line c.args.contact first second rest c.args.self.now c.fork.new.self c.block.new.self c.turn.new.self c.block-2.new.self c.in-Ok.falls c.in-Ok-block.falls c.len-at.result c.in_default.ensures.forks c.in-Ok.ensures.left c.in_default-turn.ensures.turns c.in-Ok-block.ensures.left (h is) can) c.close_else.ensures.limited
+    limits_map c.close_else.result (λ at k past rest can. can_either_closed k c.args.plan.now c.args.counters c.args.line c.args.contact first second rest c.args.self.now c.fork.new.self c.block.new.self c.turn.new.self c.block-2.new.self c.in-Ok.falls c.in-Ok-block.falls c.len-at.result c.in_default.ensures.forks c.in-Ok.ensures.left c.in_default-turn.ensures.turns c.in-Ok-block.ensures.left past can) c.close_else.ensures.limited
 
 pub repeat-returns-in-Err-clause-limited : goal.repeat-returns-in-Err-clause-limited
-repeat-returns-in-Err-clause-limited t c = λ is rest can.
+repeat-returns-in-Err-clause-limited t c = limit_map c.in-Err.fault (λ at k past rest can.
     let body = block_of (tables c.args.blocks.now) c.args.body.now in
-    repeat_limited c.args.plan.now c.args.counters c.args.line c.args.times body c.args.self.now (c.in-Err.ensures.limited is) rest can
+    repeat_limited k c.args.plan.now c.args.counters c.args.line c.args.times body c.args.self.now past rest can) c.in-Err.ensures.limited
 
 pub repeat-returns-in-Err-enter-clause-limited : goal.repeat-returns-in-Err-enter-clause-limited
-repeat-returns-in-Err-enter-clause-limited t c = λ is rest can.
+repeat-returns-in-Err-enter-clause-limited t c = limit_map c.in-Err-enter.fault (λ at k past rest can.
     let body = block_of (tables c.args.blocks.now) c.args.body.now in
-    can_repeat_entered c.args.plan.now c.args.counters c.args.line c.args.times body rest c.args.self.now c.put.new.self c.enter.new.self c.enter.new.self true c.all_fall.result
-    (let k : c.in-Some.counter ≡ c.args.counters = c.in-Some.ensures.value in subst (λ m. Lays c.args.self.now c.put.new.self (alone c.args.line (Set m c.args.times) c.args.counters c.args.self.now.now)) k c.in_default-put.ensures.lays) c.in_default-put.ensures.now (c.all_fall.ensures (tables c.args.blocks.now) c.requires.known) (c.in-Err-enter.ensures.limited is) can
+    can_repeat_entered k c.args.plan.now c.args.counters c.args.line c.args.times body rest c.args.self.now c.put.new.self c.enter.new.self c.enter.new.self true c.all_fall.result
+    (let k : c.in-Some.counter ≡ c.args.counters = c.in-Some.ensures.value in subst (λ m. Lays c.args.self.now c.put.new.self (alone c.args.line (Set m c.args.times) c.args.counters c.args.self.now.now)) k c.in_default-put.ensures.lays) c.in_default-put.ensures.now (c.all_fall.ensures (tables c.args.blocks.now) c.requires.known) past can) c.in-Err-enter.ensures.limited
 
 pub repeat-returns-in-Err-block-clause-limited : goal.repeat-returns-in-Err-block-clause-limited
-repeat-returns-in-Err-block-clause-limited t c = λ is rest can.
+repeat-returns-in-Err-block-clause-limited t c = limit_map c.in-Err-block.fault (λ at k past rest can.
     let body = block_of (tables c.args.blocks.now) c.args.body.now in
-    c.in-Err-block.ensures.limited is (can_repeat_body c.args.plan.now c.args.counters c.args.line c.args.times body rest c.args.self.now c.put.new.self c.enter.new.self c.enter.new.self true c.all_fall.result
-    (let k : c.in-Some.counter ≡ c.args.counters = c.in-Some.ensures.value in subst (λ m. Lays c.args.self.now c.put.new.self (alone c.args.line (Set m c.args.times) c.args.counters c.args.self.now.now)) k c.in_default-put.ensures.lays) c.in_default-put.ensures.now (c.all_fall.ensures (tables c.args.blocks.now) c.requires.known) c.in_default-enter.ensures.lines c.in_default-enter.ensures.marks c.in_default-enter.ensures.now can)
+    past (can_repeat_body k c.args.plan.now c.args.counters c.args.line c.args.times body rest c.args.self.now c.put.new.self c.enter.new.self c.enter.new.self true c.all_fall.result
+    (let k : c.in-Some.counter ≡ c.args.counters = c.in-Some.ensures.value in subst (λ m. Lays c.args.self.now c.put.new.self (alone c.args.line (Set m c.args.times) c.args.counters c.args.self.now.now)) k c.in_default-put.ensures.lays) c.in_default-put.ensures.now (c.all_fall.ensures (tables c.args.blocks.now) c.requires.known) c.in_default-enter.ensures.lines c.in_default-enter.ensures.marks c.in_default-enter.ensures.now can)) c.in-Err-block.ensures.limited
 
 pub repeat-returns-in-Err-go_round-clause-limited : goal.repeat-returns-in-Err-go_round-clause-limited
-repeat-returns-in-Err-go_round-clause-limited t c = λ is rest can.
+repeat-returns-in-Err-go_round-clause-limited t c = limit_map c.in-Err-go_round.fault (λ at k past rest can.
     let body = block_of (tables c.args.blocks.now) c.args.body.now in
-    can_repeat_closed c.args.plan.now c.args.counters c.args.line c.args.times body rest c.args.self.now c.put.new.self c.enter.new.self c.block.new.self c.in-Ok.falls c.all_fall.result
-    (let k : c.in-Some.counter ≡ c.args.counters = c.in-Some.ensures.value in subst (λ m. Lays c.args.self.now c.put.new.self (alone c.args.line (Set m c.args.times) c.args.counters c.args.self.now.now)) k c.in_default-put.ensures.lays) c.in_default-put.ensures.now (c.all_fall.ensures (tables c.args.blocks.now) c.requires.known) c.in_default-enter.ensures.lines c.in_default-enter.ensures.marks c.in_default-enter.ensures.now c.in-Ok.ensures.left (c.in-Err-go_round.ensures.limited is) can
+    can_repeat_closed k c.args.plan.now c.args.counters c.args.line c.args.times body rest c.args.self.now c.put.new.self c.enter.new.self c.block.new.self c.in-Ok.falls c.all_fall.result
+    (let k : c.in-Some.counter ≡ c.args.counters = c.in-Some.ensures.value in subst (λ m. Lays c.args.self.now c.put.new.self (alone c.args.line (Set m c.args.times) c.args.counters c.args.self.now.now)) k c.in_default-put.ensures.lays) c.in_default-put.ensures.now (c.all_fall.ensures (tables c.args.blocks.now) c.requires.known) c.in_default-enter.ensures.lines c.in_default-enter.ensures.marks c.in_default-enter.ensures.now c.in-Ok.ensures.left past can) c.in-Err-go_round.ensures.limited
 
 pub forever-returns-in-Err-clause-limited : goal.forever-returns-in-Err-clause-limited
-forever-returns-in-Err-clause-limited t c = λ is rest can.
+forever-returns-in-Err-clause-limited t c = limit_map c.in-Err.fault (λ at k past rest can.
     let body = block_of (tables c.args.blocks.now) c.args.body.now in
-    can_forever_entered c.args.plan.now c.args.counters c.args.line body rest c.args.self.now c.enter.new.self c.enter.new.self true c.all_fall.result (c.all_fall.ensures (tables c.args.blocks.now) c.requires.known) (c.in-Err.ensures.limited is) can
+    can_forever_entered k c.args.plan.now c.args.counters c.args.line body rest c.args.self.now c.enter.new.self c.enter.new.self true c.all_fall.result (c.all_fall.ensures (tables c.args.blocks.now) c.requires.known) past can) c.in-Err.ensures.limited
 
 pub forever-returns-in-Err-block-clause-limited : goal.forever-returns-in-Err-block-clause-limited
-forever-returns-in-Err-block-clause-limited t c = λ is rest can.
+forever-returns-in-Err-block-clause-limited t c = limit_map c.in-Err-block.fault (λ at k past rest can.
     let body = block_of (tables c.args.blocks.now) c.args.body.now in
-    c.in-Err-block.ensures.limited is (can_forever_body c.args.plan.now c.args.counters c.args.line body rest c.args.self.now c.enter.new.self c.enter.new.self true c.all_fall.result (c.all_fall.ensures (tables c.args.blocks.now) c.requires.known) c.in_default.ensures.lines c.in_default.ensures.marks c.in_default.ensures.now can)
+    past (can_forever_body k c.args.plan.now c.args.counters c.args.line body rest c.args.self.now c.enter.new.self c.enter.new.self true c.all_fall.result (c.all_fall.ensures (tables c.args.blocks.now) c.requires.known) c.in_default.ensures.lines c.in_default.ensures.marks c.in_default.ensures.now can)) c.in-Err-block.ensures.limited
 
 pub forever-returns-in-Err-go_round-clause-limited : goal.forever-returns-in-Err-go_round-clause-limited
-forever-returns-in-Err-go_round-clause-limited t c = λ is rest can.
+forever-returns-in-Err-go_round-clause-limited t c = limit_map c.in-Err-go_round.fault (λ at k past rest can.
     let body = block_of (tables c.args.blocks.now) c.args.body.now in
-    can_forever_closed c.args.plan.now c.args.counters c.args.line body rest c.args.self.now c.enter.new.self c.block.new.self c.in-Ok.falls c.all_fall.result (c.all_fall.ensures (tables c.args.blocks.now) c.requires.known) c.in_default.ensures.lines c.in_default.ensures.marks c.in_default.ensures.now c.in-Ok.ensures.left (c.in-Err-go_round.ensures.limited is) can
+    can_forever_closed k c.args.plan.now c.args.counters c.args.line body rest c.args.self.now c.enter.new.self c.block.new.self c.in-Ok.falls c.all_fall.result (c.all_fall.ensures (tables c.args.blocks.now) c.requires.known) c.in_default.ensures.lines c.in_default.ensures.marks c.in_default.ensures.now c.in-Ok.ensures.left past can) c.in-Err-go_round.ensures.limited
 
 -- ---- why, and at which line
 

@@ -6,11 +6,11 @@ use Rattle.mux_config.specs.Configuration.{Configuration}
 use Rattle.script_compiler.specs.Pool.{spot_in}
 use Rattle.script_compiler.specs.Laying.{way, spots_of}
 use Rattle.script_compiler.proofs.Putting.{snoc_last}
-use Rattle.script_compiler.proofs.Spaces.{space_as, some_of, met_labelled}
+use Rattle.script_compiler.proofs.Spaces.{space_as, some_of, met_labelled, limit_map}
 use Rattle.script_compiler.proofs.work.Work.close_else.Goals as goal
 
 pub returns-in-Err-clause-limited : goal.returns-in-Err-clause-limited
-returns-in-Err-clause-limited c = λ is front a first saved ps cover space.
+returns-in-Err-clause-limited c = limit_map c.in-Err.fault (λ at k past front a first saved ps cover space.
     let w = c.args.self.now in
     let v = c.restore-exit.new.self in
     let u = c.aim.new.self in
@@ -23,4 +23,4 @@ returns-in-Err-clause-limited c = λ is front a first saved ps cover space.
     let now : u.now ≡ w.now = c.aim.ensures.now ∙ c.restore-exit.ensures.now in
     let met : meet (way c.args.second u) (Some exit) ≡ join a (way c.args.second w) =
     ap (λ (s : Spot). meet (if c.args.second then Some s else None) (Some exit)) now ∙ ap (λ (s : Spot). meet (way c.args.second w) (Some s)) same ∙ ap (λ x. join x (way c.args.second w)) (sym some.1) in
-    c.in-Err.ensures.limited is ps (λ x e. cover x (sym met ∙ e) (met_labelled (way c.args.second u) exit x e)) (space_as w u ps lines marks space)
+    past ps (λ x e. cover x (sym met ∙ e) (met_labelled (way c.args.second u) exit x e)) (space_as k w u ps lines marks space)) c.in-Err.ensures.limited

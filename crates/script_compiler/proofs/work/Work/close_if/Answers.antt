@@ -6,11 +6,11 @@ use Rattle.mux_config.specs.Configuration.{Configuration}
 use Rattle.script_compiler.specs.Pool.{spot_in}
 use Rattle.script_compiler.specs.Laying.{way}
 use Rattle.script_compiler.proofs.Putting.{snoc_last}
-use Rattle.script_compiler.proofs.Spaces.{space_as}
+use Rattle.script_compiler.proofs.Spaces.{space_as, limit_map}
 use Rattle.script_compiler.proofs.work.Work.close_if.Goals as goal
 
 pub returns-in-Err-clause-limited : goal.returns-in-Err-clause-limited
-returns-in-Err-clause-limited c = λ is front entry saved ps cover space.
+returns-in-Err-clause-limited c = limit_map c.in-Err.fault (λ at k past front entry saved ps cover space.
     let w = c.args.self.now in
     let v = c.restore-entry.new.self in
     let u = c.aim.new.self in
@@ -21,4 +21,4 @@ returns-in-Err-clause-limited c = λ is front entry saved ps cover space.
     let now : u.now ≡ w.now = c.aim.ensures.now ∙ c.restore-entry.ensures.now in
     let met : meet (way c.args.falls u) (Some exit) ≡ meet (way c.args.falls w) (Some entry) =
     ap (λ (s : Spot). meet (if c.args.falls then Some s else None) (Some exit)) now ∙ ap (λ (s : Spot). meet (way c.args.falls w) (Some s)) same in
-    c.in-Err.ensures.limited is ps (λ x e. cover x (sym met ∙ e)) (space_as w u ps lines marks space)
+    past ps (λ x e. cover x (sym met ∙ e)) (space_as k w u ps lines marks space)) c.in-Err.ensures.limited

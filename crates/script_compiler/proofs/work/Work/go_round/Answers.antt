@@ -1,12 +1,12 @@
 use Rattle.std.proofs.Common.{◌∷◌, length, sym, ap}
 use Rattle.script_meaning.specs.Scheme.{place_of_instr}
-use Rattle.script_compiler.proofs.Spaces.{err_each, space_back, space_as}
+use Rattle.script_compiler.proofs.Spaces.{limits_map, space_back, space_as}
 use Rattle.script_compiler.proofs.work.Work.go_round.Goals as goal
 
 pub returns-clause-limited : goal.returns-clause-limited
 returns-clause-limited c =
     let w = c.args.self.now in
     let v = c.restore-entry.new.self in
-    err_each c.put.result (λ y h is m n i ps space.
-    let here = space_back w c.args.falls m n i ps c.if-not-falls.false space in
-    h is (place_of_instr m i n w.now) ps (sym c.restore-entry.ensures.now) (space_as w v (place_of_instr m i n w.now ∷ ps) (ap (λ x. length x.items) c.restore-entry.ensures.lines) (ap (λ x. x.items) c.restore-entry.ensures.marks) here)) c.put.ensures.limited
+    limits_map c.put.result (λ at k past m n i ps space.
+    let here = space_back k w c.args.falls m n i ps c.if-not-falls.false space in
+    past (place_of_instr m i n w.now) ps (sym c.restore-entry.ensures.now) (space_as k w v (place_of_instr m i n w.now ∷ ps) (ap (λ x. length x.items) c.restore-entry.ensures.lines) (ap (λ x. x.items) c.restore-entry.ensures.marks) here)) c.put.ensures.limited

@@ -5,7 +5,7 @@ use Rattle.script_meaning.specs.Scheme.{at_label, meet}
 use Rattle.script_compiler.specs.Laying.{way}
 use Rattle.script_compiler.specs.Pool.{spot_in}
 use Rattle.script_compiler.specs.Space.{IsCovered}
-use Rattle.script_compiler.proofs.Spaces.{err_each, space_as}
+use Rattle.script_compiler.proofs.Spaces.{limits_map, space_as}
 use Rattle.script_compiler.proofs.work.Work.join.Goals as goal
 
 pub returns-then-not-falls-clause-limited : goal.returns-then-not-falls-clause-limited
@@ -13,17 +13,17 @@ returns-then-not-falls-clause-limited c =
     let w = c.args.self.now in
     let v = c.take.new.self in
     let t = spot_in w.pool c.args.other.now in
-    err_each c.mark.result (λ y h is ps cover space.
+    limits_map c.mark.result (λ at k past ps cover space.
     let met : meet (way c.args.falls w) (Some t) ≡ Some (at_label t.flow) = ap (λ f. meet (way f w) (Some t)) c.if-not-falls.true in
-    let there = space_as w v ps (ap (λ x. length x.items) c.take.ensures.lines) (ap (λ x. x.items) c.take.ensures.marks) space in
-    h is ps (subst (λ (s : Spot). IsCovered s.flow ps) (sym c.take.ensures.now) (cover (at_label t.flow) met)) there) c.mark.ensures.limited
+    let there = space_as k w v ps (ap (λ x. length x.items) c.take.ensures.lines) (ap (λ x. x.items) c.take.ensures.marks) space in
+    past ps (subst (λ (s : Spot). IsCovered s.flow ps) (sym c.take.ensures.now) (cover (at_label t.flow) met)) there) c.mark.ensures.limited
 
 pub returns-clause-limited : goal.returns-clause-limited
 returns-clause-limited c =
     let w = c.args.self.now in
     let v = c.meet.new.self in
     let t = spot_in w.pool c.args.other.now in
-    err_each c.mark-2.result (λ y h is ps cover space.
+    limits_map c.mark-2.result (λ at k past ps cover space.
     let met : meet (way c.args.falls w) (Some t) ≡ Some (at_label (merged w.now.flow t.flow)) = ap (λ f. meet (way f w) (Some t)) c.if-not-falls.false in
-    let there = space_as w v ps (ap (λ x. length x.items) c.meet.ensures.lines) (ap (λ x. x.items) c.meet.ensures.marks) space in
-    h is ps (subst (λ (x : Flow). IsCovered x ps) (sym (c.meet.ensures.met c.if-not-meet.false)) (cover (at_label (merged w.now.flow t.flow)) met)) there) c.mark-2.ensures.limited
+    let there = space_as k w v ps (ap (λ x. length x.items) c.meet.ensures.lines) (ap (λ x. x.items) c.meet.ensures.marks) space in
+    past ps (subst (λ (x : Flow). IsCovered x ps) (sym (c.meet.ensures.met c.if-not-meet.false)) (cover (at_label (merged w.now.flow t.flow)) met)) there) c.mark-2.ensures.limited

@@ -1,9 +1,9 @@
 use Rattle.std.proofs.Common.{refl}
 use Rattle.script_meaning.specs.Scheme.{place_of_instr}
-use Rattle.script_compiler.proofs.Spaces.{err_each, space_back}
+use Rattle.script_compiler.proofs.Spaces.{limits_map, space_back}
 use Rattle.script_compiler.proofs.work.Work.leave.Goals as goal
 
 pub returns-clause-limited : goal.returns-clause-limited
 returns-clause-limited c =
     let w = c.args.self.now in
-    err_each c.fork.result (λ y h is m n i ps space. h is (place_of_instr m i n w.now) ps refl (space_back w c.args.falls m n i ps c.if-not-falls.false space)) c.fork.ensures.limited
+    limits_map c.fork.result (λ at k past m n i ps space. past (place_of_instr m i n w.now) ps refl (space_back k w c.args.falls m n i ps c.if-not-falls.false space)) c.fork.ensures.limited

@@ -1,4 +1,4 @@
-use Rattle.std.proofs.Common.{◌≡◌, ◌≤◌, ◌++◌, ◌∷◌, [], List, Some, true, length, sym, ap, ◌∙◌, subst, arith}
+use Rattle.std.proofs.Common.{◌≡◌, ◌≤◌, ◌<◌, ◌++◌, ◌∷◌, [], List, Some, true, length, sym, ap, ◌∙◌, subst, arith}
 use Rattle.std.proofs.lemmas.Option.{slice_get_within}
 use Rattle.mux_config.specs.Configuration.{Configuration}
 use Rattle.script_meaning.specs.declared.flow.Mark.{Mark}
@@ -7,29 +7,29 @@ use Rattle.script_meaning.specs.Compiled.{Added}
 use Rattle.script_compiler.specs.Marked.{configuration_at, mark_in}
 use Rattle.script_compiler.specs.Pool.{spot_in}
 use Rattle.script_compiler.specs.Room.{HasRoomFor}
-use Rattle.script_compiler.specs.Space.{HasTable}
+use Rattle.script_compiler.specs.Space.{HasSpace, HasTable}
 use Rattle.script_compiler.specs.Working.{Work}
 use Rattle.script_compiler.proofs.Marking.{grown}
 use Rattle.script_compiler.proofs.Numbered.{room_here, marked_as, marked_here, mark_with, short_with}
-use Rattle.script_compiler.proofs.Spaces.{room_left, room_next, table_mark}
+use Rattle.script_compiler.proofs.Spaces.{room_left, room_next, table_mark, limit_map}
 use Rattle.script_compiler.proofs.work.Work.put_mark.Goals as goal
 
 pub returns-in-Err-clause-limited : goal.returns-in-Err-clause-limited
-returns-in-Err-clause-limited c = λ is ps cover space.
+returns-in-Err-clause-limited c = limit_map c.in-Err.fault (λ at k h ps cover space.
     let w = c.args.self.now in
     let v = c.self.inside.marks in
     let s = c.args.here.now in
-    let room = subst (λ (x : Work). HasRoomFor x.marks.table (configuration_at x.pool s.current ∷ configuration_at x.pool s.next ∷ [])) (sym c.self.view_is) (room_here w s ps c.requires.same c.requires.table cover space) in
-    c.in-Err.ensures.limited is (room_left v.table (configuration_at v.pool s.current) (configuration_at v.pool s.next) room)
+    let room = subst (λ (x : Work). HasRoomFor x.marks.table (configuration_at x.pool s.current ∷ configuration_at x.pool s.next ∷ [])) (sym c.self.view_is) (room_here w s ps c.requires.same c.requires.table cover (subst (λ x. HasSpace x w ps) h.0 space)) in
+    h.1 (room_left v.table (configuration_at v.pool s.current) (configuration_at v.pool s.next) room)) c.in-Err.ensures.limited
 
 pub returns-in-Err-index_of-clause-limited : goal.returns-in-Err-index_of-clause-limited
-returns-in-Err-index_of-clause-limited c = λ is ps cover space.
+returns-in-Err-index_of-clause-limited c = limit_map c.in-Err-index_of.fault (λ at k h ps cover space.
     let w = c.args.self.now in
     let v = c.self.inside.marks in
     let s = c.args.here.now in
-    let room = subst (λ (x : Work). HasRoomFor x.marks.table (configuration_at x.pool s.current ∷ configuration_at x.pool s.next ∷ [])) (sym c.self.view_is) (room_here w s ps c.requires.same c.requires.table cover space) in
+    let room = subst (λ (x : Work). HasRoomFor x.marks.table (configuration_at x.pool s.current ∷ configuration_at x.pool s.next ∷ [])) (sym c.self.view_is) (room_here w s ps c.requires.same c.requires.table cover (subst (λ x. HasSpace x w ps) h.0 space)) in
     let left = room_next v.table c.index_of.new.self.table (configuration_at v.pool s.current) (configuration_at v.pool s.next) c.in-Ok.ensures.added room in
-    c.in-Err-index_of.ensures.limited is (subst (λ (p : List Configuration). HasRoomFor c.index_of.new.self.table (configuration_at p s.next ∷ [])) (sym c.index_of.ensures.pool) left)
+    h.1 (subst (λ (p : List Configuration). HasRoomFor c.index_of.new.self.table (configuration_at p s.next ∷ [])) (sym c.index_of.ensures.pool) left)) c.in-Err-index_of.ensures.limited
 
 pub push-requires-clause-current : goal.push-requires-clause-current
 push-requires-clause-current c =
@@ -65,7 +65,7 @@ returns-clause-table c =
     let u : Work = record { lines = record { items = v.lines.items }; marks = record { items = v.marks.items; table = v.marks.table }; now = v.now; saved = c.args.self.now.saved; pool = v.marks.pool } in
     let same = subst (λ (x : Work). spot_in x.pool s ≡ x.now) (sym c.self.view_is) c.requires.same in
     let held = subst HasTable (sym c.self.view_is) c.requires.table in
-    let start : HasTable u = record { few = held.few; room = held.room; tabled = held.tabled } in
+    let start : HasTable u = record { few = held.few; labels = held.labels; room = held.room; tabled = held.tabled } in
     let table = c.index_of-2.new.self.table in
     let there = grown (configuration_at v.marks.pool s.current) (configuration_at c.index_of.new.self.pool s.next) c.in-Ok.cur c.index_of.new.self.table table c.in-Ok-index_of.ensures.added c.in-Ok.ensures.index in
     let then = c.in-Ok-index_of.ensures.index ∙ ap (λ (p : List Configuration). Some (configuration_at p s.next)) c.index_of.ensures.pool in
@@ -76,4 +76,4 @@ returns-clause-table c =
     let next : Added m.flow.next c.index_of.new.self.table table = subst (λ (x : Configuration). Added x c.index_of.new.self.table table) (ap (λ (p : List Configuration). configuration_at p s.next) c.index_of.ensures.pool ∙ ap (λ x. x.flow.next) same) c.in-Ok-index_of.ensures.added in
     let added = subst (λ (x : List Configuration). Added m.flow.next c.index_of.new.self.table x) (sym c.push.ensures.table) next in
     let few : length c.push.new.self.table ≤ 256 = (let k = c.in-Ok-index_of.ensures.room in let e = ap length c.push.ensures.table in omega (arith, k, e)) in
-    table_mark u _ c.index_of.new.self.table m current added is few start
+    table_mark u _ c.index_of.new.self.table m current added is few (subst (λ (x : Work). length x.marks.items < 1024) (sym c.self.view_is) c.requires.few) start

@@ -14,7 +14,7 @@ use Rattle.script_compiler.specs.Pool.{spot_in}
 use Rattle.script_compiler.specs.Space.{IsCovered}
 use Rattle.script_compiler.proofs.Pooled.{spot_same}
 use Rattle.script_compiler.proofs.Putting.{on_ok_map, snoc_front, snoc_last}
-use Rattle.script_compiler.proofs.Spaces.{err_each, space_left, space_restored}
+use Rattle.script_compiler.proofs.Spaces.{limits_map, space_left, space_restored}
 use Rattle.script_compiler.proofs.work.Work.turn.Goals as goal
 
 pub returns-clause-limited : goal.returns-clause-limited
@@ -24,13 +24,13 @@ returns-clause-limited c =
     let u = c.leave.new.self in
     let x = c.aim.new.self in
     let s = c.restore-entry.result in
-    err_each c.mark.result (λ y h is front entry saved m n i ps space cover.
+    limits_map c.mark.result (λ at k past front entry saved m n i ps space cover.
     let here : spot_in x.pool s ≡ spot_in v.pool s = ap (λ (p : List Configuration). spot_in p s) c.aim.ensures.pool ∙ spot_same v.pool u.pool s c.leave.ensures.pool c.restore-entry.ensures.within in
     let same : spot_in x.pool s ≡ entry = here ∙ snoc_last v.saved.items front (spot_in v.pool s) entry (c.restore-entry.ensures.saved ∙ saved) in
     let lines = ap (λ z. length z.items) c.take.ensures.lines ∙ ap length c.aim.ensures.lines ∙ length-set u.lines.items c.args.at _ ∙ ap length c.in_default.ensures.lines ∙ length-append v.lines.items _ in
     let marks = ap (λ z. z.items) (c.take.ensures.marks ∙ c.aim.ensures.marks) ∙ c.in_default.ensures.marks in
-    let there = space_left v _ c.args.falls c.args.line c.args.counters m n i ps lines marks (space_restored v w c.args.falls m n i ps c.restore-entry.ensures.lines c.restore-entry.ensures.marks c.restore-entry.ensures.now space) in
-    h is ps (subst (λ (z : Spot). IsCovered z.flow ps) (sym c.take.ensures.now) (subst (λ (z : Spot). IsCovered z.flow ps) (sym same) cover)) there) c.mark.ensures.limited
+    let there = space_left k v _ c.args.falls c.args.line c.args.counters m n i ps lines marks (space_restored k v w c.args.falls m n i ps c.restore-entry.ensures.lines c.restore-entry.ensures.marks c.restore-entry.ensures.now space) in
+    past ps (subst (λ (z : Spot). IsCovered z.flow ps) (sym c.take.ensures.now) (subst (λ (z : Spot). IsCovered z.flow ps) (sym same) cover)) there) c.mark.ensures.limited
 
 pub returns-clause-turns : goal.returns-clause-turns
 returns-clause-turns c =
