@@ -3,7 +3,8 @@ use Rattle.std.proofs.Common.{◌≡◌, ℕ, zero, suc, ◌+◌, ◌<◌, Bool,
 use Rattle.script_front.specs.declared.tree.Statement.{Statement}
 use Rattle.script_front.specs.Block.{Block, block_of, table_of}
 use Rattle.script_meaning.specs.Scheme.{falls_out}
-use Rattle.script_compiler.specs.Laying.{tables, lays_nothing}
+use Rattle.script_compiler.specs.Laying.{tables, lays_nothing, facts_of}
+use Rattle.script_compiler.specs.declared.context.BlockFacts.{BlockFacts}
 
 table_more : (table : List Block) (bs : List (List Statement)) (b : List Statement) → table_of table (bs ++ b ∷ []) ≡ table_of table bs ++ block_of (table_of table bs) b ∷ []
 table_more table [] b = refl
@@ -14,22 +15,21 @@ take_items [] k b is lt = absurd (omega (arith, lt))
 take_items (x ∷ bs) zero b is lt = ap (λ (v : Vec Statement Global). v.items ∷ []) (sym is)
 take_items (x ∷ bs) (suc k) b is lt = ap (λ xs. x.items ∷ xs) (take_items bs k b is (omega (arith, lt)))
 
-map_more : (xs : List Block) (b : Block) → map falls_out (xs ++ b ∷ []) ≡ map falls_out xs ++ falls_out b ∷ []
+map_more : (xs : List Block) (b : Block) → map facts_of (xs ++ b ∷ []) ≡ map facts_of xs ++ facts_of b ∷ []
 map_more [] b = refl
-map_more (x ∷ xs) b = ap (λ ys. falls_out x ∷ ys) (map_more xs b)
+map_more (x ∷ xs) b = ap (λ ys. facts_of x ∷ ys) (map_more xs b)
 
-pub known_more : (bs : List (Vec Statement Global)) (k : ℕ) (b : Vec Statement Global) (known : List Bool) (f : Bool) → b ≡ get_or bs k b → k < length bs → known ≡ map falls_out (tables (take k bs)) → f ≡ falls_out (block_of (tables (take k bs)) b.items) → known ++ f ∷ [] ≡ map falls_out (tables (take (k + 1) bs))
-known_more bs k b known f is lt e h =
+abbrev pub told : Bool → Bool → BlockFacts
+told f g = record { reaches_end = f; emits_nothing = g }
+
+both_facts : (b : Block) (f g : Bool) → f ≡ falls_out b → g ≡ lays_nothing b → told f g ≡ facts_of b
+both_facts b f g e h = ap (λ x. told x g) e ∙ ap (λ x. told (falls_out b) x) h
+
+pub facts_more :
+    (bs : List (Vec Statement Global)) (k : ℕ) (b : Vec Statement Global) (facts : List BlockFacts) (f g : Bool) → b ≡ get_or bs k b → k < length bs → facts ≡ map facts_of (tables (take k bs)) →
+    f ≡ falls_out (block_of (tables (take k bs)) b.items) → g ≡ lays_nothing (block_of (tables (take k bs)) b.items) →
+    facts ++ told f g ∷ [] ≡ map facts_of (tables (take (k + 1) bs))
+facts_more bs k b facts f g is lt e h h2 =
     let one : suc k ≡ k + 1 = omega arith in
-    ap (λ xs. xs ++ f ∷ []) e ∙ ap (λ x. map falls_out (tables (take k bs)) ++ x ∷ []) h ∙ sym (map_more (tables (take k bs)) (block_of (tables (take k bs)) b.items))
-    ∙ ap (λ xs. map falls_out xs) (sym (table_more [] (map (λ v. v.items) (take k bs)) b.items)) ∙ ap (λ xs. map falls_out (table_of [] xs)) (sym (take_items bs k b is lt)) ∙ ap (λ n. map falls_out (tables (take n bs))) one
-
-silent_map : (xs : List Block) (b : Block) → map lays_nothing (xs ++ b ∷ []) ≡ map lays_nothing xs ++ lays_nothing b ∷ []
-silent_map [] b = refl
-silent_map (x ∷ xs) b = ap (λ ys. lays_nothing x ∷ ys) (silent_map xs b)
-
-pub silent_more : (bs : List (Vec Statement Global)) (k : ℕ) (b : Vec Statement Global) (known : List Bool) (f : Bool) → b ≡ get_or bs k b → k < length bs → known ≡ map lays_nothing (tables (take k bs)) → f ≡ lays_nothing (block_of (tables (take k bs)) b.items) → known ++ f ∷ [] ≡ map lays_nothing (tables (take (k + 1) bs))
-silent_more bs k b known f is lt e h =
-    let one : suc k ≡ k + 1 = omega arith in
-    ap (λ xs. xs ++ f ∷ []) e ∙ ap (λ x. map lays_nothing (tables (take k bs)) ++ x ∷ []) h ∙ sym (silent_map (tables (take k bs)) (block_of (tables (take k bs)) b.items))
-    ∙ ap (λ xs. map lays_nothing xs) (sym (table_more [] (map (λ v. v.items) (take k bs)) b.items)) ∙ ap (λ xs. map lays_nothing (table_of [] xs)) (sym (take_items bs k b is lt)) ∙ ap (λ n. map lays_nothing (tables (take n bs))) one
+    ap (λ xs. xs ++ told f g ∷ []) e ∙ ap (λ x. map facts_of (tables (take k bs)) ++ x ∷ []) (both_facts (block_of (tables (take k bs)) b.items) f g h h2) ∙ sym (map_more (tables (take k bs)) (block_of (tables (take k bs)) b.items))
+    ∙ ap (λ xs. map facts_of xs) (sym (table_more [] (map (λ v. v.items) (take k bs)) b.items)) ∙ ap (λ xs. map facts_of (table_of [] xs)) (sym (take_items bs k b is lt)) ∙ ap (λ n. map facts_of (tables (take n bs))) one

@@ -14,7 +14,8 @@ use Rattle.script_meaning.specs.Judged.{IsJudged, Reached}
 use Rattle.script_meaning.specs.Compiled.{nested}
 use Rattle.script_compiler.specs.Working.{Work}
 use Rattle.script_compiler.specs.declared.fault.CompileFault.{CompileFault}
-use Rattle.script_compiler.specs.Laying.{Lays, Left, Forks, ClosesIf, Turns, GoesRound, IsAfterBranches, spots_of, way, tables, lays_nothing}
+use Rattle.script_compiler.specs.Laying.{Lays, Left, Forks, ClosesIf, Turns, GoesRound, IsAfterBranches, spots_of, way, tables, lays_nothing, facts_of}
+use Rattle.script_compiler.specs.declared.context.BlockFacts.{BlockFacts}
 use Rattle.script_compiler.proofs.Trees.{statements_cut}
 use Rattle.script_compiler.proofs.Laid.{left_act, left_when, left_either, left_repeat, left_forever, left_then, left_apply, left_start}
 use Rattle.script_compiler.proofs.Weight.{tables_take, tables_length}
@@ -100,25 +101,25 @@ module _ (plan : Plan) (r : ℕ) (table : List Block) (ss : List Statement) (k :
 
 -- ---- blocks by number
 
-map_length : (P : Block → Bool) (xs : List Block) → length (map P xs) ≡ length xs
+map_length : (P : Block → BlockFacts) (xs : List Block) → length (map P xs) ≡ length xs
 map_length P [] = refl
 map_length P (x ∷ xs) = omega (arith, map_length P xs)
 
-take_map : (P : Block → Bool) (k : ℕ) (xs : List Block) → take k (map P xs) ≡ map P (take k xs)
+take_map : (P : Block → BlockFacts) (k : ℕ) (xs : List Block) → take k (map P xs) ≡ map P (take k xs)
 take_map P zero xs = refl
 take_map P (suc k) [] = refl
 take_map P (suc k) (x ∷ xs) = ap (λ ys. P x ∷ ys) (take_map P k xs)
 
-pub told_length : (P : Block → Bool) (told : List Bool) (bs : List (Vec Statement Global)) → told ≡ map P (tables bs) → length told ≡ length bs
-told_length P told bs e = ap length e ∙ map_length P (tables bs) ∙ tables_length bs
+pub facts_length : (facts : List BlockFacts) (bs : List (Vec Statement Global)) → facts ≡ map facts_of (tables bs) → length facts ≡ length bs
+facts_length facts bs e = ap length e ∙ map_length facts_of (tables bs) ∙ tables_length bs
 
-pub told_take : (P : Block → Bool) (told : List Bool) (bs : List (Vec Statement Global)) (k : ℕ) → told ≡ map P (tables bs) → take k told ≡ map P (tables (take k bs))
-told_take P told bs k e = ap (λ xs. take k xs) e ∙ take_map P k (tables bs) ∙ ap (λ xs. map P xs) (sym (tables_take bs k))
+pub facts_take : (facts : List BlockFacts) (bs : List (Vec Statement Global)) (k : ℕ) → facts ≡ map facts_of (tables bs) → take k facts ≡ map facts_of (tables (take k bs))
+facts_take facts bs k e = ap (λ xs. take k xs) e ∙ take_map facts_of k (tables bs) ∙ ap (λ xs. map facts_of xs) (sym (tables_take bs k))
 
-silent_named : (table : List Block) (silent : List Bool) (k : ℕ) (d : Bool) → silent ≡ map lays_nothing table → k < length silent → lays_nothing (named_at table k) ≡ get_or silent k d
-silent_named table silent k d e lt = by table k (omega (arith, lt, ap length e)) ∙ ap (λ xs. get_or xs k d) (sym e)
+silent_named : (table : List Block) (facts : List BlockFacts) (k : ℕ) (d : BlockFacts) → facts ≡ map facts_of table → k < length facts → lays_nothing (named_at table k) ≡ (get_or facts k d).emits_nothing
+silent_named table facts k d e lt = by table k (omega (arith, lt, ap length e)) ∙ ap (λ xs. (get_or xs k d).emits_nothing) (sym e)
   where
-    by : (xs : List Block) (k : ℕ) → k < length (map lays_nothing xs) → lays_nothing (named_at xs k) ≡ get_or (map lays_nothing xs) k d
+    by : (xs : List Block) (k : ℕ) → k < length (map facts_of xs) → lays_nothing (named_at xs k) ≡ (get_or (map facts_of xs) k d).emits_nothing
     by [] k lt = absurd (omega (arith, lt))
     by (x ∷ xs) zero lt = refl
     by (x ∷ xs) (suc k) lt = by xs k (omega (arith, lt))
@@ -152,10 +153,10 @@ silent_block plan (apply line k name rest) s h =
     }
 
 -- a block without an instruction leaves all as it is
-pub silent_step : (plan : Plan) (r line : ℕ) (bs : List (Vec Statement Global)) (s : Statement) (name k : ℕ) (silent : List Bool) (w : Work) → r ≤ 8 → ((rest : Block) → before (tables bs) s rest ≡ apply line name (named_at (tables bs) name) rest) → k ≡ name → silent ≡ map lays_nothing (tables bs) → k < length silent → get_or silent k false ≡ true → (rest : Block) → Left plan r (before (tables bs) s rest) w w true rest
-silent_step plan r line bs s name k silent w deep e ek es lt is_silent rest =
+pub silent_step : (plan : Plan) (r line : ℕ) (bs : List (Vec Statement Global)) (s : Statement) (name k : ℕ) (facts : List BlockFacts) (d : BlockFacts) (w : Work) → r ≤ 8 → ((rest : Block) → before (tables bs) s rest ≡ apply line name (named_at (tables bs) name) rest) → k ≡ name → facts ≡ map facts_of (tables bs) → k < length facts → (get_or facts k d).emits_nothing ≡ true → (rest : Block) → Left plan r (before (tables bs) s rest) w w true rest
+silent_step plan r line bs s name k facts d w deep e ek es lt is_silent rest =
     let b = named_at (tables bs) name in
-    let is : lays_nothing b ≡ true = ap (λ n. lays_nothing (named_at (tables bs) n)) (sym ek) ∙ silent_named (tables bs) silent k false es lt ∙ is_silent in
+    let is : lays_nothing b ≡ true = ap (λ n. lays_nothing (named_at (tables bs) n)) (sym ek) ∙ silent_named (tables bs) facts k d es lt ∙ is_silent in
     let h = silent_block plan b w.now is in
     let none : Left plan r b w w true nothing = record {
       laid = [];

@@ -9,10 +9,11 @@ use Rattle.plan_flow.specs.declared.cause.Cause.{Cause}
 use Rattle.script_front.specs.declared.tree.Statement.{Statement}
 use Rattle.script_front.specs.Block.{Block, nothing, apply, table_of}
 use Rattle.script_meaning.specs.declared.flow.Spot.{Spot}
-use Rattle.script_meaning.specs.Scheme.{Place, onward, spot_after, places, marks_of, alone, past, at_label, meet, join}
+use Rattle.script_meaning.specs.Scheme.{Place, onward, spot_after, places, marks_of, alone, past, at_label, meet, join, falls_out}
 use Rattle.script_meaning.specs.Judged.{IsJudged, Reached, WaysAgree, BranchesAgree, ComesRound}
 use Rattle.script_meaning.specs.Refused.{IsRefusedIn, IsRefusedAfter}
 use Rattle.script_meaning.specs.Compiled.{lines_of_places, nested}
+use Rattle.script_compiler.specs.declared.context.BlockFacts.{BlockFacts}
 use Rattle.script_compiler.specs.Working.{Work}
 
 -- the meanings of defined blocks
@@ -24,6 +25,10 @@ abbrev pub lays_nothing : Block → Bool
 lays_nothing nothing = true
 lays_nothing (apply line number named rest) = lays_nothing named && lays_nothing rest
 lays_nothing _ = false
+
+-- what the compiler knows of a block before it lays it down
+abbrev pub facts_of : Block → BlockFacts
+facts_of b = record { reaches_end = falls_out b; emits_nothing = lays_nothing b }
 
 -- these places have been added, and nothing more is saved
 pub record Lays (old new : Work) (ps : List Place) : Type 0 where

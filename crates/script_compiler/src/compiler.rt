@@ -4,13 +4,13 @@ ghost use Rattle.std.specs.Prelude.{◌≡◌, ◌≢◌, ℕ, ◌+◌, ◌<◌,
 ghost use Rattle.script_compiler.specs.Costs.{HasCostAt, IsCostRefused};
 ghost use Rattle.script_compiler.specs.Longest.{longest};
 ghost use Rattle.plan_flow.specs.Rules.{pages_alone};
-ghost use Rattle.script_meaning.specs.Scheme.{falls_out, all_places, marks_of};
+ghost use Rattle.script_meaning.specs.Scheme.{all_places, marks_of};
 ghost use Rattle.script_meaning.specs.Compiled.{plan_of, lines_of_places, body_of, beginning, opening_of, places_of, instrs_of, nested, AreFine, Tabled, IsCodeOf, CostsItsNeeds, IsAccepted};
 ghost use Rattle.script_meaning.specs.Judged.{IsJudged};
 ghost use Rattle.script_meaning.specs.Need.{IsWithinBudget};
 ghost use Rattle.mux_config.specs.Configuration.{nothing};
 ghost use Rattle.mux_config.specs.Sound.{IsSound};
-ghost use Rattle.script_compiler.specs.Laying.{tables, lays_nothing};
+ghost use Rattle.script_compiler.specs.Laying.{tables, facts_of};
 ghost use Rattle.script_meaning.specs.Refused.{IsRefusedIn, IsRefused};
 ghost use Rattle.plan_flow.specs.declared.cause.Cause.TheVariants.{Cost};
 ghost use Rattle.script_compiler.specs.Refusals.{IsRefusal, IfRefused, IfLimit};
@@ -21,6 +21,7 @@ ghost use Rattle.plan_code.specs.Program.{IsProgram};
 ghost use Rattle.plan_verifier.specs.Typing.{IsTyped};
 ghost use Rattle.script_meaning.specs.Meaning.{PlaysAsItReads};
 
+use crate::context::{BlockFacts, Context};
 use crate::cost::costly;
 use crate::falls::{all_fall, all_silent};
 use crate::fault::CompileFault;
@@ -35,28 +36,20 @@ use script_front::{Script, Statement};
 use script_meaning::laws;
 use std::alloc::{AllocError, Global};
 
-/// Whether what follows each of these blocks can be reached.
-fn known_of(alloc: Global, blocks: &[Vec<Statement>]) -> Result<Vec<bool>, AllocError>
-    ensures { IfOk result (λ v. v.items ≡ map falls_out (tables blocks.now)) }
+/// What is known of each of these blocks.
+fn facts_of(alloc: Global, blocks: &[Vec<Statement>]) -> Result<Vec<BlockFacts>, AllocError>
+    ensures { IfOk result (λ v. v.items ≡ map facts_of (tables blocks.now)) }
 {
-    let mut known = Vec::new(alloc);
+    let mut facts = Vec::new(alloc);
     for block in blocks {
-        let falls = all_fall(&known, block);
-        known.push(falls)?;
+        let reaches_end = all_fall(&facts, block);
+        let emits_nothing = all_silent(&facts, block);
+        facts.push(BlockFacts {
+            reaches_end,
+            emits_nothing,
+        })?;
     }
-    Ok(known)
-}
-
-/// Whether each of these blocks has no instruction.
-fn silent_of(alloc: Global, blocks: &[Vec<Statement>]) -> Result<Vec<bool>, AllocError>
-    ensures { IfOk result (λ v. v.items ≡ map lays_nothing (tables blocks.now)) }
-{
-    let mut known = Vec::new(alloc);
-    for block in blocks {
-        let silent = all_silent(&known, block);
-        known.push(silent)?;
-    }
-    Ok(known)
+    Ok(facts)
 }
 
 /// What a script declares.
@@ -95,17 +88,15 @@ fn lay(alloc: Global, plan: &Plan, script: &Script, config: &Config) -> Result<L
         (all_places plan.now script.now.last_line (body_of script.now) (beginning config.now))
         → ⊥)) }
 {
-    let known = known_of(alloc, script.blocks())?;
-    let silent = silent_of(alloc, script.blocks())?;
+    let facts = facts_of(alloc, script.blocks())?;
     let mut work = Work::new(alloc, config);
-    let falls = match work.block(
+    let context = Context {
         plan,
-        &known,
-        &silent,
-        script.blocks(),
-        0,
-        script.statements(),
-    ) {
+        blocks: script.blocks(),
+        facts: &facts,
+        counters: 0,
+    };
+    let falls = match work.block(context, script.statements()) {
         Ok(falls) => falls,
         Err(fault) => return Err(fault),
     };

@@ -3,18 +3,19 @@
 ghost use Rattle.std.specs.Prelude.{◌≡◌, map, List};
 ghost use Rattle.script_front.specs.Block.{Block, nothing, block_of, before};
 ghost use Rattle.script_meaning.specs.Scheme.{falls_out};
-ghost use Rattle.script_compiler.specs.Laying.{lays_nothing};
+ghost use Rattle.script_compiler.specs.Laying.{lays_nothing, facts_of};
 
+use crate::context::BlockFacts;
 use script_front::Statement;
 
 /// Whether what follows these statements can be reached, where it is known of the blocks that they apply.
 #[cycle(falls)]
-pub(crate) fn all_fall(known: &[bool], statements: &[Statement]) -> bool
-    ensures { (table : List Block) → known.now ≡ map falls_out table → result
+pub(crate) fn all_fall(facts: &[BlockFacts], statements: &[Statement]) -> bool
+    ensures { (table : List Block) → facts.now ≡ map facts_of table → result
         ≡ falls_out (block_of table statements.now) }
 {
     for statement in statements {
-        if !falls(known, statement) {
+        if !falls(facts, statement) {
             return false;
         }
     }
@@ -23,19 +24,19 @@ pub(crate) fn all_fall(known: &[bool], statements: &[Statement]) -> bool
 
 /// Whether what follows this statement can be reached.
 #[cycle(falls)]
-fn falls(known: &[bool], statement: &Statement) -> bool
-    ensures { (table : List Block) → known.now ≡ map falls_out table → result
+fn falls(facts: &[BlockFacts], statement: &Statement) -> bool
+    ensures { (table : List Block) → facts.now ≡ map facts_of table → result
         ≡ falls_out (before table statement.now nothing) }
 {
     match statement {
         Statement::End { .. } => false,
         Statement::Forever { .. } => false,
-        Statement::IfElse { first, second, .. } => all_fall(known, first)
-            || all_fall(known, second),
-        Statement::Repeat { body, .. } => all_fall(known, body),
+        Statement::IfElse { first, second, .. } => all_fall(facts, first)
+            || all_fall(facts, second),
+        Statement::Repeat { body, .. } => all_fall(facts, body),
         Statement::Apply { block, .. } => {
             let number = usize::from(block.get());
-            number >= known.len() || known[number]
+            number >= facts.len() || facts[number].reaches_end
         }
         Statement::Act { .. } => true,
         Statement::If { .. } => true,
@@ -43,12 +44,12 @@ fn falls(known: &[bool], statement: &Statement) -> bool
 }
 
 /// Whether these statements have no instruction, where it is known of the blocks that they apply.
-pub(crate) fn all_silent(known: &[bool], statements: &[Statement]) -> bool
-    ensures { (table : List Block) → known.now ≡ map lays_nothing table → result
+pub(crate) fn all_silent(facts: &[BlockFacts], statements: &[Statement]) -> bool
+    ensures { (table : List Block) → facts.now ≡ map facts_of table → result
         ≡ lays_nothing (block_of table statements.now) }
 {
     for statement in statements {
-        if !is_silent(known, statement) {
+        if !is_silent(facts, statement) {
             return false;
         }
     }
@@ -56,14 +57,14 @@ pub(crate) fn all_silent(known: &[bool], statements: &[Statement]) -> bool
 }
 
 /// Whether this statement has no instruction.
-fn is_silent(known: &[bool], statement: &Statement) -> bool
-    ensures { (table : List Block) → known.now ≡ map lays_nothing table → result
+fn is_silent(facts: &[BlockFacts], statement: &Statement) -> bool
+    ensures { (table : List Block) → facts.now ≡ map facts_of table → result
         ≡ lays_nothing (before table statement.now nothing) }
 {
     match statement {
         Statement::Apply { block, .. } => {
             let number = usize::from(block.get());
-            number >= known.len() || known[number]
+            number >= facts.len() || facts[number].emits_nothing
         }
         Statement::Act { .. } => false,
         Statement::End { .. } => false,

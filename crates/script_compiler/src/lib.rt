@@ -8,6 +8,7 @@
 
 mod branches;
 pub mod compiler;
+mod context;
 mod cost;
 mod falls;
 pub mod fault;

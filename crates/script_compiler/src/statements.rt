@@ -2,19 +2,19 @@
 
 ghost use Rattle.std.specs.Prelude.{◌≡◌, ◌≤◌, ◌<◌, List, length, map, OnOk, IfOk, IfErr};
 ghost use Rattle.script_front.specs.Block.{Block, nothing, when, either, repeat, forever, block_of, before};
-ghost use Rattle.script_meaning.specs.Scheme.{falls_out};
 ghost use Rattle.plan_flow.specs.declared.cause.Cause.TheVariants.{Table};
 ghost use Rattle.script_meaning.specs.Judged.{IsJudged};
 ghost use Rattle.script_meaning.specs.Refused.{IsRefusedIn, IsUnreached};
-ghost use Rattle.script_compiler.specs.Laying.{Left, tables, lays_nothing};
+ghost use Rattle.script_compiler.specs.Laying.{Left, tables, facts_of};
 ghost use Rattle.script_compiler.specs.Refusals.{IsRefusal, IfRefused, IfLimit};
 ghost use Rattle.script_compiler.specs.Space.{HasTable, CanLay};
 
+use crate::context::Context;
 use crate::falls::all_fall;
 use crate::fault::{CodeLimit, CompileFault};
 use crate::refusal::refused;
 use crate::work::Work;
-use plan_code::{ContactId, CounterId, Instr, Plan, Times};
+use plan_code::{ContactId, CounterId, Instr, Times};
 use plan_flow::Cause;
 use script_front::Statement;
 
@@ -39,36 +39,32 @@ impl Work {
     #[cycle(work)]
     pub(crate) fn block(
         &mut self,
-        plan: &Plan,
-        known: &[bool],
-        silent: &[bool],
-        blocks: &[Vec<Statement>],
-        counters: u8,
+        context: Context,
         statements: &[Statement],
     ) -> Result<bool, CompileFault>
         requires room { length self.old.lines.items ≤ 4096 }
-        requires counters { counters ≤ 8 }
-        requires known { known.now ≡ map falls_out (tables blocks.now) }
-        requires silent { silent.now ≡ map lays_nothing (tables blocks.now) }
+        requires counters { context.counters ≤ 8 }
+        requires facts { context.facts.now ≡ map facts_of (tables context.blocks.now) }
         requires table { HasTable self.old }
-        ensures left { IfOk result (λ f. Left plan.now counters
-            (block_of (tables blocks.now) statements.now) self.old
+        ensures left { IfOk result (λ f. Left context.entry.plan.now context.entry.counters
+            (block_of (tables context.entry.blocks.now) statements.now) self.old
             self.new f nothing) }
         ensures room { OnOk result (length self.new.lines.items ≤ 4096) }
-        ensures refused { IfErr result (λ e. IsRefusal e → IsJudged plan.now
-            (block_of (tables blocks.now) statements.now) self.old.now → ⊥) }
-        ensures why { IfErr result (λ e. IfRefused e (λ at given. IsRefusedIn plan.now
-            (block_of (tables blocks.now) statements.now) self.old.now at given)) }
+        ensures refused { IfErr result (λ e. IsRefusal e → IsJudged context.entry.plan.now
+            (block_of (tables context.entry.blocks.now) statements.now) self.old.now → ⊥) }
+        ensures why { IfErr result (λ e. IfRefused e (λ at given. IsRefusedIn context.entry.plan.now
+            (block_of (tables context.entry.blocks.now) statements.now) self.old.now at given)) }
         ensures table { OnOk result (HasTable self.new) }
-        ensures limited { IfErr result (λ e. IfLimit e (λ _ limit. CanLay limit plan.now counters
-            (block_of (tables blocks.now) statements.now) self.old → ⊥)) }
+        ensures limited { IfErr result (λ e. IfLimit e (λ _ limit. CanLay limit
+            context.entry.plan.now context.entry.counters (block_of (tables
+            context.entry.blocks.now) statements.now) self.old → ⊥)) }
     {
         let mut goes_on = true;
         for statement in statements {
             if !goes_on {
                 return Err(refused(line_of(statement), Cause::Table));
             }
-            goes_on = match self.statement(plan, known, silent, blocks, counters, statement) {
+            goes_on = match self.statement(context, statement) {
                 Ok(falls) => falls,
                 Err(fault) => return Err(fault),
             };
@@ -78,36 +74,30 @@ impl Work {
 
     /// One statement, of which it answers whether what follows can be reached.
     #[cycle(work)]
-    fn statement(
-        &mut self,
-        plan: &Plan,
-        known: &[bool],
-        silent: &[bool],
-        blocks: &[Vec<Statement>],
-        counters: u8,
-        statement: &Statement,
-    ) -> Result<bool, CompileFault>
+    fn statement(&mut self, context: Context, statement: &Statement) -> Result<bool, CompileFault>
         requires room { length self.old.lines.items ≤ 4096 }
-        requires counters { counters ≤ 8 }
-        requires known { known.now ≡ map falls_out (tables blocks.now) }
-        requires silent { silent.now ≡ map lays_nothing (tables blocks.now) }
+        requires counters { context.counters ≤ 8 }
+        requires facts { context.facts.now ≡ map facts_of (tables context.blocks.now) }
         requires table { HasTable self.old }
-        ensures left { IfOk result (λ f. (rest : Block) → Left plan.now counters
-            (before (tables blocks.now) statement.now rest) self.old
-            self.new f rest) }
+        ensures left { IfOk result (λ f. (rest : Block) → Left context.entry.plan.now
+            context.entry.counters (before (tables context.entry.blocks.now) statement.now rest)
+            self.old self.new f rest) }
         ensures room { OnOk result (length self.new.lines.items ≤ 4096) }
-        ensures refused { IfErr result (λ e. IsRefusal e → (rest : Block) → IsJudged plan.now
-            (before (tables blocks.now) statement.now rest) self.old.now → ⊥) }
+        ensures refused { IfErr result (λ e. IsRefusal e → (rest : Block) → IsJudged
+            context.entry.plan.now (before (tables context.entry.blocks.now) statement.now rest)
+            self.old.now → ⊥) }
         ensures why { IfErr result (λ e. (rest : Block) → IfRefused e (λ at given. IsRefusedIn
-            plan.now (before (tables blocks.now) statement.now rest) self.old.now at given)) }
+            context.entry.plan.now (before (tables context.entry.blocks.now) statement.now rest)
+            self.old.now at given)) }
         ensures table { OnOk result (HasTable self.new) }
         ensures limited { IfErr result (λ e. IfLimit e (λ _ limit. (rest : Block) → CanLay limit
-            plan.now counters (before (tables blocks.now) statement.now rest) self.old → ⊥)) }
+            context.entry.plan.now context.entry.counters (before (tables context.entry.blocks.now)
+            statement.now rest) self.old → ⊥)) }
     {
         match statement {
-            Statement::Act { line, act } => self.act(plan, *line, counters, act),
+            Statement::Act { line, act } => self.act(context.plan, *line, context.counters, act),
             Statement::End { line } => {
-                if let Err(fault) = self.put(*line, counters, Instr::End) {
+                if let Err(fault) = self.put(*line, context.counters, Instr::End) {
                     return Err(fault);
                 }
                 Ok(false)
@@ -116,39 +106,29 @@ impl Work {
                 line,
                 contact,
                 first,
-            } => self.when(
-                plan, known, silent, blocks, counters, *line, *contact, first,
-            ),
+            } => self.when(context, *line, *contact, first),
             Statement::IfElse {
                 line,
                 contact,
                 first,
                 second,
-            } => self.either(
-                plan, known, silent, blocks, counters, *line, *contact, first, second,
-            ),
-            Statement::Repeat { line, times, body } => {
-                self.repeat(plan, known, silent, blocks, counters, *line, *times, body)
-            }
-            Statement::Forever { line, body } => {
-                self.forever(plan, known, silent, blocks, counters, *line, body)
-            }
+            } => self.either(context, *line, *contact, first, second),
+            Statement::Repeat { line, times, body } => self.repeat(context, *line, *times, body),
+            Statement::Forever { line, body } => self.forever(context, *line, body),
             Statement::Apply { block, .. } => {
                 let number = usize::from(block.get());
-                if number >= blocks.len() {
+                if number >= context.blocks.len() {
                     return Ok(true);
                 }
-                if silent[number] {
+                if context.facts[number].emits_nothing {
                     return Ok(true);
                 }
-                self.block(
-                    plan,
-                    &known[..number],
-                    &silent[..number],
-                    &blocks[..number],
-                    counters,
-                    &blocks[number],
-                )
+                let inner = Context {
+                    blocks: &context.blocks[..number],
+                    facts: &context.facts[..number],
+                    ..context
+                };
+                self.block(inner, &context.blocks[number])
             }
         }
     }
@@ -157,39 +137,35 @@ impl Work {
     #[cycle(work)]
     fn when(
         &mut self,
-        plan: &Plan,
-        known: &[bool],
-        silent: &[bool],
-        blocks: &[Vec<Statement>],
-        counters: u8,
+        context: Context,
         line: u16,
         contact: ContactId,
         first: &[Statement],
     ) -> Result<bool, CompileFault>
         requires room { length self.old.lines.items ≤ 4096 }
-        requires counters { counters ≤ 8 }
-        requires known { known.now ≡ map falls_out (tables blocks.now) }
-        requires silent { silent.now ≡ map lays_nothing (tables blocks.now) }
+        requires counters { context.counters ≤ 8 }
+        requires facts { context.facts.now ≡ map facts_of (tables context.blocks.now) }
         requires table { HasTable self.old }
-        ensures left { IfOk result (λ f. (rest : Block) → Left plan.now counters (when line
-            contact (block_of (tables blocks.now) first.now) rest) self.old
-            self.new f rest) }
+        ensures left { IfOk result (λ f. (rest : Block) → Left context.entry.plan.now
+            context.entry.counters (when line contact (block_of (tables context.entry.blocks.now)
+            first.now) rest) self.old self.new f rest) }
         ensures room { OnOk result (length self.new.lines.items ≤ 4096) }
-        ensures refused { IfErr result (λ e. IsRefusal e → (rest : Block) → IsJudged plan.now
-            (when line contact (block_of (tables blocks.now) first.now) rest) self.old.now → ⊥) }
+        ensures refused { IfErr result (λ e. IsRefusal e → (rest : Block) → IsJudged
+            context.entry.plan.now (when line contact (block_of (tables context.entry.blocks.now)
+            first.now) rest) self.old.now → ⊥) }
         ensures why { IfErr result (λ e. (rest : Block) → IfRefused e (λ at given. IsRefusedIn
-            plan.now (when line contact (block_of (tables blocks.now) first.now) rest)
-            self.old.now at given)) }
+            context.entry.plan.now (when line contact (block_of (tables context.entry.blocks.now)
+            first.now) rest) self.old.now at given)) }
         ensures table { OnOk result (HasTable self.new) }
         ensures limited { IfErr result (λ e. IfLimit e (λ _ limit. (rest : Block) → CanLay limit
-            plan.now counters (when line contact (block_of (tables blocks.now) first.now) rest)
-            self.old → ⊥)) }
+            context.entry.plan.now context.entry.counters (when line contact (block_of (tables
+            context.entry.blocks.now) first.now) rest) self.old → ⊥)) }
     {
         let at = self.len();
-        if let Err(fault) = self.fork(line, counters, Instr::Test { contact, target: 0 }) {
+        if let Err(fault) = self.fork(line, context.counters, Instr::Test { contact, target: 0 }) {
             return Err(fault);
         }
-        let falls = match self.block(plan, known, silent, blocks, counters, first) {
+        let falls = match self.block(context, first) {
             Ok(falls) => falls,
             Err(fault) => return Err(fault),
         };
@@ -200,50 +176,48 @@ impl Work {
     #[cycle(work)]
     fn either(
         &mut self,
-        plan: &Plan,
-        known: &[bool],
-        silent: &[bool],
-        blocks: &[Vec<Statement>],
-        counters: u8,
+        context: Context,
         line: u16,
         contact: ContactId,
         first: &[Statement],
         second: &[Statement],
     ) -> Result<bool, CompileFault>
         requires room { length self.old.lines.items ≤ 4096 }
-        requires counters { counters ≤ 8 }
-        requires known { known.now ≡ map falls_out (tables blocks.now) }
-        requires silent { silent.now ≡ map lays_nothing (tables blocks.now) }
+        requires counters { context.counters ≤ 8 }
+        requires facts { context.facts.now ≡ map facts_of (tables context.blocks.now) }
         requires table { HasTable self.old }
-        ensures left { IfOk result (λ f. (rest : Block) → Left plan.now counters (either line
-            contact (block_of (tables blocks.now) first.now) (block_of (tables blocks.now)
-            second.now) rest) self.old
+        ensures left { IfOk result (λ f. (rest : Block) → Left context.entry.plan.now
+            context.entry.counters (either line contact (block_of (tables context.entry.blocks.now)
+            first.now) (block_of (tables context.entry.blocks.now) second.now) rest) self.old
             self.new f rest) }
         ensures room { OnOk result (length self.new.lines.items ≤ 4096) }
-        ensures refused { IfErr result (λ e. IsRefusal e → (rest : Block) → IsJudged plan.now
-            (either line contact (block_of (tables blocks.now) first.now)
-            (block_of (tables blocks.now) second.now) rest) self.old.now → ⊥) }
+        ensures refused { IfErr result (λ e. IsRefusal e → (rest : Block) → IsJudged
+            context.entry.plan.now (either line contact (block_of (tables context.entry.blocks.now)
+            first.now) (block_of (tables context.entry.blocks.now) second.now) rest) self.old.now →
+            ⊥) }
         ensures why { IfErr result (λ e. (rest : Block) → IfRefused e (λ at given. IsRefusedIn
-            plan.now (either line contact (block_of (tables blocks.now) first.now)
-            (block_of (tables blocks.now) second.now) rest) self.old.now at given)) }
+            context.entry.plan.now (either line contact (block_of (tables context.entry.blocks.now)
+            first.now) (block_of (tables context.entry.blocks.now) second.now) rest) self.old.now at
+            given)) }
         ensures table { OnOk result (HasTable self.new) }
         ensures limited { IfErr result (λ e. IfLimit e (λ _ limit. (rest : Block) → CanLay limit
-            plan.now counters (either line contact (block_of (tables blocks.now) first.now)
-            (block_of (tables blocks.now) second.now) rest) self.old → ⊥)) }
+            context.entry.plan.now context.entry.counters (either line contact (block_of (tables
+            context.entry.blocks.now) first.now) (block_of (tables context.entry.blocks.now)
+            second.now) rest) self.old → ⊥)) }
     {
         let at = self.len();
-        if let Err(fault) = self.fork(line, counters, Instr::Test { contact, target: 0 }) {
+        if let Err(fault) = self.fork(line, context.counters, Instr::Test { contact, target: 0 }) {
             return Err(fault);
         }
-        let first_falls = match self.block(plan, known, silent, blocks, counters, first) {
+        let first_falls = match self.block(context, first) {
             Ok(falls) => falls,
             Err(fault) => return Err(fault),
         };
         let jump = self.len();
-        if let Err(fault) = self.turn(first_falls, line, counters, contact, at) {
+        if let Err(fault) = self.turn(first_falls, line, context.counters, contact, at) {
             return Err(fault);
         }
-        let second_falls = match self.block(plan, known, silent, blocks, counters, second) {
+        let second_falls = match self.block(context, second) {
             Ok(falls) => falls,
             Err(fault) => return Err(fault),
         };
@@ -254,55 +228,55 @@ impl Work {
     #[cycle(work)]
     fn repeat(
         &mut self,
-        plan: &Plan,
-        known: &[bool],
-        silent: &[bool],
-        blocks: &[Vec<Statement>],
-        counters: u8,
+        context: Context,
         line: u16,
         times: Times,
         body: &[Statement],
     ) -> Result<bool, CompileFault>
         requires room { length self.old.lines.items ≤ 4096 }
-        requires counters { counters ≤ 8 }
-        requires known { known.now ≡ map falls_out (tables blocks.now) }
-        requires silent { silent.now ≡ map lays_nothing (tables blocks.now) }
+        requires counters { context.counters ≤ 8 }
+        requires facts { context.facts.now ≡ map facts_of (tables context.blocks.now) }
         requires table { HasTable self.old }
-        ensures left { IfOk result (λ f. (rest : Block) → Left plan.now counters (repeat line
-            times (block_of (tables blocks.now) body.now) rest) self.old
-            self.new f rest) }
+        ensures left { IfOk result (λ f. (rest : Block) → Left context.entry.plan.now
+            context.entry.counters (repeat line times (block_of (tables context.entry.blocks.now)
+            body.now) rest) self.old self.new f rest) }
         ensures room { OnOk result (length self.new.lines.items ≤ 4096) }
-        ensures refused { IfErr result (λ e. IsRefusal e → (rest : Block) → IsJudged plan.now
-            (repeat line times (block_of (tables blocks.now) body.now) rest) self.old.now → ⊥) }
+        ensures refused { IfErr result (λ e. IsRefusal e → (rest : Block) → IsJudged
+            context.entry.plan.now (repeat line times (block_of (tables context.entry.blocks.now)
+            body.now) rest) self.old.now → ⊥) }
         ensures why { IfErr result (λ e. (rest : Block) → IfRefused e (λ at given. IsRefusedIn
-            plan.now (repeat line times (block_of (tables blocks.now) body.now) rest)
-            self.old.now at given)) }
+            context.entry.plan.now (repeat line times (block_of (tables context.entry.blocks.now)
+            body.now) rest) self.old.now at given)) }
         ensures table { OnOk result (HasTable self.new) }
         ensures limited { IfErr result (λ e. IfLimit e (λ _ limit. (rest : Block) → CanLay limit
-            plan.now counters (repeat line times (block_of (tables blocks.now) body.now) rest)
-            self.old → ⊥)) }
+            context.entry.plan.now context.entry.counters (repeat line times (block_of (tables
+            context.entry.blocks.now) body.now) rest) self.old → ⊥)) }
     {
-        let Some(counter) = CounterId::new(counters) else {
+        let Some(counter) = CounterId::new(context.counters) else {
             return Err(CompileFault::Limit {
                 line,
                 limit: CodeLimit::Counters,
             });
         };
-        if let Err(fault) = self.put(line, counters, Instr::Set { counter, times }) {
+        if let Err(fault) = self.put(line, context.counters, Instr::Set { counter, times }) {
             return Err(fault);
         }
         let target = self.len() as u16;
-        if let Err(fault) = self.enter(all_fall(known, body), line) {
+        if let Err(fault) = self.enter(all_fall(context.facts, body), line) {
             return Err(fault);
         }
-        let falls = match self.block(plan, known, silent, blocks, counters + 1, body) {
+        let inner = Context {
+            counters: context.counters + 1,
+            ..context
+        };
+        let falls = match self.block(inner, body) {
             Ok(falls) => falls,
             Err(fault) => return Err(fault),
         };
         if let Err(fault) = self.go_round(
             falls,
             line,
-            counters + 1,
+            inner.counters,
             Instr::Loop { counter, target },
         ) {
             return Err(fault);
@@ -314,42 +288,38 @@ impl Work {
     #[cycle(work)]
     fn forever(
         &mut self,
-        plan: &Plan,
-        known: &[bool],
-        silent: &[bool],
-        blocks: &[Vec<Statement>],
-        counters: u8,
+        context: Context,
         line: u16,
         body: &[Statement],
     ) -> Result<bool, CompileFault>
         requires room { length self.old.lines.items ≤ 4096 }
-        requires counters { counters ≤ 8 }
-        requires known { known.now ≡ map falls_out (tables blocks.now) }
-        requires silent { silent.now ≡ map lays_nothing (tables blocks.now) }
+        requires counters { context.counters ≤ 8 }
+        requires facts { context.facts.now ≡ map facts_of (tables context.blocks.now) }
         requires table { HasTable self.old }
-        ensures left { IfOk result (λ f. (rest : Block) → Left plan.now counters (forever line
-            (block_of (tables blocks.now) body.now) rest) self.old
-            self.new f rest) }
+        ensures left { IfOk result (λ f. (rest : Block) → Left context.entry.plan.now
+            context.entry.counters (forever line (block_of (tables context.entry.blocks.now)
+            body.now) rest) self.old self.new f rest) }
         ensures room { OnOk result (length self.new.lines.items ≤ 4096) }
-        ensures refused { IfErr result (λ e. IsRefusal e → (rest : Block) → IsJudged plan.now
-            (forever line (block_of (tables blocks.now) body.now) rest) self.old.now → ⊥) }
+        ensures refused { IfErr result (λ e. IsRefusal e → (rest : Block) → IsJudged
+            context.entry.plan.now (forever line (block_of (tables context.entry.blocks.now)
+            body.now) rest) self.old.now → ⊥) }
         ensures why { IfErr result (λ e. (rest : Block) → IfRefused e (λ at given. IsRefusedIn
-            plan.now (forever line (block_of (tables blocks.now) body.now) rest)
-            self.old.now at given)) }
+            context.entry.plan.now (forever line (block_of (tables context.entry.blocks.now)
+            body.now) rest) self.old.now at given)) }
         ensures table { OnOk result (HasTable self.new) }
         ensures limited { IfErr result (λ e. IfLimit e (λ _ limit. (rest : Block) → CanLay limit
-            plan.now counters (forever line (block_of (tables blocks.now) body.now) rest) self.old
-            → ⊥)) }
+            context.entry.plan.now context.entry.counters (forever line (block_of (tables
+            context.entry.blocks.now) body.now) rest) self.old → ⊥)) }
     {
         let target = self.len() as u16;
-        if let Err(fault) = self.enter(all_fall(known, body), line) {
+        if let Err(fault) = self.enter(all_fall(context.facts, body), line) {
             return Err(fault);
         }
-        let falls = match self.block(plan, known, silent, blocks, counters, body) {
+        let falls = match self.block(context, body) {
             Ok(falls) => falls,
             Err(fault) => return Err(fault),
         };
-        if let Err(fault) = self.go_round(falls, line, counters, Instr::Jump(target)) {
+        if let Err(fault) = self.go_round(falls, line, context.counters, Instr::Jump(target)) {
             return Err(fault);
         }
         Ok(false)

@@ -18,36 +18,36 @@ pub returns-in-Ok-close-clause-lines : goal.returns-in-Ok-close-clause-lines
 returns-in-Ok-close-clause-lines c =
     let s = c.args.script.now in
     let w0 = c.new-work.result in
-    let same : block_of (tables c.blocks-4.result.now) c.statements.result.now ≡ body_of s = ap (λ xs. block_of (table_of [] xs) c.statements.result.now) c.blocks-4.ensures.value ∙ ap (λ xs. block_of (table_of [] s.blocks) xs) c.statements.ensures.value in
+    let same : block_of (tables c.blocks-3.result.now) c.statements.result.now ≡ body_of s = ap (λ xs. block_of (table_of [] xs) c.statements.result.now) c.blocks-3.ensures.value ∙ ap (λ xs. block_of (table_of [] s.blocks) xs) c.statements.ensures.value in
     let lays = subst (λ n. Lays c.block.new.self c.close.new.self (onward (way c.in-Ok.falls c.block.new.self) [] (alone n End 0))) c.last_line.ensures c.in-Ok-close.ensures.lays in
-    let whole = laid_whole c.args.plan.now s.last_line (body_of s) (block_of (tables c.blocks-4.result.now) c.statements.result.now) (beginning c.args.config.now) w0 c.block.new.self c.close.new.self c.in-Ok.falls same c.new-work.ensures.lines c.new-work.ensures.marks c.new-work.ensures.now c.in-Ok.ensures.left lays in
+    let whole = laid_whole c.args.plan.now s.last_line (body_of s) (block_of (tables c.blocks-3.result.now) c.statements.result.now) (beginning c.args.config.now) w0 c.block.new.self c.close.new.self c.in-Ok.falls same c.new-work.ensures.lines c.new-work.ensures.marks c.new-work.ensures.now c.in-Ok.ensures.left lays in
     c.into_laid.ensures.lines ∙ whole.lines
 
 pub returns-in-Ok-close-clause-marks : goal.returns-in-Ok-close-clause-marks
 returns-in-Ok-close-clause-marks c =
     let s = c.args.script.now in
     let w0 = c.new-work.result in
-    let same : block_of (tables c.blocks-4.result.now) c.statements.result.now ≡ body_of s = ap (λ xs. block_of (table_of [] xs) c.statements.result.now) c.blocks-4.ensures.value ∙ ap (λ xs. block_of (table_of [] s.blocks) xs) c.statements.ensures.value in
+    let same : block_of (tables c.blocks-3.result.now) c.statements.result.now ≡ body_of s = ap (λ xs. block_of (table_of [] xs) c.statements.result.now) c.blocks-3.ensures.value ∙ ap (λ xs. block_of (table_of [] s.blocks) xs) c.statements.ensures.value in
     let lays = subst (λ n. Lays c.block.new.self c.close.new.self (onward (way c.in-Ok.falls c.block.new.self) [] (alone n End 0))) c.last_line.ensures c.in-Ok-close.ensures.lays in
-    let whole = laid_whole c.args.plan.now s.last_line (body_of s) (block_of (tables c.blocks-4.result.now) c.statements.result.now) (beginning c.args.config.now) w0 c.block.new.self c.close.new.self c.in-Ok.falls same c.new-work.ensures.lines c.new-work.ensures.marks c.new-work.ensures.now c.in-Ok.ensures.left lays in
+    let whole = laid_whole c.args.plan.now s.last_line (body_of s) (block_of (tables c.blocks-3.result.now) c.statements.result.now) (beginning c.args.config.now) w0 c.block.new.self c.close.new.self c.in-Ok.falls same c.new-work.ensures.lines c.new-work.ensures.marks c.new-work.ensures.now c.in-Ok.ensures.left lays in
     c.into_laid.ensures.items ∙ whole.marks
 
 pub returns-in-Ok-close-clause-judged : goal.returns-in-Ok-close-clause-judged
 returns-in-Ok-close-clause-judged c =
     let s = c.args.script.now in
     let w0 = c.new-work.result in
-    let same : block_of (tables c.blocks-4.result.now) c.statements.result.now ≡ body_of s = ap (λ xs. block_of (table_of [] xs) c.statements.result.now) c.blocks-4.ensures.value ∙ ap (λ xs. block_of (table_of [] s.blocks) xs) c.statements.ensures.value in
+    let same : block_of (tables c.blocks-3.result.now) c.statements.result.now ≡ body_of s = ap (λ xs. block_of (table_of [] xs) c.statements.result.now) c.blocks-3.ensures.value ∙ ap (λ xs. block_of (table_of [] s.blocks) xs) c.statements.ensures.value in
     let lays = subst (λ n. Lays c.block.new.self c.close.new.self (onward (way c.in-Ok.falls c.block.new.self) [] (alone n End 0))) c.last_line.ensures c.in-Ok-close.ensures.lays in
-    let whole = laid_whole c.args.plan.now s.last_line (body_of s) (block_of (tables c.blocks-4.result.now) c.statements.result.now) (beginning c.args.config.now) w0 c.block.new.self c.close.new.self c.in-Ok.falls same c.new-work.ensures.lines c.new-work.ensures.marks c.new-work.ensures.now c.in-Ok.ensures.left lays in
+    let whole = laid_whole c.args.plan.now s.last_line (body_of s) (block_of (tables c.blocks-3.result.now) c.statements.result.now) (beginning c.args.config.now) w0 c.block.new.self c.close.new.self c.in-Ok.falls same c.new-work.ensures.lines c.new-work.ensures.marks c.new-work.ensures.now c.in-Ok.ensures.left lays in
     (λ _. whole.judged)
 
 pub returns-in-Ok-close-clause-repeats : goal.returns-in-Ok-close-clause-repeats
 returns-in-Ok-close-clause-repeats c =
     let s = c.args.script.now in
     let w0 = c.new-work.result in
-    let same : block_of (tables c.blocks-4.result.now) c.statements.result.now ≡ body_of s = ap (λ xs. block_of (table_of [] xs) c.statements.result.now) c.blocks-4.ensures.value ∙ ap (λ xs. block_of (table_of [] s.blocks) xs) c.statements.ensures.value in
+    let same : block_of (tables c.blocks-3.result.now) c.statements.result.now ≡ body_of s = ap (λ xs. block_of (table_of [] xs) c.statements.result.now) c.blocks-3.ensures.value ∙ ap (λ xs. block_of (table_of [] s.blocks) xs) c.statements.ensures.value in
     let lays = subst (λ n. Lays c.block.new.self c.close.new.self (onward (way c.in-Ok.falls c.block.new.self) [] (alone n End 0))) c.last_line.ensures c.in-Ok-close.ensures.lays in
-    let whole = laid_whole c.args.plan.now s.last_line (body_of s) (block_of (tables c.blocks-4.result.now) c.statements.result.now) (beginning c.args.config.now) w0 c.block.new.self c.close.new.self c.in-Ok.falls same c.new-work.ensures.lines c.new-work.ensures.marks c.new-work.ensures.now c.in-Ok.ensures.left lays in
+    let whole = laid_whole c.args.plan.now s.last_line (body_of s) (block_of (tables c.blocks-3.result.now) c.statements.result.now) (beginning c.args.config.now) w0 c.block.new.self c.close.new.self c.in-Ok.falls same c.new-work.ensures.lines c.new-work.ensures.marks c.new-work.ensures.now c.in-Ok.ensures.left lays in
     (λ _. whole.repeats)
 
 pub block-requires-clause-table : goal.block-requires-clause-table
@@ -57,32 +57,32 @@ pub returns-in-Err-clause-limited : goal.returns-in-Err-clause-limited
 returns-in-Err-clause-limited c =
     let s = c.args.script.now in
     let w0 = c.new-work.result in
-    let same : block_of (tables c.blocks-4.result.now) c.statements.result.now ≡ body_of s = ap (λ xs. block_of (table_of [] xs) c.statements.result.now) c.blocks-4.ensures.value ∙ ap (λ xs. block_of (table_of [] s.blocks) xs) c.statements.ensures.value in
+    let same : block_of (tables c.blocks-3.result.now) c.statements.result.now ≡ body_of s = ap (λ xs. block_of (table_of [] xs) c.statements.result.now) c.blocks-3.ensures.value ∙ ap (λ xs. block_of (table_of [] s.blocks) xs) c.statements.ensures.value in
     limit_map c.in-Err.fault (λ at k past judged few.
-    past (can_whole k c.args.plan.now s.last_line (body_of s) (block_of (tables c.blocks-4.result.now) c.statements.result.now) (beginning c.args.config.now) w0 same c.new-work.ensures.lines c.new-work.ensures.marks c.new-work.ensures.now judged few)) c.in-Err.ensures.limited
+    past (can_whole k c.args.plan.now s.last_line (body_of s) (block_of (tables c.blocks-3.result.now) c.statements.result.now) (beginning c.args.config.now) w0 same c.new-work.ensures.lines c.new-work.ensures.marks c.new-work.ensures.now judged few)) c.in-Err.ensures.limited
 
 pub returns-clause-limited : goal.returns-clause-limited
 returns-clause-limited c =
     let s = c.args.script.now in
     let w0 = c.new-work.result in
-    let same : block_of (tables c.blocks-4.result.now) c.statements.result.now ≡ body_of s = ap (λ xs. block_of (table_of [] xs) c.statements.result.now) c.blocks-4.ensures.value ∙ ap (λ xs. block_of (table_of [] s.blocks) xs) c.statements.ensures.value in
+    let same : block_of (tables c.blocks-3.result.now) c.statements.result.now ≡ body_of s = ap (λ xs. block_of (table_of [] xs) c.statements.result.now) c.blocks-3.ensures.value ∙ ap (λ xs. block_of (table_of [] s.blocks) xs) c.statements.ensures.value in
     limit_map c.in-Err-close.fault (λ at k past judged few.
-    let space = space_whole_end k c.args.plan.now s.last_line (body_of s) (block_of (tables c.blocks-4.result.now) c.statements.result.now) (beginning c.args.config.now) w0 c.block.new.self c.in-Ok.falls same c.new-work.ensures.lines c.new-work.ensures.marks c.new-work.ensures.now c.in-Ok.ensures.left few in
+    let space = space_whole_end k c.args.plan.now s.last_line (body_of s) (block_of (tables c.blocks-3.result.now) c.statements.result.now) (beginning c.args.config.now) w0 c.block.new.self c.in-Ok.falls same c.new-work.ensures.lines c.new-work.ensures.marks c.new-work.ensures.now c.in-Ok.ensures.left few in
     past (subst (λ n. HasSpace k c.block.new.self (onward (way c.in-Ok.falls c.block.new.self) [] (alone n End 0))) (sym c.last_line.ensures) space)) c.in-Err-close.ensures.limited
 
 pub returns-in-Err-clause-refused : goal.returns-in-Err-clause-refused
 returns-in-Err-clause-refused c = λ is judged.
     let s = c.args.script.now in
     let w0 = c.new-work.result in
-    let same : block_of (tables c.blocks-4.result.now) c.statements.result.now ≡ body_of s = ap (λ xs. block_of (table_of [] xs) c.statements.result.now) c.blocks-4.ensures.value ∙ ap (λ xs. block_of (table_of [] s.blocks) xs) c.statements.ensures.value in
+    let same : block_of (tables c.blocks-3.result.now) c.statements.result.now ≡ body_of s = ap (λ xs. block_of (table_of [] xs) c.statements.result.now) c.blocks-3.ensures.value ∙ ap (λ xs. block_of (table_of [] s.blocks) xs) c.statements.ensures.value in
     let there = subst (λ b. IsJudged c.args.plan.now b (beginning c.args.config.now)) (sym same) judged in
-    c.in-Err.ensures.refused is (subst (λ (x : Spot). IsJudged c.args.plan.now (block_of (tables c.blocks-4.result.now) c.statements.result.now) x) (sym c.new-work.ensures.now) there)
+    c.in-Err.ensures.refused is (subst (λ (x : Spot). IsJudged c.args.plan.now (block_of (tables c.blocks-3.result.now) c.statements.result.now) x) (sym c.new-work.ensures.now) there)
 
 pub returns-in-Err-clause-why : goal.returns-in-Err-clause-why
 returns-in-Err-clause-why c =
     let s = c.args.script.now in
     let w0 = c.new-work.result in
-    let same : block_of (tables c.blocks-4.result.now) c.statements.result.now ≡ body_of s = ap (λ xs. block_of (table_of [] xs) c.statements.result.now) c.blocks-4.ensures.value ∙ ap (λ xs. block_of (table_of [] s.blocks) xs) c.statements.ensures.value in
+    let same : block_of (tables c.blocks-3.result.now) c.statements.result.now ≡ body_of s = ap (λ xs. block_of (table_of [] xs) c.statements.result.now) c.blocks-3.ensures.value ∙ ap (λ xs. block_of (table_of [] s.blocks) xs) c.statements.ensures.value in
     refused_map c.in-Err.fault (λ at given k. subst (λ (x : Spot). IsRefusedIn c.args.plan.now (body_of s) x at given) c.new-work.ensures.now (subst (λ b. IsRefusedIn c.args.plan.now b w0.now at given) same k)) c.in-Err.ensures.why
 
 pub returns-clause-why : goal.returns-clause-why

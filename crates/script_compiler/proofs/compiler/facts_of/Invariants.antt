@@ -1,0 +1,6 @@
+use Rattle.std.proofs.Common.{◌≡◌, map, take}
+use Rattle.script_compiler.specs.Laying.{tables, facts_of}
+use Rattle.script_compiler.proofs.compiler.facts_of.Given as goal
+
+abbrev pub invariant-loop-block : goal.invariant-loop-block
+invariant-loop-block l = l.facts.items ≡ map facts_of (tables (take l.block-index l.blocks))
