@@ -8,7 +8,7 @@ use Rattle.script_front.specs.Tree.{Tree}
 use Rattle.script_meaning.specs.declared.flow.Spot.{Spot}
 use Rattle.script_meaning.specs.Scheme.{Place, past, at_label, meet, join, onward, head, spot_after, place_of_instr, alone, places, all_places, mark_of, marks_of, instr_of_act, falls_out}
 use Rattle.script_meaning.specs.Compiled.{nested, body_of, places_of, IsAccepted}
-use Rattle.script_compiler.specs.Room.{HasRoomFor, IsDeepAtMost, named_by}
+use Rattle.script_compiler.specs.Room.{IsDeepAtMost}
 use Rattle.script_compiler.specs.Space.{Keeps}
 use Rattle.script_compiler.specs.Limits.{IsWithin}
 use Rattle.script_compiler.specs.declared.fault.CodeLimit.{CodeLimit}

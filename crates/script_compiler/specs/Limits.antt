@@ -1,5 +1,5 @@
 -- What it means that the code of a script keeps within a limit of codes.
-use Rattle.std.specs.Prelude.{ℕ, ◌≤◌, List, [], length}
+use Rattle.std.specs.Prelude.{◌≤◌, List, [], length}
 use Rattle.mux_config.specs.Configuration.{Configuration}
 use Rattle.plan_code.specs.declared.limits.TheConstants.{MOST_CONFIGURATIONS, MOST_LABELS, MOST_INSTRUCTIONS, COUNTERS}
 use Rattle.script_front.specs.Tree.{Tree}
