@@ -149,7 +149,7 @@ fn is_plain(byte: u8) -> bool
     ensures { result ≡ true → IsPlain byte }
 {
     match kind_of(byte) {
-        Kind::Blank | Kind::LineEnd | Kind::Brace | Kind::Letter => byte < 128,
+        Kind::Blank | Kind::LineEnd | Kind::Brace | Kind::Letter => true,
         Kind::Hash | Kind::Bad => false,
     }
 }
