@@ -1,6 +1,7 @@
 -- Bytes one by one, and the characters that they form.
 use Rattle.std.proofs.Common.{◌≡◌, ℕ, ◌+◌, ◌<◌, ◌≤◌, ◌==◌, true, false, List, [], ◌∷◌, ◌++◌, length, take, refl, sym, ap, subst, ◌∙◌, arith, inl, inr, append_assoc, length-append}
 use Rattle.std.specs.Prelude.{IsUtf8}
+use Rattle.std.specs.List.{AllByRecursion}
 use Rattle.std.proofs.lemmas.Bool.{cases_lt, and_parts, eqb-true, eqb-false}
 use Rattle.std.proofs.lemmas.List.{take-append-le, take_all, append-nil}
 use Rattle.std.proofs.lemmas.Str.{IsUtf8-append, IsUtf8-drop, IsUtf8-encode, IsUtf8-from_ascii, IsUtf8-nil, IsCharBoundary-from_take, encode_ascii, length-encode, len_utf8_bounds}
@@ -8,7 +9,7 @@ use Rattle.std.proofs.Math.Seq.{take-append_seam, drop-append_seam}
 use Rattle.std.specs.Char.{encode_utf8, len_utf8}
 use Rattle.std.specs.Str.{encode_utf8_all, all_scalars, IsAscii}
 use lib.Utf8.{scalar, low_scalar}
-use Rattle.plan_session.specs.Gathered.{HaveNoCharacter, AreCharacters}
+use Rattle.plan_session.specs.Gathered.{HaveNoCharacter, AreCharacters, IsPlain}
 
 -- the rest of a text after a text is a text
 behind_text : (xs ys : List ℕ) → IsUtf8 (xs ++ ys) → IsUtf8 xs → IsUtf8 ys
@@ -85,6 +86,13 @@ ascii_bytes seen begun bytes h none small = record {
   none = h.none;
   few = h.few;
 }
+
+-- plain bytes
+pub plain_characters : (seen begun bytes : List ℕ) → AreCharacters seen begun → begun ≡ [] → AllByRecursion IsPlain bytes → AreCharacters (seen ++ bytes) begun
+plain_characters seen begun [] h none plain = subst (λ (l : List ℕ). AreCharacters l begun) (sym (append-nil seen)) h
+plain_characters seen begun (b ∷ bs) h none plain =
+    let on : AreCharacters ((seen ++ b ∷ []) ++ bs) begun = plain_characters (seen ++ b ∷ []) begun bs (one_byte seen begun b h none plain.0.0) none plain.1 in
+    subst (λ (l : List ℕ). AreCharacters l begun) (append_assoc seen (b ∷ []) bs) on
 
 with_byte : (seen begun pushed rest : List ℕ) (b : ℕ) (h : AreCharacters seen begun) → pushed ≡ begun ++ b ∷ [] → seen ++ b ∷ rest ≡ h.done ++ (pushed ++ rest)
 with_byte seen begun pushed rest b h is =

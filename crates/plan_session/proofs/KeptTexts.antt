@@ -3,6 +3,7 @@
 use Rattle.std.proofs.Common.{◌≡◌, ◌≢◌, ℕ, Bool, true, false, cond, List, [], ◌∷◌, ◌++◌, refl, sym, ap, subst, ◌∙◌, inl, inr, append_assoc, true≢false}
 use Rattle.std.proofs.lemmas.List.{append-nil}
 use Rattle.std.specs.Prelude.{◌↔◌, Result, Err, IsUtf8}
+use Rattle.std.specs.List.{AllByRecursion}
 use Rattle.script_tokens.specs.declared.token.Token.{Token}
 use Rattle.script_tokens.specs.declared.token.Kind.{Kind}
 use Rattle.script_tokens.specs.declared.token.Kind.TheVariants.{Blank, LineEnd, Hash, Brace, Letter, Bad}
@@ -18,7 +19,7 @@ use Rattle.plan_session.specs.declared.gathering.TextState.{TextState}
 use Rattle.plan_session.specs.declared.gathering.TextState.TheVariants.{Outside, InComment, Refused, Past}
 use Rattle.plan_session.specs.Items.{HoldsItems}
 use Rattle.plan_session.specs.Kept.{cut_of, IsKeptOf, KeptTextsHaveSameResult}
-use Rattle.plan_session.specs.Gathered.{is_comment, Reaches, AreRefused, past_character, state_outside, state_in_comment, state_after, IsInState}
+use Rattle.plan_session.specs.Gathered.{is_comment, Reaches, AreRefused, past_character, state_outside, state_in_comment, state_after, IsPlain, IsInState}
 
 -- ---- tokens before a fault
 
@@ -218,6 +219,28 @@ stays_past seen kept more Outside h is = absurd cc
 stays_past seen kept more InComment h is = absurd cc
 stays_past seen kept more Refused h is = absurd cc
 stays_past seen kept more Past h is = (h.0, h.1, (h.2.0 ++ more, ap (λ (l : List ℕ). l ++ more) h.2.1 ∙ append_assoc kept h.2.0 more))
+
+-- ---- plain bytes
+
+plain_on : (seen : List ℕ) (b : ℕ) (k : Kind) → kind_of b ≡ k → state_outside k true ≡ Outside → Reaches seen false → Reaches (seen ++ b ∷ []) false
+plain_on seen b Blank e plain r = reaches_on seen false false b Blank r e (good r.inside Blank refl) (stays_outside r.inside r.place Blank r.is refl)
+plain_on seen b LineEnd e plain r = reaches_on seen false false b LineEnd r e (good r.inside LineEnd refl) (stays_outside r.inside r.place LineEnd r.is refl)
+plain_on seen b Hash e plain r = absurd cc
+plain_on seen b Brace e plain r = reaches_on seen false false b Brace r e (good r.inside Brace refl) (stays_outside r.inside r.place Brace r.is refl)
+plain_on seen b Letter e plain r = reaches_on seen false false b Letter r e (good r.inside Letter refl) (stays_outside r.inside r.place Letter r.is refl)
+plain_on seen b Bad e plain r = absurd cc
+
+plain_reach : (seen bytes : List ℕ) → AllByRecursion IsPlain bytes → Reaches seen false → Reaches (seen ++ bytes) false
+plain_reach seen [] h r = subst (λ (l : List ℕ). Reaches l false) (sym (append-nil seen)) r
+plain_reach seen (b ∷ bs) h r =
+    subst (λ (l : List ℕ). Reaches l false) (append_assoc seen (b ∷ []) bs) (plain_reach (seen ++ b ∷ []) bs h.1 (plain_on seen b (kind_of b) refl h.0.1 r))
+
+-- plain bytes are kept, and lead to where they began
+pub in_state_over : (seen kept after bytes : List ℕ) (s : TextState) → AllByRecursion IsPlain bytes → IsInState seen kept s → s ≡ Outside → after ≡ kept ++ bytes → IsInState (seen ++ bytes) after s
+in_state_over seen kept after bytes Outside plain h is added = (added ∙ ap (λ (l : List ℕ). l ++ bytes) h.0, plain_reach seen bytes plain h.1)
+in_state_over seen kept after bytes InComment plain h is added = absurd cc
+in_state_over seen kept after bytes Refused plain h is added = absurd cc
+in_state_over seen kept after bytes Past plain h is added = absurd cc
 
 -- ---- at the end
 

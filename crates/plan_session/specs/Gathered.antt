@@ -8,6 +8,7 @@ use Rattle.script_tokens.specs.declared.token.Inside.TheVariants.{Nothing, Comme
 use Rattle.script_tokens.specs.declared.token.Place.{Place}
 use Rattle.script_tokens.specs.declared.token.TheConstants.{NO_LIMITS}
 use Rattle.script_tokens.specs.declared.fault.ScriptFault.{ScriptFault}
+use Rattle.script_tokens.specs.Bytes.{kind_of}
 use Rattle.script_tokens.specs.Lexing.{lexed, tokens_before}
 use Rattle.plan_session.specs.declared.gathering.Gathering.{Gathering}
 use Rattle.plan_session.specs.declared.gathering.TextState.{TextState}
@@ -75,6 +76,10 @@ state_after Outside kind is_whole = state_outside kind is_whole
 state_after InComment kind is_whole = state_in_comment kind
 state_after Refused kind is_whole = past_character is_whole
 state_after Past kind is_whole = Past
+
+-- a character of one byte that neither begins a comment nor is refused
+abbrev pub IsPlain : ℕ → Type 0
+IsPlain b = (b < 128) × (state_outside (kind_of b) true ≡ Outside)
 
 abbrev pub IsInState : (seen kept : List ℕ) → TextState → Type 0
 IsInState seen kept Outside = (kept ≡ seen) × Reaches seen false

@@ -1,15 +1,16 @@
 //! Collecting a text byte by byte: those bytes are kept on which the result of reading it depends.
 
-ghost use Rattle.std.specs.Prelude.{◌≡◌, ◌≢◌, ℕ, List, [], ◌∷◌, ◌++◌, true, OnOk, IfOk, IfErr, IsUtf8, string_bytes};
-ghost use Rattle.script_tokens.specs.Bytes.{kind_of};
-ghost use Rattle.plan_session.specs.declared.gathering.TextState.TheVariants.{Past};
+ghost use Rattle.std.specs.Prelude.{◌≡◌, ◌≢◌, ℕ, ◌<◌, ◌≤◌, List, [], ◌∷◌, ◌++◌, length, take, true, OnOk, IfOk, IfErr, IsUtf8, string_bytes};
+ghost use Rattle.std.specs.List.{AllByRecursion};
+ghost use Rattle.plan_session.specs.declared.gathering.TextState.TheVariants.{Outside, Past};
 ghost use Rattle.plan_session.specs.declared.text_fault.TextFault.TheVariants.{NotUtf8};
-ghost use Rattle.plan_session.specs.Gathered.{IsGathered, past_character, state_outside, state_after};
+ghost use Rattle.plan_session.specs.Gathered.{IsGathered, IsPlain, past_character, state_outside, state_after};
 ghost use Rattle.plan_session.specs.Kept.{IsKeptOf};
 
 use crate::characters::take_byte;
 use crate::text_fault::TextFault;
 use arrayvec::ArrayVec;
+use script_tokens::kind_of;
 use script_tokens::token::Kind;
 use std::alloc::Global;
 
@@ -74,10 +75,44 @@ impl Gathering {
                 return Ok(());
             }
         }
-        for byte in bytes {
-            self.take(*byte)?;
+        let mut rest = bytes;
+        while !rest.is_empty() {
+            let count = self.take_some(rest)?;
+            let (_, behind) = rest.split_at(count);
+            rest = behind;
         }
         Ok(())
+    }
+
+    /// Takes as many of these bytes as are kept at once, at least one, and returns how many.
+    fn take_some(&mut self, bytes: &[u8]) -> Result<usize, TextFault>
+        requires { 0 < length bytes.now }
+        ensures some { IfOk result (λ n. (0 < n) × (n ≤ length bytes.now)) }
+        ensures gathered { IfOk result (λ n. (seen : List ℕ) → IsGathered seen self.old
+            → IsGathered (seen ++ take n bytes.now) self.new) }
+        ensures not_utf8 { IfErr result (λ e. e ≡ NotUtf8 → (seen rest : List ℕ)
+            → IsGathered seen self.old → IsUtf8 (seen ++ (bytes.now ++ rest)) → ⊥) }
+    {
+        if self.is_outside() {
+            let count = plain_len(bytes);
+            if count > 0 {
+                keep_all(&mut self.kept, &bytes[..count])?;
+                return Ok(count);
+            }
+        }
+        self.take(bytes[0])?;
+        Ok(1)
+    }
+
+    /// Whether what follows is outside comments and kept, and a character begins next.
+    fn is_outside(&self) -> bool
+        ensures outside { result ≡ true → self.now.state ≡ Outside }
+        ensures between { result ≡ true → self.now.begun.items ≡ [] }
+    {
+        match self.state {
+            TextState::Outside => self.begun.is_empty(),
+            TextState::InComment | TextState::Refused | TextState::Past => false,
+        }
     }
 
     /// Whether nothing that follows is kept, and a character begins next.
@@ -105,6 +140,43 @@ impl Gathering {
             Ok(text) => Ok(text),
             Err(_) => Err(TextFault::NotUtf8),
         }
+    }
+}
+
+/// Whether a byte is a character that neither begins a comment nor is refused.
+#[inline]
+fn is_plain(byte: u8) -> bool
+    ensures { result ≡ true → IsPlain byte }
+{
+    match kind_of(byte) {
+        Kind::Blank | Kind::LineEnd | Kind::Brace | Kind::Letter => true,
+        Kind::Hash | Kind::Bad => false,
+    }
+}
+
+/// How many plain bytes there are before the first other one.
+fn plain_len(bytes: &[u8]) -> usize
+    ensures bound { result ≤ length bytes.now }
+    ensures plain { AllByRecursion IsPlain (take result bytes.now) }
+{
+    let mut count = 0;
+    for byte in bytes {
+        if !is_plain(*byte) {
+            return count;
+        }
+        count += 1;
+    }
+    count
+}
+
+/// Keeps these bytes.
+fn keep_all(kept: &mut Vec<u8>, bytes: &[u8]) -> Result<(), TextFault>
+    ensures added { OnOk result (kept.new.items ≡ kept.old.items ++ bytes.now) }
+    ensures named { IfErr result (λ e. e ≢ NotUtf8) }
+{
+    match kept.extend_from_slice(bytes) {
+        Ok(()) => Ok(()),
+        Err(_) => Err(TextFault::Memory),
     }
 }
 
@@ -157,19 +229,5 @@ fn past_character(is_whole: bool) -> TextState
         TextState::Past
     } else {
         TextState::Refused
-    }
-}
-
-/// What a byte is to the lexer.
-fn kind_of(byte: u8) -> Kind
-    ensures { result ≡ kind_of byte }
-{
-    match byte {
-        b'\n' => Kind::LineEnd,
-        b' ' | b'\t' | b'\r' | b';' => Kind::Blank,
-        b'#' => Kind::Hash,
-        b'{' | b'}' => Kind::Brace,
-        b'0'..=b':' | b'A'..=b'Z' | b'a'..=b'z' | b'_' | b'-' => Kind::Letter,
-        _ => Kind::Bad,
     }
 }

@@ -4,6 +4,7 @@ pub mod Digits
 pub mod Ending
 mod First
 pub mod Keys
+pub mod KindTable
 mod Lexing
 mod Numerals
 pub mod Pieces

@@ -21,6 +21,16 @@ kind_of b =
     else if is_atom_byte b then Letter
     else Bad
 
+-- the kinds in the order of their numbers
+abbrev pub kind_numbered : ℕ → Kind
+kind_numbered n =
+    if n == 0 then Blank
+    else if n == 1 then LineEnd
+    else if n == 2 then Hash
+    else if n == 3 then Brace
+    else if n == 4 then Letter
+    else Bad
+
 -- lines and columns are counted from 1, columns in bytes
 abbrev pub first_place : Place
 first_place = record { at = 0; position = record { line = 1; column = 1 } }

@@ -1,7 +1,7 @@
 //! Cutting a text into tokens.
 
 ghost use Rattle.std.specs.Prelude.{◌≡◌, ◌≢◌, ◌+◌, ◌∷◌, [], ◌<◌, ◌≤◌, true, false, length, List, IfOk, IfErr, Ok, Err, Result};
-ghost use Rattle.script_tokens.specs.Bytes.{kind_of, place_after, first_place, token_at};
+ghost use Rattle.script_tokens.specs.Bytes.{place_after, first_place, token_at};
 ghost use Rattle.script_tokens.specs.Lexing.{inside_after, is_bad, IsQuiet, atom_ended, made, fits, lexed, Pushes};
 ghost use Rattle.script_tokens.specs.Reading.{AreWithin};
 ghost use Rattle.script_tokens.specs.Texts.{AreTokens, IsFirstFault};
@@ -10,21 +10,9 @@ ghost use Rattle.script_tokens.specs.declared.fault.ScriptFault.TheVariants.{Mem
 ghost use Rattle.script_tokens.specs.declared.token.Inside.TheVariants.{Nothing};
 
 use crate::fault::{Position, ScriptFault};
+use crate::kinds::kind_of;
 use crate::token::{Inside, Kind, Limits, MOST_BYTES, Place, SCRIPT_LIMITS, Token};
 use std::alloc::Global;
-
-fn kind_of(byte: u8) -> Kind
-    ensures { result ≡ kind_of byte }
-{
-    match byte {
-        b'\n' => Kind::LineEnd,
-        b' ' | b'\t' | b'\r' | b';' => Kind::Blank,
-        b'#' => Kind::Hash,
-        b'{' | b'}' => Kind::Brace,
-        b'0'..=b':' | b'A'..=b'Z' | b'a'..=b'z' | b'_' | b'-' => Kind::Letter,
-        _ => Kind::Bad,
-    }
-}
 
 fn inside_after(inside: Inside, place: Place, kind: Kind) -> Inside
     ensures { result ≡ inside_after inside place kind }

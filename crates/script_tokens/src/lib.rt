@@ -9,6 +9,7 @@
 pub mod fault;
 pub mod first_keyword;
 pub mod keyword;
+pub mod kinds;
 pub mod laws;
 pub mod lexer;
 pub mod number;
@@ -20,6 +21,7 @@ pub mod values;
 pub use fault::{Position, ScriptFault};
 pub use first_keyword::{ActKeyword, ComponentKeyword, EditKeyword, ItemKeyword, StatementKeyword};
 pub use keyword::Keyword;
+pub use kinds::kind_of;
 pub use lexer::{cut, lex};
 pub use reader::Reader;
 pub use time::TimeOfDay;

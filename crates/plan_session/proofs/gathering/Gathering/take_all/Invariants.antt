@@ -1,7 +1,10 @@
-use Rattle.std.proofs.Common.{◌++◌, ℕ, List, take}
-use Rattle.plan_session.specs.Gathered.{IsGathered}
+use Rattle.std.proofs.Common.{length}
+use Rattle.plan_session.proofs.Readings.{HaveCome}
 use Rattle.plan_session.proofs.gathering.Gathering.take_all.Given as goal
 
--- the bytes so far came
-abbrev pub invariant-loop-byte : goal.invariant-loop-byte
-invariant-loop-byte l = (seen : List ℕ) → IsGathered seen l.initial.self → IsGathered (seen ++ take l.byte-index l.fn.bytes) l.self
+-- all but the rest came
+abbrev pub invariant-loop-rest : goal.invariant-loop-rest
+invariant-loop-rest l = HaveCome l.fn.bytes l.rest l.initial.self l.self
+
+abbrev pub decreases-loop-rest : goal.decreases-loop-rest
+decreases-loop-rest l = length l.rest
