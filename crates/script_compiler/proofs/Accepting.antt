@@ -8,7 +8,7 @@ use Rattle.plan_code.specs.declared.plan.Plan.{Plan}
 use Rattle.plan_code.specs.Program.{Program, IsProgram}
 use Rattle.plan_flow.specs.Rules.{pages_alone}
 use Rattle.script_front.specs.Tree.{Tree}
-use Rattle.script_meaning.specs.declared.flow.Mark.{Mark}
+use Rattle.script_meaning.specs.declared.flow.UnpricedLabel.{UnpricedLabel}
 use Rattle.script_meaning.specs.Scheme.{marks_of}
 use Rattle.script_meaning.specs.Judged.{IsJudged}
 use Rattle.script_meaning.specs.Need.{IsWithinBudget}
@@ -16,7 +16,7 @@ use Rattle.script_meaning.specs.Compiled.{plan_of, opening_of, beginning, body_o
 use Rattle.script_meaning.proofs.OneCode.{tabled_once}
 use Rattle.script_compiler.proofs.Laid.{length_lines}
 
-pub labels_length : (table : List Configuration) (ms : List Mark) (ls : List Label) → AreLabelsOf table ms ls → length ls ≡ length ms
+pub labels_length : (table : List Configuration) (ms : List UnpricedLabel) (ls : List Label) → AreLabelsOf table ms ls → length ls ≡ length ms
 labels_length table [] ls h = ap length h
 labels_length table (m ∷ ms) [] h = absurd h
 labels_length table (m ∷ ms) (l ∷ ls) h = omega (arith, labels_length table ms ls h.1)
@@ -37,11 +37,11 @@ is_accepted s code formed is made sound period judged repeats within = record {
 }
 
 -- parts that were made of what was laid down are the code of a script
-pub is_code_of : (s : Tree) (plan : Plan) (configs : List Configuration) (labels : List Label) (lines : List Line) (marks : List Mark) → plan ≡ plan_of s → lines ≡ lines_of_places (places_of s) → marks ≡ marks_of 0 (places_of s) → Tabled [] marks configs
+pub is_code_of : (s : Tree) (plan : Plan) (configs : List Configuration) (labels : List Label) (lines : List Line) (marks : List UnpricedLabel) → plan ≡ plan_of s → lines ≡ lines_of_places (places_of s) → marks ≡ marks_of 0 (places_of s) → Tabled [] marks configs
     → AreLabelsOf configs marks labels → IsCodeOf s (record { plan = plan; configurations = configs; labels = labels; lines = lines })
 is_code_of s plan configs labels lines marks plan_is lines_are marks_are tabled labelled = record {
   plan = plan_is;
   lines = lines_are;
-  table = subst (λ (ms : List Mark). Tabled [] ms configs) marks_are tabled;
-  labels = subst (λ (ms : List Mark). AreLabelsOf configs ms labels) marks_are labelled;
+  table = subst (λ (ms : List UnpricedLabel). Tabled [] ms configs) marks_are tabled;
+  labels = subst (λ (ms : List UnpricedLabel). AreLabelsOf configs ms labels) marks_are labelled;
 }

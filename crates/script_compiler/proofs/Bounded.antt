@@ -9,7 +9,7 @@ use Rattle.plan_code.specs.declared.plan.Plan.{Plan}
 use Rattle.plan_flow.specs.Rules.{Known, IsFine, known_after_swap, waited, paused, perhaps_swapped, settled}
 use Rattle.plan_flow.specs.Flows.{Flow, known_at, moved, widest}
 use Rattle.script_front.specs.Block.{Block, nothing, basic, stop, when, either, repeat, forever, apply}
-use Rattle.script_meaning.specs.declared.flow.Spot.{Spot}
+use Rattle.script_meaning.specs.declared.flow.ProgramPoint.{ProgramPoint}
 use Rattle.script_meaning.specs.Scheme.{Place, past, at_label, meet, join, onward, head, spot_after, place_of_instr, alone, places, instr_of_act, falls_out}
 use Rattle.script_meaning.specs.Judged.{IsJudged, Reached}
 
@@ -73,25 +73,25 @@ widest_bounded (Perhaps hi) (Within least most) h k = omega (arith, h)
 widest_bounded (Perhaps hi) (Perhaps most) h k = omega (arith, h)
 
 -- of a way, where it continues
-abbrev pub AllWay : Option Spot → Type 0
+abbrev pub AllWay : Option ProgramPoint → Type 0
 AllWay None = Unit {0}
 AllWay (Some s) = IsBounded s.flow.pending
 
-meet_bounded : (v w : Option Spot) → AllWay v → AllWay w → AllWay (meet v w)
+meet_bounded : (v w : Option ProgramPoint) → AllWay v → AllWay w → AllWay (meet v w)
 meet_bounded None None h k = tt
 meet_bounded None (Some t) h k = k
 meet_bounded (Some s) None h k = h
 meet_bounded (Some s) (Some t) h k = widest_bounded s.flow.pending t.flow.pending h k
 
-join_bounded : (v w : Option Spot) → AllWay v → AllWay w → AllWay (join v w)
+join_bounded : (v w : Option ProgramPoint) → AllWay v → AllWay w → AllWay (join v w)
 join_bounded None w h k = k
 join_bounded (Some s) w h k = meet_bounded w (Some s) k h
 
-onward_bounded : (w : Option Spot) (rest : Block) (judged : Spot → Type 0) (next : Spot → Option Spot) → AllWay w → Reached w rest judged → ((u : Spot) → IsBounded u.flow.pending → judged u → AllWay (next u)) → AllWay (onward w None next)
+onward_bounded : (w : Option ProgramPoint) (rest : Block) (judged : ProgramPoint → Type 0) (next : ProgramPoint → Option ProgramPoint) → AllWay w → Reached w rest judged → ((u : ProgramPoint) → IsBounded u.flow.pending → judged u → AllWay (next u)) → AllWay (onward w None next)
 onward_bounded None rest judged next h r k = tt
 onward_bounded (Some u) rest judged next h r k = k u h r
 
-pub after_bounded : (plan : Plan) (b : Block) (s : Spot) → 1 ≤ plan.notice → IsJudged plan b s → IsBounded s.flow.pending → AllWay (spot_after plan b s)
+pub after_bounded : (plan : Plan) (b : Block) (s : ProgramPoint) → 1 ≤ plan.notice → IsJudged plan b s → IsBounded s.flow.pending → AllWay (spot_after plan b s)
 after_bounded plan nothing s least j h = h
 after_bounded plan (basic line act rest) s least j h = after_bounded plan rest (past (moved plan (instr_of_act act) s.flow)) least j.1 (moved_bounded plan (instr_of_act act) s.flow least j.0 h)
 after_bounded plan (stop line rest) s least j h = tt
@@ -118,15 +118,15 @@ all_both : (ps qs : List Place) → AllBounded ps → AllBounded qs → AllBound
 all_both [] qs h k = k
 all_both (p ∷ ps) qs h k = (h.0, all_both ps qs h.1 k)
 
-all_onward : (w : Option Spot) (rest : Block) (judged : Spot → Type 0) (lay : Spot → List Place) → AllWay w → Reached w rest judged → ((u : Spot) → IsBounded u.flow.pending → judged u → AllBounded (lay u)) → AllBounded (onward w [] lay)
+all_onward : (w : Option ProgramPoint) (rest : Block) (judged : ProgramPoint → Type 0) (lay : ProgramPoint → List Place) → AllWay w → Reached w rest judged → ((u : ProgramPoint) → IsBounded u.flow.pending → judged u → AllBounded (lay u)) → AllBounded (onward w [] lay)
 all_onward None rest judged lay h r k = tt
 all_onward (Some u) rest judged lay h r k = k u h r
 
-all_alone : (w : Option Spot) (line : ℕ) (i : Instr) (r : ℕ) → AllWay w → AllBounded (onward w [] (alone line i r))
+all_alone : (w : Option ProgramPoint) (line : ℕ) (i : Instr) (r : ℕ) → AllWay w → AllBounded (onward w [] (alone line i r))
 all_alone None line i r h = tt
 all_alone (Some u) line i r h = (h, tt)
 
-pub places_bounded : (plan : Plan) (b : Block) (r pc : ℕ) (s : Spot) → 1 ≤ plan.notice → IsJudged plan b s → IsBounded s.flow.pending → AllBounded (places plan r pc b s)
+pub places_bounded : (plan : Plan) (b : Block) (r pc : ℕ) (s : ProgramPoint) → 1 ≤ plan.notice → IsJudged plan b s → IsBounded s.flow.pending → AllBounded (places plan r pc b s)
 places_bounded plan nothing r pc s least j h = tt
 places_bounded plan (basic line act rest) r pc s least j h = (h, places_bounded plan rest r (pc + 1) (past (moved plan (instr_of_act act) s.flow)) least j.1 (moved_bounded plan (instr_of_act act) s.flow least j.0 h))
 places_bounded plan (stop line rest) r pc s least j h = (h, tt)
@@ -159,7 +159,7 @@ places_bounded plan (repeat line n body rest) r pc s least j h =
     let start = head body (past s.flow) in
     let bodies = places plan (r + 1) (pc + 1) body start in
     let end = pc + 1 + length bodies in
-    let back : Spot → List Place = λ u. place_of_instr line (Loop r (pc + 1)) (r + 1) u ∷ places plan r (end + 1) rest (past u.flow) in (
+    let back : ProgramPoint → List Place = λ u. place_of_instr line (Loop r (pc + 1)) (r + 1) u ∷ places plan r (end + 1) rest (past u.flow) in (
       h,
       all_both bodies (onward (spot_after plan body start) [] back) (places_bounded plan body (r + 1) (pc + 1) start least j.0 h)
           (all_onward (spot_after plan body start) rest (λ u. IsJudged plan rest (past u.flow)) back (after_bounded plan body start least j.0 h) j.2 (λ u k q. (k, places_bounded plan rest r (end + 1) (past u.flow) least q k))),

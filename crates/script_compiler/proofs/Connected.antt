@@ -7,11 +7,11 @@ use Rattle.plan_flow.specs.Flows.{moved}
 use Rattle.script_front.specs.declared.tree.Act.{Act}
 use Rattle.script_front.specs.declared.tree.Act.TheVariants.{Edit as Edits, Wait as Waits, WaitContact as WaitsContact, Until as WaitsUntil, CommitIn as CommitsIn, CommitAt as CommitsAt, Join as Joins, Settle as Settles}
 use Rattle.script_front.specs.Block.{Block, nothing, basic, stop, when, either, repeat, forever, apply}
-use Rattle.script_meaning.specs.declared.flow.Spot.{Spot}
+use Rattle.script_meaning.specs.declared.flow.ProgramPoint.{ProgramPoint}
 use Rattle.script_meaning.specs.Scheme.{Place, past, at_label, meet, join, onward, head, spot_after, place_of_instr, alone, places, all_places, instr_of_act, falls_out}
 
 -- what comes before continues to this spot, or a label stands there
-abbrev pub Follows : Bool → Spot → Type 0
+abbrev pub Follows : Bool → ProgramPoint → Type 0
 Follows came s = s.labelled ≡ false → came ≡ true
 
 abbrev pub Connected : Bool → List Place → Type 0
@@ -31,35 +31,35 @@ connected_both came [] b h k = k
 connected_both came (p ∷ a) b h k = (h.0, connected_both (continues p.instr) a b h.1 k)
 
 -- connected, and so is what comes after
-pub record Chain (came : Bool) (ps : List Place) (w : Option Spot) : Type 0 where
+pub record Chain (came : Bool) (ps : List Place) (w : Option ProgramPoint) : Type 0 where
   pub inner : Connected came ps
-  pub exits : (u : Spot) → w ≡ Some u → Follows (ends came ps) u
+  pub exits : (u : ProgramPoint) → w ≡ Some u → Follows (ends came ps) u
 
-chain_both : (came : Bool) (a b : List Place) (w : Option Spot) → Connected came a → Chain (ends came a) b w → Chain came (a ++ b) w
+chain_both : (came : Bool) (a b : List Place) (w : Option ProgramPoint) → Connected came a → Chain (ends came a) b w → Chain came (a ++ b) w
 chain_both came a b w h k = record {
   inner = connected_both came a b h k.inner;
   exits = λ u e l. ends_both came a b ∙ k.exits u e l;
 }
 
-rest_chain : (came : Bool) (lay : Spot → List Place) (leave : Spot → Option Spot) (w : Option Spot) →
-    ((u : Spot) → Follows came u → Chain came (lay u) (leave u)) → ((u : Spot) → w ≡ Some u → Follows came u) →
+rest_chain : (came : Bool) (lay : ProgramPoint → List Place) (leave : ProgramPoint → Option ProgramPoint) (w : Option ProgramPoint) →
+    ((u : ProgramPoint) → Follows came u → Chain came (lay u) (leave u)) → ((u : ProgramPoint) → w ≡ Some u → Follows came u) →
     Chain came (onward w [] lay) (onward w None leave)
 rest_chain came lay leave None ih h = record { inner = tt; exits = λ u e. cc }
 rest_chain came lay leave (Some s) ih h = ih s (h s refl)
 
-labelled_follows : (came : Bool) (u : Spot) → u.labelled ≡ true → Follows came u
+labelled_follows : (came : Bool) (u : ProgramPoint) → u.labelled ≡ true → Follows came u
 labelled_follows came u e h = let f : true ≡ false = sym e ∙ h in cc
 
-meet_follows : (came : Bool) (v : Option Spot) (s u : Spot) → meet v (Some s) ≡ Some u → Follows came u
+meet_follows : (came : Bool) (v : Option ProgramPoint) (s u : ProgramPoint) → meet v (Some s) ≡ Some u → Follows came u
 meet_follows came None s u e h = cc
 meet_follows came (Some t) s u e h = cc
 
-join_follows : (came : Bool) (v w : Option Spot) → ((u : Spot) → w ≡ Some u → Follows came u) → (u : Spot) → join v w ≡ Some u → Follows came u
+join_follows : (came : Bool) (v w : Option ProgramPoint) → ((u : ProgramPoint) → w ≡ Some u → Follows came u) → (u : ProgramPoint) → join v w ≡ Some u → Follows came u
 join_follows came None w k u e h = k u e h
 join_follows came (Some s) None k u e h = cc
 join_follows came (Some s) (Some t) k u e h = cc
 
-head_follows : (came : Bool) (f : Bool) (s : Spot) → Follows came s → Follows came (record { flow = s.flow; labelled = if f then true else s.labelled })
+head_follows : (came : Bool) (f : Bool) (s : ProgramPoint) → Follows came s → Follows came (record { flow = s.flow; labelled = if f then true else s.labelled })
 head_follows came true s h e = cc
 head_follows came false s h e = h e
 
@@ -73,14 +73,14 @@ act_continues (CommitsAt count) = refl
 act_continues Joins = refl
 act_continues Settles = refl
 
-jump_chain : (came : Bool) (line to r : ℕ) (w : Option Spot) → ((u : Spot) → w ≡ Some u → Follows came u) → Connected came (onward w [] (alone line (Jump to) r))
+jump_chain : (came : Bool) (line to r : ℕ) (w : Option ProgramPoint) → ((u : ProgramPoint) → w ≡ Some u → Follows came u) → Connected came (onward w [] (alone line (Jump to) r))
 jump_chain came line to r None h = tt
 jump_chain came line to r (Some u) h = (h u refl, tt)
 
-pub chain : (plan : Plan) (b : Block) (r pc : ℕ) (s : Spot) (came : Bool) → Follows came s → Chain came (places plan r pc b s) (spot_after plan b s)
-chain plan nothing r pc s came h = record { inner = tt; exits = λ u e l. h (ap (λ (x : Spot). x.labelled) (some_same s u e) ∙ l) }
+pub chain : (plan : Plan) (b : Block) (r pc : ℕ) (s : ProgramPoint) (came : Bool) → Follows came s → Chain came (places plan r pc b s) (spot_after plan b s)
+chain plan nothing r pc s came h = record { inner = tt; exits = λ u e l. h (ap (λ (x : ProgramPoint). x.labelled) (some_same s u e) ∙ l) }
   where
-    some_same : (s u : Spot) → Some s ≡ Some u → s ≡ u
+    some_same : (s u : ProgramPoint) → Some s ≡ Some u → s ≡ u
     some_same s u e = cc
 chain plan (basic line act rest) r pc s came h =
     let ih = chain plan rest r (pc + 1) (past (moved plan (instr_of_act act) s.flow)) (continues (instr_of_act act)) (λ e. act_continues act) in
@@ -133,11 +133,11 @@ chain plan (apply line k named rest) r pc s came h =
     let back = rest_chain come (λ u. places plan r end rest u) (λ u. spot_after plan rest u) (spot_after plan named s) (λ u k. chain plan rest r end u come k) front.exits in
     chain_both came names _ _ front.inner back
 
-pub all_connected : (plan : Plan) (last : ℕ) (b : Block) (s : Spot) → s.labelled ≡ true → Connected false (all_places plan last b s)
+pub all_connected : (plan : Plan) (last : ℕ) (b : Block) (s : ProgramPoint) → s.labelled ≡ true → Connected false (all_places plan last b s)
 all_connected plan last b s e =
     let whole = chain plan b 0 0 s false (labelled_follows false s e) in
     connected_both false (places plan 0 0 b s) _ whole.inner (ending (ends false (places plan 0 0 b s)) (spot_after plan b s) whole.exits)
   where
-    ending : (came : Bool) (w : Option Spot) → ((u : Spot) → w ≡ Some u → Follows came u) → Connected came (onward w [] (alone last End 0))
+    ending : (came : Bool) (w : Option ProgramPoint) → ((u : ProgramPoint) → w ≡ Some u → Follows came u) → Connected came (onward w [] (alone last End 0))
     ending came None h = tt
     ending came (Some u) h = (h u refl, tt)

@@ -5,7 +5,7 @@ use Rattle.plan_code.specs.declared.plan.Plan.{Plan}
 use Rattle.plan_flow.specs.Flows.{moved}
 use Rattle.script_front.specs.Block.{Block, nothing, basic, stop, when, either, repeat, forever, apply}
 use Rattle.script_front.specs.Tree.{Tree}
-use Rattle.script_meaning.specs.declared.flow.Spot.{Spot}
+use Rattle.script_meaning.specs.declared.flow.ProgramPoint.{ProgramPoint}
 use Rattle.script_meaning.specs.Scheme.{Place, past, at_label, meet, join, onward, head, spot_after, place_of_instr, alone, places, all_places, mark_of, marks_of, instr_of_act, falls_out}
 use Rattle.script_meaning.specs.Compiled.{nested, body_of, places_of, IsAccepted}
 use Rattle.script_compiler.specs.Room.{IsDeepAtMost}
@@ -24,11 +24,11 @@ deep_both : (ps qs : List Place) → AreDeep ps → AreDeep qs → AreDeep (ps +
 deep_both [] qs h k = k
 deep_both (p ∷ ps) qs h k = (h.0, deep_both ps qs h.1 k)
 
-deep_onward : (w : Option Spot) (lay : Spot → List Place) → ((u : Spot) → AreDeep (lay u)) → AreDeep (onward w [] lay)
+deep_onward : (w : Option ProgramPoint) (lay : ProgramPoint → List Place) → ((u : ProgramPoint) → AreDeep (lay u)) → AreDeep (onward w [] lay)
 deep_onward None lay h = tt
 deep_onward (Some u) lay h = h u
 
-places_deep : (plan : Plan) (b : Block) (r pc : ℕ) (s : Spot) → r + nested b ≤ 8 → AreDeep (places plan r pc b s)
+places_deep : (plan : Plan) (b : Block) (r pc : ℕ) (s : ProgramPoint) → r + nested b ≤ 8 → AreDeep (places plan r pc b s)
 places_deep plan nothing r pc s h = tt
 places_deep plan (basic line act rest) r pc s h = (omega (arith, h), places_deep plan rest r (pc + 1) (past (moved plan (instr_of_act act) s.flow)) (omega (arith, h)))
 places_deep plan (stop line rest) r pc s h = (omega (arith, h), tt)
@@ -81,7 +81,7 @@ deep_marks pc (p ∷ ps) h = by p.spot.labelled (deep_marks (pc + 1) ps h.1)
     by false k = k
 
 -- so few repeats stand around its labels that there are counters for them
-pub nested_deep : (plan : Plan) (last : ℕ) (b : Block) (t : Spot) → nested b ≤ 8 → IsDeepAtMost 8 (marks_of 0 (all_places plan last b t))
+pub nested_deep : (plan : Plan) (last : ℕ) (b : Block) (t : ProgramPoint) → nested b ≤ 8 → IsDeepAtMost 8 (marks_of 0 (all_places plan last b t))
 nested_deep plan last b t deep =
     deep_marks 0 (all_places plan last b t) (deep_both (places plan 0 0 b t) _ (places_deep plan b 0 0 t (omega (arith, deep))) (deep_onward (spot_after plan b t) (alone last End 0) (λ u. (omega arith, tt))))
 

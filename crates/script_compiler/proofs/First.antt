@@ -3,11 +3,11 @@ use Rattle.std.proofs.Common.{◌≡◌, ℕ, ◌+◌, ◌⊎◌, inl, inr, Bool
 use Rattle.plan_code.specs.declared.instr.Instr.TheVariants.{End, Jump}
 use Rattle.plan_code.specs.declared.plan.Plan.{Plan}
 use Rattle.script_front.specs.Block.{Block, nothing, basic, stop, when, either, repeat, forever, apply}
-use Rattle.script_meaning.specs.declared.flow.Spot.{Spot}
+use Rattle.script_meaning.specs.declared.flow.ProgramPoint.{ProgramPoint}
 use Rattle.script_meaning.specs.Scheme.{Place, onward, head, spot_after, place_of_instr, alone, places, all_places, falls_out}
 
 -- it is what is known before the block, and a label stands there if one stands before the block
-pub record Begins (s : Spot) (all : List Place) : Type 0 where
+pub record Begins (s : ProgramPoint) (all : List Place) : Type 0 where
   pub place : Place
   pub rest : List Place
   pub is : all ≡ place ∷ rest
@@ -15,17 +15,17 @@ pub record Begins (s : Spot) (all : List Place) : Type 0 where
   pub labelled : s.labelled ≡ true → place.spot.labelled ≡ true
 
 -- or the block has no instruction, and leaves all as it is
-abbrev pub First : Plan → ℕ → ℕ → Block → Spot → Type 0
+abbrev pub First : Plan → ℕ → ℕ → Block → ProgramPoint → Type 0
 First plan r pc b s = ((places plan r pc b s ≡ []) × (spot_after plan b s ≡ Some s)) ⊎ Begins s (places plan r pc b s)
 
 head_labelled : (f : Bool) (l : Bool) → l ≡ true → (if f then true else l) ≡ true
 head_labelled true l e = refl
 head_labelled false l e = e
 
-begins_more : (s : Spot) (ps more : List Place) → Begins s ps → Begins s (ps ++ more)
+begins_more : (s : ProgramPoint) (ps more : List Place) → Begins s ps → Begins s (ps ++ more)
 begins_more s ps more b = record { place = b.place; rest = b.rest ++ more; is = ap (λ xs. xs ++ more) b.is; flow = b.flow; labelled = b.labelled }
 
-pub first_of : (plan : Plan) (r pc : ℕ) (b : Block) (s : Spot) → First plan r pc b s
+pub first_of : (plan : Plan) (r pc : ℕ) (b : Block) (s : ProgramPoint) → First plan r pc b s
 first_of plan r pc nothing s = inl (refl, refl)
 first_of plan r pc (basic line act rest) s = inr (record { place = _; rest = _; is = refl; flow = refl; labelled = λ e. e })
 first_of plan r pc (stop line rest) s = inr (record { place = _; rest = _; is = refl; flow = refl; labelled = λ e. e })
@@ -57,7 +57,7 @@ first_of plan r pc (apply line k named rest) s =
       | inr some ↦ inr (begins_more s names rests some)
     ]
 
-pub first_of_all : (plan : Plan) (last : ℕ) (b : Block) (s : Spot) → Begins s (all_places plan last b s)
+pub first_of_all : (plan : Plan) (last : ℕ) (b : Block) (s : ProgramPoint) → Begins s (all_places plan last b s)
 first_of_all plan last b s =
     let ending = onward (spot_after plan b s) [] (alone last End 0) in
     elim (first_of plan 0 0 b s) [

@@ -9,7 +9,7 @@ use Rattle.plan_flow.specs.Flows.{merged}
 use Rattle.script_front.specs.declared.tree.Act.{Act}
 use Rattle.script_front.specs.declared.tree.Statement.{Statement}
 use Rattle.script_front.specs.Block.{Block, nothing, basic, stop, when, either, repeat, forever, apply, before, block_of}
-use Rattle.script_meaning.specs.declared.flow.Spot.{Spot}
+use Rattle.script_meaning.specs.declared.flow.ProgramPoint.{ProgramPoint}
 use Rattle.script_meaning.specs.Scheme.{Place, past, at_label, meet, join, onward, head, spot_after, place_of_instr, alone, places, all_places, instr_of_act, falls_out}
 use Rattle.script_meaning.specs.Judged.{IsJudged, WaysAgree, BranchesAgree}
 use Rattle.script_meaning.specs.Compiled.{Tabled, lines_of_places, nested}
@@ -82,43 +82,43 @@ repeat_limited limit plan r line n body w h rest can = h _ _ refl can.space
 
 -- ---- labels at which ways meet
 
-meet_labelled : (w : Option Spot) (s u : Spot) → meet w (Some s) ≡ Some u → u.labelled ≡ true
-meet_labelled None s u e = let h : at_label s.flow ≡ u = cc in ap (λ (x : Spot). x.labelled) (sym h)
-meet_labelled (Some v) s u e = let h : at_label (merged v.flow s.flow) ≡ u = cc in ap (λ (x : Spot). x.labelled) (sym h)
+meet_labelled : (w : Option ProgramPoint) (s u : ProgramPoint) → meet w (Some s) ≡ Some u → u.labelled ≡ true
+meet_labelled None s u e = let h : at_label s.flow ≡ u = cc in ap (λ (x : ProgramPoint). x.labelled) (sym h)
+meet_labelled (Some v) s u e = let h : at_label (merged v.flow s.flow) ≡ u = cc in ap (λ (x : ProgramPoint). x.labelled) (sym h)
 
 module _ (plan : Plan) (r pc : ℕ) (rest : Block) (more : List Place) where
-  abbrev pub Onward : Option Spot → Type 0
-  Onward w = (v : Spot) → onward w None (λ u. spot_after plan rest u) ≡ Some v → Covers v more
+  abbrev pub Onward : Option ProgramPoint → Type 0
+  Onward w = (v : ProgramPoint) → onward w None (λ u. spot_after plan rest u) ≡ Some v → Covers v more
 
-  abbrev pub rests : Option Spot → List Place
+  abbrev pub rests : Option ProgramPoint → List Place
   rests w = onward w [] (λ u. places plan r pc rest u)
 
-  pub onward_covers : (w : Option Spot) → Onward w → (u : Spot) → w ≡ Some u → Covers u (rests w ++ more)
+  pub onward_covers : (w : Option ProgramPoint) → Onward w → (u : ProgramPoint) → w ≡ Some u → Covers u (rests w ++ more)
   onward_covers w on u e = subst (λ x. Covers u (rests x ++ more)) (sym e) (covers_block plan r pc rest u more (λ v h. on v (ap (λ x. onward x None (λ t. spot_after plan rest t)) e ∙ h)))
 
-  pub when_covers : (a : Option Spot) (s : Spot) → WaysAgree a (Some s) → Onward (meet a (Some s)) → (u : Spot) → a ≡ Some u → Covers u (rests (meet a (Some s)) ++ more)
+  pub when_covers : (a : Option ProgramPoint) (s : ProgramPoint) → WaysAgree a (Some s) → Onward (meet a (Some s)) → (u : ProgramPoint) → a ≡ Some u → Covers u (rests (meet a (Some s)) ++ more)
   when_covers None s agree on u e = cc
   when_covers (Some x) s agree on u e = λ l.
       let m = at_label (merged x.flow s.flow) in
       let same : x ≡ u = cc in
       let there = onward_covers (Some m) on m refl refl in
-      subst (λ (y : Spot). IsCovered y.flow (places plan r pc rest m ++ more)) same (covered_fits x.flow m.flow (places plan r pc rest m ++ more) agree.0 there)
+      subst (λ (y : ProgramPoint). IsCovered y.flow (places plan r pc rest m ++ more)) same (covered_fits x.flow m.flow (places plan r pc rest m ++ more) agree.0 there)
 
-  pub join_covers : (a b : Option Spot) → BranchesAgree a b → Onward (join a b) → (u : Spot) → b ≡ Some u → Covers u (rests (join a b) ++ more)
+  pub join_covers : (a b : Option ProgramPoint) → BranchesAgree a b → Onward (join a b) → (u : ProgramPoint) → b ≡ Some u → Covers u (rests (join a b) ++ more)
   join_covers None b agree on u e = onward_covers b on u e
   join_covers (Some y) b agree on u e = when_covers b y agree on u e
 
   -- where a jump leads out
-  pub jump_covers : (a : Option Spot) (line : ℕ) (i : Instr) (q : ℕ) (u : Spot) → a ≡ Some u → Covers u (onward a [] (alone line i q) ++ more)
+  pub jump_covers : (a : Option ProgramPoint) (line : ℕ) (i : Instr) (q : ℕ) (u : ProgramPoint) → a ≡ Some u → Covers u (onward a [] (alone line i q) ++ more)
   jump_covers None line i q u e = cc
   jump_covers (Some x) line i q u e = covered_here u (place_of_instr line i q x) more cc
 
-loop_split : (w : Option Spot) (line : ℕ) (i : Instr) (q : ℕ) (lay : Spot → List Place) (more : List Place) → onward w [] (λ u. place_of_instr line i q u ∷ lay u) ++ more ≡ onward w [] (alone line i q) ++ (onward w [] lay ++ more)
+loop_split : (w : Option ProgramPoint) (line : ℕ) (i : Instr) (q : ℕ) (lay : ProgramPoint → List Place) (more : List Place) → onward w [] (λ u. place_of_instr line i q u ∷ lay u) ++ more ≡ onward w [] (alone line i q) ++ (onward w [] lay ++ more)
 loop_split None line i q lay more = refl
 loop_split (Some s) line i q lay more = refl
 
 -- a block that has been laid down, of the places that there was room for
-space_whole : (limit : CodeLimit) (plan : Plan) (r pc : ℕ) (b : Block) (s : Spot) (v w : Work) (f : Bool) (more : List Place) → Whole plan r pc b s v w f → HasSpace limit v (places plan r pc b s ++ more) → HasSpace limit w more
+space_whole : (limit : CodeLimit) (plan : Plan) (r pc : ℕ) (b : Block) (s : ProgramPoint) (v w : Work) (f : Bool) (more : List Place) → Whole plan r pc b s v w f → HasSpace limit v (places plan r pc b s ++ more) → HasSpace limit w more
 space_whole limit plan r pc b s v w f more h space =
     space_from limit v w pc (places plan r pc b s) more (ap length h.lines ∙ length-append v.lines.items (lines_of_places (places plan r pc b s)) ∙ ap (λ n. length v.lines.items + n) (length_lines (places plan r pc b s))) h.marks space
 
@@ -147,7 +147,7 @@ module _ (limit : CodeLimit) (plan : Plan) (r line c : ℕ) (first rest : Block)
       }
 
   pub can_when_closed : Forks line (Test c 0) r w0 w2 → Left plan r first w2 w3 f nothing →
-      ((front : List Spot) (entry : Spot) → w3.saved.items ≡ front ++ entry ∷ [] → (ps : List Place) → ((u : Spot) → meet (way f w3) (Some entry) ≡ Some u → IsCovered u.flow ps) → HasSpace limit w3 ps → ⊥) →
+      ((front : List ProgramPoint) (entry : ProgramPoint) → w3.saved.items ≡ front ++ entry ∷ [] → (ps : List Place) → ((u : ProgramPoint) → meet (way f w3) (Some entry) ≡ Some u → IsCovered u.flow ps) → HasSpace limit w3 ps → ⊥) →
       CanLay limit plan r (when line c first rest) w0 → ⊥
   can_when_closed fork left full can =
       let pc = length w0.lines.items in
@@ -180,7 +180,7 @@ module _ (limit : CodeLimit) (plan : Plan) (r line c : ℕ) (first second rest :
   abbrev Stop : ℕ
   Stop = Start + length Seconds
 
-  abbrev Away : Option Spot
+  abbrev Away : Option ProgramPoint
   Away = spot_after plan first (past w0.now.flow)
 
   abbrev Jumps : List Place
@@ -223,11 +223,11 @@ module _ (limit : CodeLimit) (plan : Plan) (r line c : ℕ) (first second rest :
       let more = Seconds ++ (Rests ++ can.more) in
       subst (λ w. HasSpace limit w3 (onward w [] (alone line (Jump Stop) r) ++ more)) h.leads (space_whole limit plan r (length w0.lines.items + 1) first (past w0.now.flow) w2 w3 f1 (Jumps ++ more) h (either_space fork can))
 
-  second_covers : (can : CanLay limit plan r (either line c first second rest) w0) → (u : Spot) → spot_after plan second (at_label w0.now.flow) ≡ Some u → Covers u (Rests ++ can.more)
+  second_covers : (can : CanLay limit plan r (either line c first second rest) w0) → (u : ProgramPoint) → spot_after plan second (at_label w0.now.flow) ≡ Some u → Covers u (Rests ++ can.more)
   second_covers can u e = join_covers plan r Stop rest can.more Away (spot_after plan second (at_label w0.now.flow)) can.judged.2 (λ v h. can.onward v h) u e
 
   pub can_either_turned : Forks line (Test c 0) r w0 w2 → Left plan r first w2 w3 f1 nothing →
-      ((front : List Spot) (entry : Spot) → w3.saved.items ≡ front ++ entry ∷ [] → (m n : ℕ) (i : Instr) (ps : List Place) → HasSpace limit w3 (onward (way f1 w3) [] (alone m i n) ++ ps) → IsCovered entry.flow ps → ⊥) →
+      ((front : List ProgramPoint) (entry : ProgramPoint) → w3.saved.items ≡ front ++ entry ∷ [] → (m n : ℕ) (i : Instr) (ps : List Place) → HasSpace limit w3 (onward (way f1 w3) [] (alone m i n) ++ ps) → IsCovered entry.flow ps → ⊥) →
       CanLay limit plan r (either line c first second rest) w0 → ⊥
   can_either_turned fork left full can =
       full w0.saved.items w0.now (left.lays.saved ∙ fork.saved) line r (Jump Stop) (Seconds ++ (Rests ++ can.more)) (space_out fork left can)
@@ -250,7 +250,7 @@ module _ (limit : CodeLimit) (plan : Plan) (r line c : ℕ) (first second rest :
         space_left limit w3 w6 f1 line r line r (Jump Stop) (Seconds ++ (Rests ++ can.more)) lines turn.marks (space_out fork left can)
 
     pub can_either_second : Forks line (Test c 0) r w0 w2 → Left plan r first w2 w3 f1 nothing →
-        ((front : List Spot) (entry : Spot) → w3.saved.items ≡ front ++ entry ∷ [] → Turns f1 line r c at front entry w3 w6) →
+        ((front : List ProgramPoint) (entry : ProgramPoint) → w3.saved.items ≡ front ++ entry ∷ [] → Turns f1 line r c at front entry w3 w6) →
         CanLay limit plan r (either line c first second rest) w0 → CanLay limit plan r second w6
     can_either_second fork left turning can =
         let turn = turning w0.saved.items w0.now (left.lays.saved ∙ fork.saved) in
@@ -266,9 +266,9 @@ module _ (limit : CodeLimit) (plan : Plan) (r line c : ℕ) (first second rest :
         }
 
     pub can_either_closed : Forks line (Test c 0) r w0 w2 → Left plan r first w2 w3 f1 nothing →
-        ((front : List Spot) (entry : Spot) → w3.saved.items ≡ front ++ entry ∷ [] → Turns f1 line r c at front entry w3 w6) →
+        ((front : List ProgramPoint) (entry : ProgramPoint) → w3.saved.items ≡ front ++ entry ∷ [] → Turns f1 line r c at front entry w3 w6) →
         Left plan r second w6 w7 f2 nothing →
-        ((front : List Spot) (a : Option Spot) → f1 ≡ is_some a → w7.saved.items ≡ front ++ spots_of a → (ps : List Place) → ((u : Spot) → join a (way f2 w7) ≡ Some u → Covers u ps) → HasSpace limit w7 ps → ⊥) →
+        ((front : List ProgramPoint) (a : Option ProgramPoint) → f1 ≡ is_some a → w7.saved.items ≡ front ++ spots_of a → (ps : List Place) → ((u : ProgramPoint) → join a (way f2 w7) ≡ Some u → Covers u ps) → HasSpace limit w7 ps → ⊥) →
         CanLay limit plan r (either line c first second rest) w0 → ⊥
     can_either_closed fork left turning left2 full can =
         let turn = turning w0.saved.items w0.now (left.lays.saved ∙ fork.saved) in
@@ -290,7 +290,7 @@ module _ (limit : CodeLimit) (plan : Plan) (r line n : ℕ) (body rest : Block) 
   abbrev Again : Instr
   Again = Loop r (length w0.lines.items + 1)
 
-  abbrev Gone : Option Spot
+  abbrev Gone : Option ProgramPoint
   Gone = spot_after plan body (head body (past w0.now.flow))
 
   abbrev Later : List Place
@@ -308,7 +308,7 @@ module _ (limit : CodeLimit) (plan : Plan) (r line n : ℕ) (body rest : Block) 
   can_repeat_entered lays now falls_is full can =
       let start = head body (past w0.now.flow) in
       let more = onward Gone [] (alone line Again (r + 1)) ++ (Later ++ can.more) in
-      full (Bodies ++ more) (λ e. subst (λ (s : Spot). IsCovered s.flow (Bodies ++ more)) (sym now)
+      full (Bodies ++ more) (λ e. subst (λ (s : ProgramPoint). IsCovered s.flow (Bodies ++ more)) (sym now)
       (covers_block plan (r + 1) (length w0.lines.items + 1) body start more (λ u h. jump_covers plan r 0 rest (Later ++ can.more) Gone line Again (r + 1) u h) (ap (λ b. if b then true else false) (sym falls_is ∙ e)))) (repeat_space lays can)
 
   pub can_repeat_body : Lays w0 w1 (alone line (Set r n) r w0.now) → w1.now ≡ past w0.now.flow → falls ≡ falls_out body → w2.lines ≡ w1.lines → w2.marks ≡ w1.marks →
@@ -351,7 +351,7 @@ module _ (limit : CodeLimit) (plan : Plan) (r line : ℕ) (body rest : Block) (w
   abbrev Back : Instr
   Back = Jump (length w0.lines.items)
 
-  abbrev Ended : Option Spot
+  abbrev Ended : Option ProgramPoint
   Ended = spot_after plan body (head body w0.now)
 
   forever_space : (can : CanLay limit plan r (forever line body rest) w0) → HasSpace limit w0 (Rounds ++ (onward Ended [] (alone line Back r) ++ can.more))
@@ -438,7 +438,7 @@ few_counters Labels deep ps few = tt
 few_counters Configurations deep ps few = tt
 few_counters Counters deep ps few = few
 
-module _ (limit : CodeLimit) (plan : Plan) (last : ℕ) (b c : Block) (t : Spot) (w0 : Work) where
+module _ (limit : CodeLimit) (plan : Plan) (last : ℕ) (b c : Block) (t : ProgramPoint) (w0 : Work) where
   abbrev Ending : List Place
   Ending = onward (spot_after plan b t) [] (alone last End 0)
 

@@ -16,8 +16,8 @@ use Rattle.plan_code.specs.declared.label.Swap.{Swap}
 use Rattle.plan_code.specs.declared.label.Swap.TheVariants.{Idle, Within, Perhaps}
 use Rattle.plan_code.specs.declared.plan.Plan.{Plan}
 use Rattle.script_front.specs.Tree.{Tree, IsHeader, IsScript}
-use Rattle.script_meaning.specs.declared.flow.Mark.{Mark}
-use Rattle.script_meaning.specs.declared.flow.Spot.{Spot}
+use Rattle.script_meaning.specs.declared.flow.UnpricedLabel.{UnpricedLabel}
+use Rattle.script_meaning.specs.declared.flow.ProgramPoint.{ProgramPoint}
 use Rattle.script_meaning.specs.Scheme.{Place, mark_of, marks_of, spot_after, alone, onward, places}
 use Rattle.script_meaning.specs.Judged.{IsJudged}
 use Rattle.script_meaning.specs.Compiled.{plan_of, body_of, beginning, opening_of, places_of, lines_of_places, instrs_of, first_counters, nested, Tabled, AreLabelsOf}
@@ -85,7 +85,7 @@ module _ (table : List Configuration) where
   counters_few (suc (suc (suc (suc (suc (suc (suc (suc zero)))))))) le = omega arith
   counters_few (suc (suc (suc (suc (suc (suc (suc (suc (suc r))))))))) le = absurd (omega (arith, le))
 
-  counters_within : (ms : List Mark) (ls : List Label) → AreLabelsOf table ms ls → IsDeepAtMost 8 ms → AllByRecursion (λ (l : Label). l.counters.0 < 256) ls
+  counters_within : (ms : List UnpricedLabel) (ls : List Label) → AreLabelsOf table ms ls → IsDeepAtMost 8 ms → AllByRecursion (λ (l : Label). l.counters.0 < 256) ls
   counters_within [] ls are deep = subst (λ (xs : List Label). AllByRecursion (λ (l : Label). l.counters.0 < 256) xs) (sym are) tt
   counters_within (m ∷ ms) [] are deep = absurd are
   counters_within (m ∷ ms) (l ∷ ls) are deep =
@@ -97,7 +97,7 @@ bounded_both : (ps qs : List Place) → AllBounded ps → AllBounded qs → AllB
 bounded_both [] qs h k = k
 bounded_both (p ∷ ps) qs h k = (h.0, bounded_both ps qs h.1 k)
 
-bounded_alone : (w : Option Spot) (line : ℕ) (i : Instr) (r : ℕ) → AllWay w → AllBounded (onward w [] (alone line i r))
+bounded_alone : (w : Option ProgramPoint) (line : ℕ) (i : Instr) (r : ℕ) → AllWay w → AllBounded (onward w [] (alone line i r))
 bounded_alone None line i r h = tt
 bounded_alone (Some u) line i r h = (h, tt)
 
@@ -112,7 +112,7 @@ are_bounds (Within lo hi) h k = (h.0, h.1, k)
 are_bounds (Perhaps hi) h k = (h, k)
 
 module _ (s : Tree) (script : IsScript s) (judged : IsJudged (plan_of s) (body_of s) (beginning (opening_of s))) where
-  abbrev start : Spot
+  abbrev start : ProgramPoint
   start = beginning (opening_of s)
 
   places_in_bounds : AllBounded (places_of s)
@@ -151,7 +151,7 @@ pub record IsKept (s : Tree) (configs : List Configuration) : Type 0 where
   pub labels : length (marks_of 0 (places_of s)) ≤ 1024
   pub configurations : length configs ≤ 256
 
-module _ (s : Tree) (plan : Plan) (config : Configuration) (lines : List Line) (marks : List Mark) (needs : List ℕ) (configs : List Configuration) (labels : List Label) (p : Parts s plan config lines marks needs configs labels) (script : IsScript s) (kept : IsKept s configs) where
+module _ (s : Tree) (plan : Plan) (config : Configuration) (lines : List Line) (marks : List UnpricedLabel) (needs : List ℕ) (configs : List Configuration) (labels : List Label) (p : Parts s plan config lines marks needs configs labels) (script : IsScript s) (kept : IsKept s configs) where
   abbrev all : List Place
   all = places_of s
 
@@ -159,10 +159,10 @@ module _ (s : Tree) (plan : Plan) (config : Configuration) (lines : List Line) (
   lines_of_all = lines_are s plan config lines marks needs configs labels p
 
   labels_of_all : AreLabelsOf configs (marks_of 0 all) labels
-  labels_of_all = subst (λ (ms : List Mark). AreLabelsOf configs ms labels) (p.marked ∙ ap (λ ps. marks_of 0 ps) (places_are s plan config lines marks needs configs labels p)) p.labelled
+  labels_of_all = subst (λ (ms : List UnpricedLabel). AreLabelsOf configs ms labels) (p.marked ∙ ap (λ ps. marks_of 0 ps) (places_are s plan config lines marks needs configs labels p)) p.labelled
 
   table_of_all : Tabled [] (marks_of 0 all) configs
-  table_of_all = subst (λ (ms : List Mark). Tabled [] ms configs) (p.marked ∙ ap (λ ps. marks_of 0 ps) (places_are s plan config lines marks needs configs labels p)) p.tabled
+  table_of_all = subst (λ (ms : List UnpricedLabel). Tabled [] ms configs) (p.marked ∙ ap (λ ps. marks_of 0 ps) (places_are s plan config lines marks needs configs labels p)) p.tabled
 
   budget_most : plan.budget ≤ 255
   budget_most = let h = script.headed.budget_to in let e = ap (λ (q : Plan). q.budget) p.plan_is in omega (arith, h, e)

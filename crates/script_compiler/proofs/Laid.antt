@@ -11,7 +11,7 @@ use Rattle.plan_flow.specs.Flows.{known_at, moved}
 use Rattle.plan_flow.specs.Rules.{IsFine}
 use Rattle.script_front.specs.declared.tree.Act.{Act}
 use Rattle.script_front.specs.Block.{Block, nothing, basic, stop, when, either, repeat, forever, apply}
-use Rattle.script_meaning.specs.declared.flow.Spot.{Spot}
+use Rattle.script_meaning.specs.declared.flow.ProgramPoint.{ProgramPoint}
 use Rattle.script_meaning.specs.Scheme.{Place, past, at_label, meet, join, onward, head, spot_after, place_of_instr, alone, places, mark_of, marks_of, instr_of_act, falls_out}
 use Rattle.script_meaning.specs.Judged.{IsJudged, Reached, WaysAgree, BranchesAgree, ComesRound}
 use Rattle.script_meaning.specs.Refused.{IsRefusedIn, IsRefusedAfter}
@@ -114,7 +114,7 @@ left_stop plan r line rest v w l = record {
 
 -- ---- a block that has been laid down whole
 
-pub record Whole (plan : Plan) (r pc : ℕ) (b : Block) (s : Spot) (old new : Work) (f : Bool) : Type 0 where
+pub record Whole (plan : Plan) (r pc : ℕ) (b : Block) (s : ProgramPoint) (old new : Work) (f : Bool) : Type 0 where
   pub lines : new.lines.items ≡ old.lines.items ++ lines_of_places (places plan r pc b s)
   pub marks : new.marks.items ≡ old.marks.items ++ marks_of pc (places plan r pc b s)
   pub saved : new.saved.items ≡ old.saved.items
@@ -122,15 +122,15 @@ pub record Whole (plan : Plan) (r pc : ℕ) (b : Block) (s : Spot) (old new : Wo
   pub judged : IsJudged plan b s
   pub repeats : r ≤ 8 → r + nested b ≤ 8
 
-nothing_more : (w : Option Spot) → onward w None (λ u. Some u) ≡ w
+nothing_more : (w : Option ProgramPoint) → onward w None (λ u. Some u) ≡ w
 nothing_more None = refl
 nothing_more (Some s) = refl
 
-no_more : {A : Type 0} (w : Option Spot) → onward {A = List A} w [] (λ u. []) ≡ []
+no_more : {A : Type 0} (w : Option ProgramPoint) → onward {A = List A} w [] (λ u. []) ≡ []
 no_more None = refl
 no_more (Some s) = refl
 
-none_reached : (w : Option Spot) → Reached w nothing (λ u. Unit {0})
+none_reached : (w : Option ProgramPoint) → Reached w nothing (λ u. Unit {0})
 none_reached None = tt
 none_reached (Some s) = tt
 
@@ -146,7 +146,7 @@ whole_here plan r b v w f l =
       repeats = λ h. l.repeats (omega (arith, h));
     }
 
-pub whole_of : (plan : Plan) (r pc : ℕ) (b : Block) (s : Spot) (v w : Work) (f : Bool) → length v.lines.items ≡ pc → v.now ≡ s → Left plan r b v w f nothing → Whole plan r pc b s v w f
+pub whole_of : (plan : Plan) (r pc : ℕ) (b : Block) (s : ProgramPoint) (v w : Work) (f : Bool) → length v.lines.items ≡ pc → v.now ≡ s → Left plan r b v w f nothing → Whole plan r pc b s v w f
 whole_of plan r pc b s v w f e h l = subst (λ x. Whole plan r pc b x v w f) h (subst (λ n. Whole plan r n b v.now v w f) e (whole_here plan r b v w f l))
 
 -- a place of the code is written once more
@@ -157,7 +157,7 @@ module _ (plan : Plan) (r line : ℕ) (c : ℕ) (first rest : Block) (w0 w2 w3 w
   pub left_when :
       r ≤ 8 → Forks line (Test c 0) r w0 w2 →
       Left plan r first w2 w3 f nothing →
-      ((front : List Spot) (entry : Spot) → w3.saved.items ≡ front ++ entry ∷ [] → ClosesIf f line c (length w0.lines.items) front entry w3 w5) →
+      ((front : List ProgramPoint) (entry : ProgramPoint) → w3.saved.items ≡ front ++ entry ∷ [] → ClosesIf f line c (length w0.lines.items) front entry w3 w5) →
       Left plan r (when line c first rest) w0 w5 true rest
   left_when deep fork left closing =
       let pc = length w0.lines.items in
@@ -193,19 +193,19 @@ module _ (plan : Plan) (r line : ℕ) (c : ℕ) (first rest : Block) (w0 w2 w3 w
 
 -- ---- the statements with blocks, but for the first
 
-pub jump_length : (line to r : ℕ) (w : Option Spot) (f : Bool) → is_some w ≡ f → length (lines_of_places (onward w [] (alone line (Jump to) r))) ≡ (if f then 1 else 0)
+pub jump_length : (line to r : ℕ) (w : Option ProgramPoint) (f : Bool) → is_some w ≡ f → length (lines_of_places (onward w [] (alone line (Jump to) r))) ≡ (if f then 1 else 0)
 jump_length line to r None f e = ap (λ b. if b then 1 else 0) e
 jump_length line to r (Some u) f e = ap (λ b. if b then 1 else 0) e
 
-jump_labels : (line m n r pc : ℕ) (w : Option Spot) → marks_of pc (onward w [] (alone line (Jump m) r)) ≡ marks_of pc (onward w [] (alone line (Jump n) r))
+jump_labels : (line m n r pc : ℕ) (w : Option ProgramPoint) → marks_of pc (onward w [] (alone line (Jump m) r)) ≡ marks_of pc (onward w [] (alone line (Jump n) r))
 jump_labels line m n r pc None = refl
 jump_labels line m n r pc (Some u) = refl
 
-jump_count : (line m n r : ℕ) (w : Option Spot) → length (onward w [] (alone line (Jump m) r)) ≡ length (lines_of_places (onward w [] (alone line (Jump n) r)))
+jump_count : (line m n r : ℕ) (w : Option ProgramPoint) → length (onward w [] (alone line (Jump m) r)) ≡ length (lines_of_places (onward w [] (alone line (Jump n) r)))
 jump_count line m n r None = refl
 jump_count line m n r (Some u) = refl
 
-aimed_jump : (line r jump end : ℕ) (w : Option Spot) (before ys code : List Line) → code ≡ before ++ (lines_of_places (onward w [] (alone line (Jump 0) r)) ++ ys) → jump ≡ length before → length code ≡ end → aimed_at w line jump code ≡ before ++ (lines_of_places (onward w [] (alone line (Jump end) r)) ++ ys)
+aimed_jump : (line r jump end : ℕ) (w : Option ProgramPoint) (before ys code : List Line) → code ≡ before ++ (lines_of_places (onward w [] (alone line (Jump 0) r)) ++ ys) → jump ≡ length before → length code ≡ end → aimed_at w line jump code ≡ before ++ (lines_of_places (onward w [] (alone line (Jump end) r)) ++ ys)
 aimed_jump line r jump end None before ys code e h k = e
 aimed_jump line r jump end (Some u) before ys code e h k =
     ap (λ n. slice_set code jump (line_of_instr line (Jump n))) k ∙ ap (λ n. slice_set code n (line_of_instr line (Jump end))) h ∙ ap (λ z. slice_set z (length before) (line_of_instr line (Jump end))) e ∙ set-append_seam before (line_of_instr line (Jump 0)) ys (line_of_instr line (Jump end))
@@ -214,9 +214,9 @@ module _ (plan : Plan) (r line : ℕ) (c : ℕ) (first second rest : Block) (w0 
   pub left_either :
       r ≤ 8 → Forks line (Test c 0) r w0 w2 →
       Left plan r first w2 w3 f1 nothing →
-      ((front : List Spot) (entry : Spot) → w3.saved.items ≡ front ++ entry ∷ [] → Turns f1 line r c (length w0.lines.items) front entry w3 w6) →
+      ((front : List ProgramPoint) (entry : ProgramPoint) → w3.saved.items ≡ front ++ entry ∷ [] → Turns f1 line r c (length w0.lines.items) front entry w3 w6) →
       Left plan r second w6 w7 f2 nothing →
-      ((front : List Spot) (a : Option Spot) → f1 ≡ is_some a → w7.saved.items ≡ front ++ spots_of a → IsAfterBranches a (way f2 w7) front line (length w3.lines.items) w7 w8 f) →
+      ((front : List ProgramPoint) (a : Option ProgramPoint) → f1 ≡ is_some a → w7.saved.items ≡ front ++ spots_of a → IsAfterBranches a (way f2 w7) front line (length w3.lines.items) w7 w8 f) →
       Left plan r (either line c first second rest) w0 w8 f rest
   left_either deep fork left turning left2 arriving =
       let pc = length w0.lines.items in

@@ -3,24 +3,24 @@ use Rattle.std.proofs.Common.{◌≡◌, Bool, ◌&&◌, ◌||◌, Option, Some,
 use Rattle.plan_code.specs.declared.plan.Plan.{Plan}
 use Rattle.plan_flow.specs.Flows.{moved}
 use Rattle.script_front.specs.Block.{Block, nothing, basic, stop, when, either, repeat, forever, apply}
-use Rattle.script_meaning.specs.declared.flow.Spot.{Spot}
+use Rattle.script_meaning.specs.declared.flow.ProgramPoint.{ProgramPoint}
 use Rattle.script_meaning.specs.Scheme.{past, at_label, meet, join, onward, head, instr_of_act, falls_out, spot_after}
 
-onward_falls : (w : Option Spot) (f : Bool) (after_rest : Spot → Option Spot) (g : Bool) → is_some w ≡ f → ((u : Spot) → is_some (after_rest u) ≡ g) → is_some (onward w None after_rest) ≡ (f && g)
+onward_falls : (w : Option ProgramPoint) (f : Bool) (after_rest : ProgramPoint → Option ProgramPoint) (g : Bool) → is_some w ≡ f → ((u : ProgramPoint) → is_some (after_rest u) ≡ g) → is_some (onward w None after_rest) ≡ (f && g)
 onward_falls None f k g e h = ap (λ b. b && g) e
 onward_falls (Some u) f k g e h = h u ∙ ap (λ b. b && g) e
 
-meet_falls : (w : Option Spot) (s : Spot) (k : Spot → Option Spot) (g : Bool) → ((u : Spot) → is_some (k u) ≡ g) → is_some (onward (meet w (Some s)) None k) ≡ g
+meet_falls : (w : Option ProgramPoint) (s : ProgramPoint) (k : ProgramPoint → Option ProgramPoint) (g : Bool) → ((u : ProgramPoint) → is_some (k u) ≡ g) → is_some (onward (meet w (Some s)) None k) ≡ g
 meet_falls None s k g h = h _
 meet_falls (Some u) s k g h = h _
 
-join_falls : (v w : Option Spot) → is_some (join v w) ≡ (is_some v || is_some w)
+join_falls : (v w : Option ProgramPoint) → is_some (join v w) ≡ (is_some v || is_some w)
 join_falls None w = refl
 join_falls (Some u) None = refl
 join_falls (Some u) (Some v) = refl
 
 -- what is known after a block exists where it falls out
-pub after_falls : (plan : Plan) (b : Block) (s : Spot) → is_some (spot_after plan b s) ≡ falls_out b
+pub after_falls : (plan : Plan) (b : Block) (s : ProgramPoint) → is_some (spot_after plan b s) ≡ falls_out b
 after_falls plan nothing s = refl
 after_falls plan (basic line act rest) s = after_falls plan rest (past (moved plan (instr_of_act act) s.flow))
 after_falls plan (stop line rest) s = refl

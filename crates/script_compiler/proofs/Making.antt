@@ -9,7 +9,7 @@ use Rattle.plan_code.specs.declared.label.Label.{Label}
 use Rattle.plan_code.specs.declared.plan.Plan.{Plan}
 use Rattle.plan_flow.specs.Rules.{pages_alone}
 use Rattle.script_front.specs.Tree.{Tree}
-use Rattle.script_meaning.specs.declared.flow.Mark.{Mark}
+use Rattle.script_meaning.specs.declared.flow.UnpricedLabel.{UnpricedLabel}
 use Rattle.script_meaning.specs.Scheme.{all_places, marks_of}
 use Rattle.script_meaning.specs.Judged.{IsJudged}
 use Rattle.script_meaning.specs.Need.{IsWithinBudget}
@@ -24,7 +24,7 @@ use Rattle.script_compiler.proofs.Paths.{within_from}
 use Rattle.script_compiler.proofs.Tabling.{costs_needs}
 
 -- what is laid down of a script, the needs of its places within the budget, and the labels with their table
-pub record Parts (s : Tree) (plan : Plan) (config : Configuration) (lines : List Line) (marks : List Mark) (needs : List ℕ) (configs : List Configuration) (labels : List Label) : Type 0 where
+pub record Parts (s : Tree) (plan : Plan) (config : Configuration) (lines : List Line) (marks : List UnpricedLabel) (needs : List ℕ) (configs : List Configuration) (labels : List Label) : Type 0 where
   pub plan_is : plan ≡ plan_of s
   pub config_is : config ≡ opening_of s
   pub laid : lines ≡ lines_of_places (all_places plan s.last_line (body_of s) (beginning config))
@@ -38,7 +38,7 @@ pub record Parts (s : Tree) (plan : Plan) (config : Configuration) (lines : List
 abbrev pub code_from : Plan → List Configuration → List Label → List Line → Program
 code_from plan configs labels lines = record { plan = plan; configurations = configs; labels = labels; lines = lines }
 
-module _ (s : Tree) (plan : Plan) (config : Configuration) (lines : List Line) (marks : List Mark) (needs : List ℕ) (configs : List Configuration) (labels : List Label) (p : Parts s plan config lines marks needs configs labels) where
+module _ (s : Tree) (plan : Plan) (config : Configuration) (lines : List Line) (marks : List UnpricedLabel) (needs : List ℕ) (configs : List Configuration) (labels : List Label) (p : Parts s plan config lines marks needs configs labels) where
   pub places_are : all_places plan s.last_line (body_of s) (beginning config) ≡ places_of s
   places_are = ap (λ (q : Plan). all_places q s.last_line (body_of s) (beginning config)) p.plan_is ∙ ap (λ x. all_places (plan_of s) s.last_line (body_of s) (beginning x)) p.config_is
 

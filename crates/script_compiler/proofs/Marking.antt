@@ -4,7 +4,7 @@ use Rattle.std.proofs.lemmas.Option.{slice_get_within}
 use Rattle.std.specs.Prelude.{slice_get, slice_index, OnOk, IfOk, IfErr}
 use Rattle.mux_config.specs.Configuration.{Configuration}
 use Rattle.plan_code.specs.declared.label.Label.{Label}
-use Rattle.script_meaning.specs.declared.flow.Mark.{Mark}
+use Rattle.script_meaning.specs.declared.flow.UnpricedLabel.{UnpricedLabel}
 use Rattle.script_meaning.specs.Scheme.{Place, mark_of, marks_of}
 use Rattle.script_meaning.specs.Compiled.{Added, Tabled, AreLabelsOf}
 use Rattle.script_compiler.specs.declared.fault.CompileFault.{CompileFault}
@@ -34,17 +34,17 @@ at_more (x ∷ xs) ys (suc i) lt = at_more xs ys i (omega (arith, lt))
 -- ---- marks in a table that has grown
 
 mark_as : (m : ShortMark) (a b c d : Configuration) → a ≡ c → b ≡ d
-    → (let x : Mark = record { pc = m.pc; flow = record { current = a; next = b; pending = m.pending }; repeats = m.repeats } in x) ≡ record { pc = m.pc; flow = record { current = c; next = d; pending = m.pending }; repeats = m.repeats }
+    → (let x : UnpricedLabel = record { pc = m.pc; flow = record { current = a; next = b; pending = m.pending }; repeats = m.repeats } in x) ≡ record { pc = m.pc; flow = record { current = c; next = d; pending = m.pending }; repeats = m.repeats }
 mark_as m a b c d e f =
-    ap (λ (z : Configuration). let x : Mark = record { pc = m.pc; flow = record { current = z; next = b; pending = m.pending }; repeats = m.repeats } in x) e
-    ∙ ap (λ (z : Configuration). let x : Mark = record { pc = m.pc; flow = record { current = c; next = z; pending = m.pending }; repeats = m.repeats } in x) f
+    ap (λ (z : Configuration). let x : UnpricedLabel = record { pc = m.pc; flow = record { current = z; next = b; pending = m.pending }; repeats = m.repeats } in x) e
+    ∙ ap (λ (z : Configuration). let x : UnpricedLabel = record { pc = m.pc; flow = record { current = c; next = z; pending = m.pending }; repeats = m.repeats } in x) f
 
 pub marks_more : (table more : List Configuration) (ms : List ShortMark) → AreInTable (length table) ms → map (mark_in (table ++ more)) ms ≡ map (mark_in table) ms
 marks_more table more [] h = refl
 marks_more table more (m ∷ ms) h =
     let one : mark_in (table ++ more) m ≡ mark_in table m = mark_as m _ _ _ _ (at_more table more m.cur h.0) (at_more table more m.next h.1) in
     let rest = marks_more table more ms h.2 in
-    ap (λ (x : Mark). x ∷ map (mark_in (table ++ more)) ms) one ∙ ap (λ (xs : List Mark). mark_in table m ∷ xs) rest
+    ap (λ (x : UnpricedLabel). x ∷ map (mark_in (table ++ more)) ms) one ∙ ap (λ (xs : List UnpricedLabel). mark_in table m ∷ xs) rest
 
 pub within_more : (n k : ℕ) (ms : List ShortMark) → n ≤ k → AreInTable n ms → AreInTable k ms
 within_more n k [] le h = tt
@@ -87,12 +87,12 @@ pub mark_is : (table : List Configuration) (m : ShortMark) (c d : Configuration)
 mark_is table m c d e f = mark_as m _ _ _ _ (at_some table m.cur c e) (at_some table m.next d f)
 
 -- it is the mark of a place at which a label stands
-pub one_mark : (pc n : ℕ) (p : Place) → p.spot.labelled ≡ true → n ≡ pc → (let x : Mark = record { pc = n; flow = p.spot.flow; repeats = p.repeats } in x ∷ []) ≡ marks_of pc (p ∷ [])
+pub one_mark : (pc n : ℕ) (p : Place) → p.spot.labelled ≡ true → n ≡ pc → (let x : UnpricedLabel = record { pc = n; flow = p.spot.flow; repeats = p.repeats } in x ∷ []) ≡ marks_of pc (p ∷ [])
 one_mark pc n p labelled e =
-    ap (λ k. let x : Mark = record { pc = k; flow = p.spot.flow; repeats = p.repeats } in x ∷ []) e ∙ ap (λ (b : Bool). if b then mark_of pc p ∷ [] else []) (sym labelled)
+    ap (λ k. let x : UnpricedLabel = record { pc = k; flow = p.spot.flow; repeats = p.repeats } in x ∷ []) e ∙ ap (λ (b : Bool). if b then mark_of pc p ∷ [] else []) (sym labelled)
 
 -- the table of labels, with one more
-pub tabled_more : (table one both : List Configuration) (ms : List Mark) (m : Mark) (start : List Configuration) → Tabled start ms table → Added m.flow.current table one → Added m.flow.next one both → Tabled start (ms ++ m ∷ []) both
+pub tabled_more : (table one both : List Configuration) (ms : List UnpricedLabel) (m : UnpricedLabel) (start : List Configuration) → Tabled start ms table → Added m.flow.current table one → Added m.flow.next one both → Tabled start (ms ++ m ∷ []) both
 tabled_more table one both [] m start t a b = (one, both, subst (λ (x : List Configuration). Added m.flow.current x one) t a, b, refl)
 tabled_more table one both (x ∷ ms) m start t a b = (t.0, t.1, t.2, t.3, tabled_more table one both ms m t.1 t.4 a b)
 

@@ -3,8 +3,8 @@ use Rattle.std.proofs.Common.{◌≡◌, ℕ, ◌≤◌, true, List, [], ◌∷�
 use Rattle.std.specs.Prelude.{slice_get}
 use Rattle.mux_config.specs.Configuration.{Configuration}
 use Rattle.plan_code.specs.declared.instr.Instr.{Instr}
-use Rattle.script_meaning.specs.declared.flow.Mark.{Mark}
-use Rattle.script_meaning.specs.declared.flow.Spot.{Spot}
+use Rattle.script_meaning.specs.declared.flow.UnpricedLabel.{UnpricedLabel}
+use Rattle.script_meaning.specs.declared.flow.ProgramPoint.{ProgramPoint}
 use Rattle.script_meaning.specs.Scheme.{Place, alone, marks_of, place_of_instr}
 use Rattle.script_meaning.specs.Compiled.{Tabled}
 use Rattle.script_compiler.specs.declared.short.ShortMark.{ShortMark}
@@ -30,23 +30,23 @@ table_as v w e h = record {
 pub room_here : (w : Work) (s : ShortSpot) (ps : List Place) → spot_in w.pool s ≡ w.now → HasTable w → IsCovered w.now.flow ps → HasSpace Configurations w ps
     → HasRoomFor w.marks.table (configuration_at w.pool s.current ∷ configuration_at w.pool s.next ∷ [])
 room_here w s ps same table cover space =
-    subst (λ (x : Spot). HasRoomFor w.marks.table (x.flow.current ∷ x.flow.next ∷ [])) (sym same) (room_names w w.now.flow ps table cover space)
+    subst (λ (x : ProgramPoint). HasRoomFor w.marks.table (x.flow.current ∷ x.flow.next ∷ [])) (sym same) (room_names w w.now.flow ps table cover space)
 
-abbrev pub mark_with : ℕ → ℕ → Spot → Mark
+abbrev pub mark_with : ℕ → ℕ → ProgramPoint → UnpricedLabel
 mark_with pc r s = record { pc = pc; flow = s.flow; repeats = r }
 
 abbrev pub short_with : ℕ → ℕ → ℕ → ℕ → ShortSpot → ShortMark
 short_with pc cur next r s = record { pc = pc; cur = cur; next = next; pending = s.pending; repeats = r }
 
 -- a mark that has been added is that of the spot here
-pub marked_as : (w : Work) (s : ShortSpot) (table : List Configuration) (cur next pc r : ℕ) (items : List Mark) → spot_in w.pool s ≡ w.now
+pub marked_as : (w : Work) (s : ShortSpot) (table : List Configuration) (cur next pc r : ℕ) (items : List UnpricedLabel) → spot_in w.pool s ≡ w.now
     → slice_get table cur ≡ Some (configuration_at w.pool s.current) → slice_get table next ≡ Some (configuration_at w.pool s.next)
     → items ≡ w.marks.items ++ mark_in table (short_with pc cur next r s) ∷ [] → items ≡ w.marks.items ++ mark_with pc r w.now ∷ []
 marked_as w s table cur next pc r items same e f is =
-    is ∙ ap (λ (m : Mark). w.marks.items ++ m ∷ []) (mark_is table (short_with pc cur next r s) (configuration_at w.pool s.current) (configuration_at w.pool s.next) e f)
-    ∙ ap (λ (x : Spot). w.marks.items ++ mark_with pc r x ∷ []) same
+    is ∙ ap (λ (m : UnpricedLabel). w.marks.items ++ m ∷ []) (mark_is table (short_with pc cur next r s) (configuration_at w.pool s.current) (configuration_at w.pool s.next) e f)
+    ∙ ap (λ (x : ProgramPoint). w.marks.items ++ mark_with pc r x ∷ []) same
 
-pub marked_here : (w : Work) (pc r line : ℕ) (i : Instr) (items : List Mark) → w.now.labelled ≡ true → pc ≡ length w.lines.items
+pub marked_here : (w : Work) (pc r line : ℕ) (i : Instr) (items : List UnpricedLabel) → w.now.labelled ≡ true → pc ≡ length w.lines.items
     → items ≡ w.marks.items ++ mark_with pc r w.now ∷ [] → items ≡ w.marks.items ++ marks_of (length w.lines.items) (alone line i r w.now)
 marked_here w pc r line i items labelled at is =
-    is ∙ ap (λ (ms : List Mark). w.marks.items ++ ms) (one_mark (length w.lines.items) pc (place_of_instr line i r w.now) labelled at)
+    is ∙ ap (λ (ms : List UnpricedLabel). w.marks.items ++ ms) (one_mark (length w.lines.items) pc (place_of_instr line i r w.now) labelled at)

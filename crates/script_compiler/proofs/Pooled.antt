@@ -5,7 +5,7 @@ use Rattle.mux_config.specs.Configuration.{Configuration}
 use Rattle.mux_types.proofs.Walking.{cut}
 use Rattle.script_compiler.specs.Fingerprint.{print_of}
 use Rattle.plan_flow.specs.Flows.{Flow}
-use Rattle.script_meaning.specs.declared.flow.Spot.{Spot}
+use Rattle.script_meaning.specs.declared.flow.ProgramPoint.{ProgramPoint}
 use Rattle.script_compiler.specs.declared.numbers.Numbers.{Numbers}
 use Rattle.script_compiler.specs.declared.short.ShortSpot.{ShortSpot}
 use Rattle.script_compiler.specs.Marked.{configuration_at}
@@ -100,8 +100,8 @@ none_in_table xs ks k once below lt none i e =
 
 pub spot_same : (xs ys : List Configuration) (s : ShortSpot) → Extends xs ys → IsInPool (length xs) s → spot_in ys s ≡ spot_in xs s
 spot_same xs ys s a h =
-    ap (λ (x : Configuration). let u : Spot = record { flow = record { current = x; next = configuration_at ys s.next; pending = s.pending }; labelled = s.labelled } in u) (at_in xs ys s.current a h.0)
-    ∙ ap (λ (x : Configuration). let u : Spot = record { flow = record { current = configuration_at xs s.current; next = x; pending = s.pending }; labelled = s.labelled } in u) (at_in xs ys s.next a h.1)
+    ap (λ (x : Configuration). let u : ProgramPoint = record { flow = record { current = x; next = configuration_at ys s.next; pending = s.pending }; labelled = s.labelled } in u) (at_in xs ys s.current a h.0)
+    ∙ ap (λ (x : Configuration). let u : ProgramPoint = record { flow = record { current = configuration_at xs s.current; next = x; pending = s.pending }; labelled = s.labelled } in u) (at_in xs ys s.next a h.1)
 
 pub in_pool : (xs ys : List Configuration) (s : ShortSpot) → Extends xs ys → IsInPool (length xs) s → IsInPool (length ys) s
 in_pool xs ys s a h = let n = extends_length xs ys a in ((let k = h.0 in omega (arith, k, n)), (let k = h.1 in omega (arith, k, n)))
@@ -113,7 +113,7 @@ all_in_pool xs ys (s ∷ ss) a h = (in_pool xs ys s a h.0, all_in_pool xs ys ss 
 pub all_same : (xs ys : List Configuration) (ss : List ShortSpot) → Extends xs ys → AreInPool (length xs) ss → map (spot_in ys) ss ≡ map (spot_in xs) ss
 all_same xs ys [] a h = refl
 all_same xs ys (s ∷ ss) a h =
-    ap (λ (x : Spot). x ∷ map (spot_in ys) ss) (spot_same xs ys s a h.0) ∙ ap (λ (l : List Spot). spot_in xs s ∷ l) (all_same xs ys ss a h.1)
+    ap (λ (x : ProgramPoint). x ∷ map (spot_in ys) ss) (spot_same xs ys s a h.0) ∙ ap (λ (l : List ProgramPoint). spot_in xs s ∷ l) (all_same xs ys ss a h.1)
 
 pub pushed_in_pool : (n : ℕ) (ss : List ShortSpot) (s : ShortSpot) → IsInPool n s → AreInPool n ss → AreInPool n (ss ++ s ∷ [])
 pushed_in_pool n [] s one h = (one, tt)
@@ -125,13 +125,13 @@ popped_in_pool n (x ∷ ss) s h = (let r = popped_in_pool n ss s h.1 in (r.0, (h
 
 pub spots_push : (xs : List Configuration) (ss : List ShortSpot) (s : ShortSpot) → map (spot_in xs) (ss ++ s ∷ []) ≡ map (spot_in xs) ss ++ spot_in xs s ∷ []
 spots_push xs [] s = refl
-spots_push xs (x ∷ ss) s = ap (λ (l : List Spot). spot_in xs x ∷ l) (spots_push xs ss s)
+spots_push xs (x ∷ ss) s = ap (λ (l : List ProgramPoint). spot_in xs x ∷ l) (spots_push xs ss s)
 
 pub spot_is : (pool : List Configuration) (s : ShortSpot) (a b : Configuration) → slice_get pool s.current ≡ Some a → slice_get pool s.next ≡ Some b
     → spot_in pool s ≡ record { flow = record { current = a; next = b; pending = s.pending }; labelled = s.labelled }
 spot_is pool s a b e f =
-    ap (λ (x : Configuration). let u : Spot = record { flow = record { current = x; next = configuration_at pool s.next; pending = s.pending }; labelled = s.labelled } in u) (at_some pool s.current a e)
-    ∙ ap (λ (x : Configuration). let u : Spot = record { flow = record { current = a; next = x; pending = s.pending }; labelled = s.labelled } in u) (at_some pool s.next b f)
+    ap (λ (x : Configuration). let u : ProgramPoint = record { flow = record { current = x; next = configuration_at pool s.next; pending = s.pending }; labelled = s.labelled } in u) (at_some pool s.current a e)
+    ∙ ap (λ (x : Configuration). let u : ProgramPoint = record { flow = record { current = a; next = x; pending = s.pending }; labelled = s.labelled } in u) (at_some pool s.next b f)
 
 -- ---- prints
 

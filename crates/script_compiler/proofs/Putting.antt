@@ -3,7 +3,7 @@ use Rattle.std.proofs.Common.{◌≡◌, ℕ, List, [], ◌∷◌, ◌++◌, len
 use Rattle.std.specs.Prelude.{OnOk}
 use Rattle.std.proofs.lemmas.List.{append_cancel_left}
 use Rattle.plan_code.specs.declared.instr.Instr.{Instr}
-use Rattle.script_meaning.specs.declared.flow.Spot.{Spot}
+use Rattle.script_meaning.specs.declared.flow.ProgramPoint.{ProgramPoint}
 use Rattle.script_meaning.specs.Scheme.{alone, marks_of}
 use Rattle.script_compiler.specs.Working.{Work}
 use Rattle.script_compiler.specs.Laying.{Lays, line_of_instr}
@@ -21,7 +21,7 @@ put_lays line r i w v u lines saved marks saved' marks' lines' = record {
 
 -- ---- what is saved last
 
-pub snoc_front : (xs ys : List Spot) (x y : Spot) → xs ++ x ∷ [] ≡ ys ++ y ∷ [] → xs ≡ ys
+pub snoc_front : (xs ys : List ProgramPoint) (x y : ProgramPoint) → xs ++ x ∷ [] ≡ ys ++ y ∷ [] → xs ≡ ys
 snoc_front [] [] x y e = refl
 snoc_front [] (b ∷ ys) x y e = absurd (let n = ap length e in let m = length-append ys (y ∷ []) in omega (arith, n, m))
 snoc_front (a ∷ xs) [] x y e = absurd (let n = ap length e in let m = length-append xs (x ∷ []) in omega (arith, n, m))
@@ -29,7 +29,7 @@ snoc_front (a ∷ xs) (b ∷ ys) x y e =
     let h : a ≡ b = cc in let t : xs ++ x ∷ [] ≡ ys ++ y ∷ [] = cc in let ih = snoc_front xs ys x y t in
     ap (λ z. z ∷ xs) h ∙ ap (λ zs. b ∷ zs) ih
 
-pub snoc_last : (xs ys : List Spot) (x y : Spot) → xs ++ x ∷ [] ≡ ys ++ y ∷ [] → x ≡ y
+pub snoc_last : (xs ys : List ProgramPoint) (x y : ProgramPoint) → xs ++ x ∷ [] ≡ ys ++ y ∷ [] → x ≡ y
 snoc_last xs ys x y e =
     let f = snoc_front xs ys x y e in
     let g : xs ++ x ∷ [] ≡ xs ++ y ∷ [] = e ∙ ap (λ zs. zs ++ y ∷ []) (sym f) in

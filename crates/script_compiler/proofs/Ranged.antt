@@ -14,7 +14,7 @@ use Rattle.plan_code.specs.declared.plan.Plan.{Plan}
 use Rattle.plan_flow.specs.Rules.{Known, known_after_swap, waited, paused, perhaps_swapped, settled}
 use Rattle.plan_flow.specs.Flows.{Flow, known_at, moved, widest}
 use Rattle.script_front.specs.Block.{Block, nothing, basic, stop, when, either, repeat, forever, apply}
-use Rattle.script_meaning.specs.declared.flow.Spot.{Spot}
+use Rattle.script_meaning.specs.declared.flow.ProgramPoint.{ProgramPoint}
 use Rattle.script_meaning.specs.Scheme.{Place, past, at_label, meet, join, onward, head, spot_after, place_of_instr, alone, places, all_places, instr_of_act, falls_out}
 use Rattle.script_meaning.specs.Compiled.{lines_of_places}
 
@@ -84,17 +84,17 @@ widest_ranged (Perhaps hi) (Within least most) h k = omega (arith, h, k)
 widest_ranged (Perhaps hi) (Perhaps most) h k = omega (arith, h, k)
 
 -- of a way, where it continues
-abbrev WayRanged : Option Spot → Type 0
+abbrev WayRanged : Option ProgramPoint → Type 0
 WayRanged None = Unit {0}
 WayRanged (Some s) = IsRanged s.flow.pending
 
-meet_ranged : (v w : Option Spot) → WayRanged v → WayRanged w → WayRanged (meet v w)
+meet_ranged : (v w : Option ProgramPoint) → WayRanged v → WayRanged w → WayRanged (meet v w)
 meet_ranged None None h k = tt
 meet_ranged None (Some t) h k = k
 meet_ranged (Some s) None h k = h
 meet_ranged (Some s) (Some t) h k = widest_ranged s.flow.pending t.flow.pending h k
 
-join_ranged : (v w : Option Spot) → WayRanged v → WayRanged w → WayRanged (join v w)
+join_ranged : (v w : Option ProgramPoint) → WayRanged v → WayRanged w → WayRanged (join v w)
 join_ranged None w h k = k
 join_ranged (Some s) w h k = meet_ranged w (Some s) k h
 
@@ -125,20 +125,20 @@ ranged_both : (ps qs : List Place) → AllRanged ps → AllRanged qs → AllRang
 ranged_both [] qs h k = k
 ranged_both (p ∷ ps) qs h k = (h.0, ranged_both ps qs h.1 k)
 
-ranged_alone : (w : Option Spot) (line : ℕ) (i : Instr) (r : ℕ) → WayRanged w → AllRanged (onward w [] (alone line i r))
+ranged_alone : (w : Option ProgramPoint) (line : ℕ) (i : Instr) (r : ℕ) → WayRanged w → AllRanged (onward w [] (alone line i r))
 ranged_alone None line i r h = tt
 ranged_alone (Some u) line i r h = (h, tt)
 
 -- at the places, and where they lead
-abbrev AreRanged : List Place → Option Spot → Type 0
+abbrev AreRanged : List Place → Option ProgramPoint → Type 0
 AreRanged ps w = AllRanged ps × WayRanged w
 
-ranged_onward : (w : Option Spot) (lay : Spot → List Place) (next : Spot → Option Spot) → WayRanged w → AllInstrs (onward w [] lay)
-    → ((u : Spot) → IsRanged u.flow.pending → AllInstrs (lay u) → AreRanged (lay u) (next u)) → AreRanged (onward w [] lay) (onward w None next)
+ranged_onward : (w : Option ProgramPoint) (lay : ProgramPoint → List Place) (next : ProgramPoint → Option ProgramPoint) → WayRanged w → AllInstrs (onward w [] lay)
+    → ((u : ProgramPoint) → IsRanged u.flow.pending → AllInstrs (lay u) → AreRanged (lay u) (next u)) → AreRanged (onward w [] lay) (onward w None next)
 ranged_onward None lay next h i k = (tt, tt)
 ranged_onward (Some u) lay next h i k = k u h i
 
-block_ranged : (plan : Plan) (b : Block) (r pc : ℕ) (s : Spot) → plan.notice ≤ 248 → AllInstrs (places plan r pc b s) → IsRanged s.flow.pending → AreRanged (places plan r pc b s) (spot_after plan b s)
+block_ranged : (plan : Plan) (b : Block) (r pc : ℕ) (s : ProgramPoint) → plan.notice ≤ 248 → AllInstrs (places plan r pc b s) → IsRanged s.flow.pending → AreRanged (places plan r pc b s) (spot_after plan b s)
 block_ranged plan nothing r pc s most i h = (tt, h)
 block_ranged plan (basic line act rest) r pc s most i h =
     let rests = block_ranged plan rest r (pc + 1) (past (moved plan (instr_of_act act) s.flow)) most i.1 (moved_ranged plan (instr_of_act act) s.flow most i.0 h) in
@@ -177,7 +177,7 @@ block_ranged plan (repeat line n body rest) r pc s most i h =
     let start = head body (past s.flow) in
     let bodies = places plan (r + 1) (pc + 1) body start in
     let end = pc + 1 + length bodies in
-    let back : Spot → List Place = λ u. place_of_instr line (Loop r (pc + 1)) (r + 1) u ∷ places plan r (end + 1) rest (past u.flow) in
+    let back : ProgramPoint → List Place = λ u. place_of_instr line (Loop r (pc + 1)) (r + 1) u ∷ places plan r (end + 1) rest (past u.flow) in
     let rests = onward (spot_after plan body start) [] back in
     let one = block_ranged plan body (r + 1) (pc + 1) start most (instrs_front bodies rests i.1) h in
     let more =
@@ -202,7 +202,7 @@ block_ranged plan (apply line k named rest) r pc s most i h =
     in
     (ranged_both names rests one.0 more.0, more.1)
 
-pub all_ranged : (plan : Plan) (last : ℕ) (b : Block) (s : Spot) → plan.notice ≤ 248 → AllInstrs (all_places plan last b s) → IsRanged s.flow.pending → AllRanged (all_places plan last b s)
+pub all_ranged : (plan : Plan) (last : ℕ) (b : Block) (s : ProgramPoint) → plan.notice ≤ 248 → AllInstrs (all_places plan last b s) → IsRanged s.flow.pending → AllRanged (all_places plan last b s)
 all_ranged plan last b s most i h =
     let ending = onward (spot_after plan b s) [] (alone last End 0) in
     let one = block_ranged plan b 0 0 s most (instrs_front (places plan 0 0 b s) ending i) h in

@@ -16,7 +16,7 @@ use Rattle.script_meaning.specs.Compiled.{plan_of, opening_of}
 use Rattle.script_front.specs.declared.tree.Act.{Act}
 use Rattle.script_front.specs.declared.tree.Statement.{Statement}
 use Rattle.script_front.specs.Block.{Block, nothing, basic, when, either, repeat, forever, apply, before, block_of}
-use Rattle.script_meaning.specs.declared.flow.Spot.{Spot}
+use Rattle.script_meaning.specs.declared.flow.ProgramPoint.{ProgramPoint}
 use Rattle.script_meaning.specs.Scheme.{past, at_label, head, instr_of_act, spot_after, falls_out}
 use Rattle.script_meaning.specs.Judged.{WaysAgree, BranchesAgree, ComesRound}
 use Rattle.script_meaning.specs.Refused.{IsRefusedIn, IsRefusedAfter, IsUnreached}
@@ -58,15 +58,15 @@ refused_as_said plan line i t e h = refused_here e line h.0 (λ at given. (at �
 
 -- ---- a statement, where it is that of an arm
 
-pub why_as : (plan : Plan) (s : Spot) (x : Result Bool CompileFault) (shape shape' : Block → Block) → ((rest : Block) → shape rest ≡ shape' rest) → IfErr x (λ e. (rest : Block) → IfRefused e (λ at given. IsRefusedIn plan (shape' rest) s at given)) → IfErr x (λ e. (rest : Block) → IfRefused e (λ at given. IsRefusedIn plan (shape rest) s at given))
+pub why_as : (plan : Plan) (s : ProgramPoint) (x : Result Bool CompileFault) (shape shape' : Block → Block) → ((rest : Block) → shape rest ≡ shape' rest) → IfErr x (λ e. (rest : Block) → IfRefused e (λ at given. IsRefusedIn plan (shape' rest) s at given)) → IfErr x (λ e. (rest : Block) → IfRefused e (λ at given. IsRefusedIn plan (shape rest) s at given))
 why_as plan s (Ok f) shape shape' e h = h
 why_as plan s (Err y) shape shape' e h = λ rest. subst (λ b. IfRefused y (λ at given. IsRefusedIn plan b s at given)) (sym (e rest)) (h rest)
 
-pub act_why : (plan : Plan) (s : Spot) (x : Result Bool CompileFault) (line : ℕ) (a : Act) → IfErr x (λ e. IfRefused e (λ at given. (at ≡ line) × FlowRefused plan (instr_of_act a) (known_at s.flow) given)) → IfErr x (λ e. (rest : Block) → IfRefused e (λ at given. IsRefusedIn plan (basic line a rest) s at given))
+pub act_why : (plan : Plan) (s : ProgramPoint) (x : Result Bool CompileFault) (line : ℕ) (a : Act) → IfErr x (λ e. IfRefused e (λ at given. (at ≡ line) × FlowRefused plan (instr_of_act a) (known_at s.flow) given)) → IfErr x (λ e. (rest : Block) → IfRefused e (λ at given. IsRefusedIn plan (basic line a rest) s at given))
 act_why plan s (Ok f) line a h = h
 act_why plan s (Err y) line a h = λ rest. refused_map y (λ at given k. inl k) h
 
-pub apply_why : (plan : Plan) (s : Spot) (x : Result Bool CompileFault) (line number : ℕ) (name : Block) → IfErr x (λ e. IfRefused e (λ at given. IsRefusedIn plan name s at given)) → IfErr x (λ e. (rest : Block) → IfRefused e (λ at given. IsRefusedIn plan (apply line number name rest) s at given))
+pub apply_why : (plan : Plan) (s : ProgramPoint) (x : Result Bool CompileFault) (line number : ℕ) (name : Block) → IfErr x (λ e. IfRefused e (λ at given. IsRefusedIn plan name s at given)) → IfErr x (λ e. (rest : Block) → IfRefused e (λ at given. IsRefusedIn plan (apply line number name rest) s at given))
 apply_why plan s (Ok f) line number name h = h
 apply_why plan s (Err y) line number name h = λ rest. refused_map y (λ at given k. inl k) h
 
@@ -80,10 +80,10 @@ module _ (plan : Plan) (r line c : ℕ) (first rest : Block) (w0 w2 w3 : Work) (
   pub when_body_why : Forks line (Test c 0) r w0 w2 → IfRefused e (λ at given. IsRefusedIn plan first w2.now at given) → IfRefused e (λ at given. IsRefusedIn plan (when line c first rest) w0.now at given)
   when_body_why fork h = refused_map e (λ at given k. inl (subst (λ s. IsRefusedIn plan first s at given) fork.now k)) h
 
-  pub when_why : Forks line (Test c 0) r w0 w2 → Left plan r first w2 w3 f nothing → IsMismatchAt line e → (IsRefusal e → (front : List Spot) (entry : Spot) → w3.saved.items ≡ front ++ entry ∷ [] → WaysAgree (way f w3) (Some entry) → ⊥) → IfRefused e (λ at given. IsRefusedIn plan (when line c first rest) w0.now at given)
+  pub when_why : Forks line (Test c 0) r w0 w2 → Left plan r first w2 w3 f nothing → IsMismatchAt line e → (IsRefusal e → (front : List ProgramPoint) (entry : ProgramPoint) → w3.saved.items ≡ front ++ entry ∷ [] → WaysAgree (way f w3) (Some entry) → ⊥) → IfRefused e (λ at given. IsRefusedIn plan (when line c first rest) w0.now at given)
   when_why fork left h k = by e h k
     where
-      by : (y : CompileFault) → IsMismatchAt line y → (IsRefusal y → (front : List Spot) (entry : Spot) → w3.saved.items ≡ front ++ entry ∷ [] → WaysAgree (way f w3) (Some entry) → ⊥) → IfRefused y (λ at given. IsRefusedIn plan (when line c first rest) w0.now at given)
+      by : (y : CompileFault) → IsMismatchAt line y → (IsRefusal y → (front : List ProgramPoint) (entry : ProgramPoint) → w3.saved.items ≡ front ++ entry ∷ [] → WaysAgree (way f w3) (Some entry) → ⊥) → IfRefused y (λ at given. IsRefusedIn plan (when line c first rest) w0.now at given)
       by (Refused at given) h k =
           let whole = whole_of plan r (length w2.lines.items) first (past w0.now.flow) w2 w3 f refl fork.now left in
           inr (whole.judged, inl ((λ agree. k tt w0.saved.items w0.now (left.lays.saved ∙ fork.saved) (subst (λ w. WaysAgree w (Some w0.now)) whole.leads agree)), h.0, h.1))
@@ -94,17 +94,17 @@ module _ (plan : Plan) (r line c jump : ℕ) (first second rest : Block) (w0 w2 
   pub either_first_why : Forks line (Test c 0) r w0 w2 → IfRefused e (λ at given. IsRefusedIn plan first w2.now at given) → IfRefused e (λ at given. IsRefusedIn plan (either line c first second rest) w0.now at given)
   either_first_why fork h = refused_map e (λ at given k. inl (subst (λ s. IsRefusedIn plan first s at given) fork.now k)) h
 
-  pub either_second_why : Forks line (Test c 0) r w0 w2 → Left plan r first w2 w3 f1 nothing → ((front : List Spot) (entry : Spot) → w3.saved.items ≡ front ++ entry ∷ [] → Turns f1 line r c jump front entry w3 w6) → IfRefused e (λ at given. IsRefusedIn plan second w6.now at given) → IfRefused e (λ at given. IsRefusedIn plan (either line c first second rest) w0.now at given)
+  pub either_second_why : Forks line (Test c 0) r w0 w2 → Left plan r first w2 w3 f1 nothing → ((front : List ProgramPoint) (entry : ProgramPoint) → w3.saved.items ≡ front ++ entry ∷ [] → Turns f1 line r c jump front entry w3 w6) → IfRefused e (λ at given. IsRefusedIn plan second w6.now at given) → IfRefused e (λ at given. IsRefusedIn plan (either line c first second rest) w0.now at given)
   either_second_why fork left turning h =
       let whole = whole_of plan r (length w2.lines.items) first (past w0.now.flow) w2 w3 f1 refl fork.now left in
       let turn = turning w0.saved.items w0.now (left.lays.saved ∙ fork.saved) in
       refused_map e (λ at given k. inr (whole.judged, inl (subst (λ s. IsRefusedIn plan second s at given) turn.now k))) h
 
-  pub either_why : Forks line (Test c 0) r w0 w2 → Left plan r first w2 w3 f1 nothing → ((front : List Spot) (entry : Spot) → w3.saved.items ≡ front ++ entry ∷ [] → Turns f1 line r c jump front entry w3 w6) → Left plan r second w6 w7 f2 nothing → IsMismatchAt line e
-      → (IsRefusal e → (front : List Spot) (a : Option Spot) → f1 ≡ is_some a → w7.saved.items ≡ front ++ spots_of a → BranchesAgree a (way f2 w7) → ⊥) → IfRefused e (λ at given. IsRefusedIn plan (either line c first second rest) w0.now at given)
+  pub either_why : Forks line (Test c 0) r w0 w2 → Left plan r first w2 w3 f1 nothing → ((front : List ProgramPoint) (entry : ProgramPoint) → w3.saved.items ≡ front ++ entry ∷ [] → Turns f1 line r c jump front entry w3 w6) → Left plan r second w6 w7 f2 nothing → IsMismatchAt line e
+      → (IsRefusal e → (front : List ProgramPoint) (a : Option ProgramPoint) → f1 ≡ is_some a → w7.saved.items ≡ front ++ spots_of a → BranchesAgree a (way f2 w7) → ⊥) → IfRefused e (λ at given. IsRefusedIn plan (either line c first second rest) w0.now at given)
   either_why fork left turning left2 h k = by e h k
     where
-      by : (y : CompileFault) → IsMismatchAt line y → (IsRefusal y → (front : List Spot) (a : Option Spot) → f1 ≡ is_some a → w7.saved.items ≡ front ++ spots_of a → BranchesAgree a (way f2 w7) → ⊥) → IfRefused y (λ at given. IsRefusedIn plan (either line c first second rest) w0.now at given)
+      by : (y : CompileFault) → IsMismatchAt line y → (IsRefusal y → (front : List ProgramPoint) (a : Option ProgramPoint) → f1 ≡ is_some a → w7.saved.items ≡ front ++ spots_of a → BranchesAgree a (way f2 w7) → ⊥) → IfRefused y (λ at given. IsRefusedIn plan (either line c first second rest) w0.now at given)
       by (Refused at given) h k =
           let turn = turning w0.saved.items w0.now (left.lays.saved ∙ fork.saved) in
           let one = whole_of plan r (length w2.lines.items) first (past w0.now.flow) w2 w3 f1 refl fork.now left in
@@ -118,10 +118,10 @@ module _ (plan : Plan) (r line n : ℕ) (body rest : Block) (w0 w1 w2 w3 : Work)
   repeat_body_why n1 ef n2 h = refused_map e (λ at given k. inl (subst (λ s. IsRefusedIn plan body s at given) (head_is body falls w1 w2 ef n2 ∙ ap (λ s. head body s) n1) k)) h
 
   pub repeat_why : w1.now ≡ past w0.now.flow → falls ≡ falls_out body → w2.now ≡ record { flow = w1.now.flow; labelled = if falls then true else w1.now.labelled } → w2.saved.items ≡ w1.saved.items ++ w2.now ∷ [] → r + 1 ≤ 8 → Left plan (r + 1) body w2 w3 f nothing → IsMismatchAt line e
-      → (IsRefusal e → (front : List Spot) (entry : Spot) → w3.saved.items ≡ front ++ entry ∷ [] → ComesRound (way f w3) entry → ⊥) → IfRefused e (λ at given. IsRefusedIn plan (repeat line n body rest) w0.now at given)
+      → (IsRefusal e → (front : List ProgramPoint) (entry : ProgramPoint) → w3.saved.items ≡ front ++ entry ∷ [] → ComesRound (way f w3) entry → ⊥) → IfRefused e (λ at given. IsRefusedIn plan (repeat line n body rest) w0.now at given)
   repeat_why n1 ef n2 s2 deep left h k = by e h k
     where
-      by : (y : CompileFault) → IsMismatchAt line y → (IsRefusal y → (front : List Spot) (entry : Spot) → w3.saved.items ≡ front ++ entry ∷ [] → ComesRound (way f w3) entry → ⊥) → IfRefused y (λ at given. IsRefusedIn plan (repeat line n body rest) w0.now at given)
+      by : (y : CompileFault) → IsMismatchAt line y → (IsRefusal y → (front : List ProgramPoint) (entry : ProgramPoint) → w3.saved.items ≡ front ++ entry ∷ [] → ComesRound (way f w3) entry → ⊥) → IfRefused y (λ at given. IsRefusedIn plan (repeat line n body rest) w0.now at given)
       by (Refused at given) h k =
           let start = head body (past w0.now.flow) in
           let is : w2.now ≡ start = head_is body falls w1 w2 ef n2 ∙ ap (λ s. head body s) n1 in
@@ -135,10 +135,10 @@ module _ (plan : Plan) (r line : ℕ) (body rest : Block) (w0 w2 w3 : Work) (f f
   forever_body_why ef n2 h = refused_map e (λ at given k. inl (subst (λ s. IsRefusedIn plan body s at given) (head_is body falls w0 w2 ef n2) k)) h
 
   pub forever_why : falls ≡ falls_out body → w2.now ≡ record { flow = w0.now.flow; labelled = if falls then true else w0.now.labelled } → w2.saved.items ≡ w0.saved.items ++ w2.now ∷ [] → Left plan r body w2 w3 f nothing → IsMismatchAt line e
-      → (IsRefusal e → (front : List Spot) (entry : Spot) → w3.saved.items ≡ front ++ entry ∷ [] → ComesRound (way f w3) entry → ⊥) → IfRefused e (λ at given. IsRefusedIn plan (forever line body rest) w0.now at given)
+      → (IsRefusal e → (front : List ProgramPoint) (entry : ProgramPoint) → w3.saved.items ≡ front ++ entry ∷ [] → ComesRound (way f w3) entry → ⊥) → IfRefused e (λ at given. IsRefusedIn plan (forever line body rest) w0.now at given)
   forever_why ef n2 s2 left h k = by e h k
     where
-      by : (y : CompileFault) → IsMismatchAt line y → (IsRefusal y → (front : List Spot) (entry : Spot) → w3.saved.items ≡ front ++ entry ∷ [] → ComesRound (way f w3) entry → ⊥) → IfRefused y (λ at given. IsRefusedIn plan (forever line body rest) w0.now at given)
+      by : (y : CompileFault) → IsMismatchAt line y → (IsRefusal y → (front : List ProgramPoint) (entry : ProgramPoint) → w3.saved.items ≡ front ++ entry ∷ [] → ComesRound (way f w3) entry → ⊥) → IfRefused y (λ at given. IsRefusedIn plan (forever line body rest) w0.now at given)
       by (Refused at given) h k =
           let start = head body w0.now in
           let is : w2.now ≡ start = head_is body falls w0 w2 ef n2 in

@@ -9,7 +9,7 @@ use Rattle.script_front.specs.declared.tree.Act.{Act}
 use Rattle.script_front.specs.declared.tree.Statement.{Statement}
 use Rattle.script_front.specs.declared.tree.Statement.TheOpen.{Statement-F}
 use Rattle.script_front.specs.Block.{Block, nothing, basic, when, either, repeat, forever, apply, Before, statement_step, before, block_of}
-use Rattle.script_meaning.specs.declared.flow.Spot.{Spot}
+use Rattle.script_meaning.specs.declared.flow.ProgramPoint.{ProgramPoint}
 use Rattle.script_meaning.specs.Scheme.{past, at_label, head, instr_of_act, spot_after, falls_out}
 use Rattle.script_meaning.specs.Judged.{IsJudged, IsDone, Reached, WaysAgree, BranchesAgree, ComesRound}
 use Rattle.script_compiler.specs.Working.{Work}
@@ -29,15 +29,15 @@ err_map (Ok f) P Q m h = h
 err_map (Err y) P Q m h = m y h
 
 -- a statement, where it is that of an arm
-pub refused_as : (plan : Plan) (s : Spot) (x : Result Bool CompileFault) (shape shape' : Block → Block) → ((rest : Block) → shape rest ≡ shape' rest) → IfErr x (λ e. IsRefusal e → (rest : Block) → IsJudged plan (shape' rest) s → ⊥) → IfErr x (λ e. IsRefusal e → (rest : Block) → IsJudged plan (shape rest) s → ⊥)
+pub refused_as : (plan : Plan) (s : ProgramPoint) (x : Result Bool CompileFault) (shape shape' : Block → Block) → ((rest : Block) → shape rest ≡ shape' rest) → IfErr x (λ e. IsRefusal e → (rest : Block) → IsJudged plan (shape' rest) s → ⊥) → IfErr x (λ e. IsRefusal e → (rest : Block) → IsJudged plan (shape rest) s → ⊥)
 refused_as plan s (Ok f) shape shape' e h = h
 refused_as plan s (Err y) shape shape' e h = λ is rest j. h is rest (subst (λ b. IsJudged plan b s) (e rest) j)
 
-pub act_refused : (plan : Plan) (s : Spot) (x : Result Bool CompileFault) (line : ℕ) (a : Act) → IfErr x (λ e. IsRefusal e → IsFine plan (instr_of_act a) (known_at s.flow) → ⊥) → IfErr x (λ e. IsRefusal e → (rest : Block) → IsJudged plan (basic line a rest) s → ⊥)
+pub act_refused : (plan : Plan) (s : ProgramPoint) (x : Result Bool CompileFault) (line : ℕ) (a : Act) → IfErr x (λ e. IsRefusal e → IsFine plan (instr_of_act a) (known_at s.flow) → ⊥) → IfErr x (λ e. IsRefusal e → (rest : Block) → IsJudged plan (basic line a rest) s → ⊥)
 act_refused plan s (Ok f) line a h = h
 act_refused plan s (Err y) line a h = λ is rest j. h is j.0
 
-pub apply_refused : (plan : Plan) (s : Spot) (x : Result Bool CompileFault) (line number : ℕ) (name : Block) → IfErr x (λ e. IsRefusal e → IsJudged plan name s → ⊥) → IfErr x (λ e. IsRefusal e → (rest : Block) → IsJudged plan (apply line number name rest) s → ⊥)
+pub apply_refused : (plan : Plan) (s : ProgramPoint) (x : Result Bool CompileFault) (line number : ℕ) (name : Block) → IfErr x (λ e. IsRefusal e → IsJudged plan name s → ⊥) → IfErr x (λ e. IsRefusal e → (rest : Block) → IsJudged plan (apply line number name rest) s → ⊥)
 apply_refused plan s (Ok f) line number name h = h
 apply_refused plan s (Err y) line number name h = λ is rest j. h is j.0
 
@@ -56,16 +56,16 @@ module _ (plan : Plan) (r line c at : ℕ) (first second rest : Block) (w0 w2 w3
   pub either_first : Forks line (Test c 0) r w0 w2 → IsJudged plan (either line c first second rest) w0.now → IsJudged plan first w2.now
   either_first fork j = subst (λ s. IsJudged plan first s) (sym fork.now) j.0
 
-  turned : Forks line (Test c 0) r w0 w2 → Left plan r first w2 w3 f1 nothing → ((front : List Spot) (entry : Spot) → w3.saved.items ≡ front ++ entry ∷ [] → Turns f1 line r c at front entry w3 w6) → Turns f1 line r c at w0.saved.items w0.now w3 w6
+  turned : Forks line (Test c 0) r w0 w2 → Left plan r first w2 w3 f1 nothing → ((front : List ProgramPoint) (entry : ProgramPoint) → w3.saved.items ≡ front ++ entry ∷ [] → Turns f1 line r c at front entry w3 w6) → Turns f1 line r c at w0.saved.items w0.now w3 w6
   turned fork left turning = turning w0.saved.items w0.now (left.lays.saved ∙ fork.saved)
 
-  pub either_second : Forks line (Test c 0) r w0 w2 → Left plan r first w2 w3 f1 nothing → ((front : List Spot) (entry : Spot) → w3.saved.items ≡ front ++ entry ∷ [] → Turns f1 line r c at front entry w3 w6) → IsJudged plan (either line c first second rest) w0.now → IsJudged plan second w6.now
+  pub either_second : Forks line (Test c 0) r w0 w2 → Left plan r first w2 w3 f1 nothing → ((front : List ProgramPoint) (entry : ProgramPoint) → w3.saved.items ≡ front ++ entry ∷ [] → Turns f1 line r c at front entry w3 w6) → IsJudged plan (either line c first second rest) w0.now → IsJudged plan second w6.now
   either_second fork left turning j = subst (λ s. IsJudged plan second s) (sym (turned fork left turning).now) j.1
 
-  pub either_saved : Forks line (Test c 0) r w0 w2 → Left plan r first w2 w3 f1 nothing → ((front : List Spot) (entry : Spot) → w3.saved.items ≡ front ++ entry ∷ [] → Turns f1 line r c at front entry w3 w6) → Left plan r second w6 w7 f2 nothing → w7.saved.items ≡ w0.saved.items ++ spots_of (way f1 w3)
+  pub either_saved : Forks line (Test c 0) r w0 w2 → Left plan r first w2 w3 f1 nothing → ((front : List ProgramPoint) (entry : ProgramPoint) → w3.saved.items ≡ front ++ entry ∷ [] → Turns f1 line r c at front entry w3 w6) → Left plan r second w6 w7 f2 nothing → w7.saved.items ≡ w0.saved.items ++ spots_of (way f1 w3)
   either_saved fork left turning left2 = left2.lays.saved ∙ (turned fork left turning).saved
 
-  pub either_agrees : Forks line (Test c 0) r w0 w2 → Left plan r first w2 w3 f1 nothing → ((front : List Spot) (entry : Spot) → w3.saved.items ≡ front ++ entry ∷ [] → Turns f1 line r c at front entry w3 w6) → Left plan r second w6 w7 f2 nothing → IsJudged plan (either line c first second rest) w0.now → BranchesAgree (way f1 w3) (way f2 w7)
+  pub either_agrees : Forks line (Test c 0) r w0 w2 → Left plan r first w2 w3 f1 nothing → ((front : List ProgramPoint) (entry : ProgramPoint) → w3.saved.items ≡ front ++ entry ∷ [] → Turns f1 line r c at front entry w3 w6) → Left plan r second w6 w7 f2 nothing → IsJudged plan (either line c first second rest) w0.now → BranchesAgree (way f1 w3) (way f2 w7)
   either_agrees fork left turning left2 j =
       let h = whole_of plan r (length w2.lines.items) first (past w0.now.flow) w2 w3 f1 refl fork.now left in
       let h2 = whole_of plan r (length w6.lines.items) second (at_label w0.now.flow) w6 w7 f2 refl (turned fork left turning).now left2 in
@@ -76,7 +76,7 @@ some_is true w = refl
 some_is false w = refl
 
 pub head_is : (body : Block) (falls : Bool) (v w : Work) → falls ≡ falls_out body → w.now ≡ record { flow = v.now.flow; labelled = if falls then true else v.now.labelled } → w.now ≡ head body v.now
-head_is body falls v w ef n = n ∙ ap (λ b. let t : Spot = record { flow = v.now.flow; labelled = if b then true else v.now.labelled } in t) ef
+head_is body falls v w ef n = n ∙ ap (λ b. let t : ProgramPoint = record { flow = v.now.flow; labelled = if b then true else v.now.labelled } in t) ef
 
 module _ (plan : Plan) (r line n : ℕ) (body rest : Block) (w0 w1 w2 w3 : Work) (f falls : Bool) where
   pub repeat_body : w1.now ≡ past w0.now.flow → falls ≡ falls_out body → w2.now ≡ record { flow = w1.now.flow; labelled = if falls then true else w1.now.labelled } → IsJudged plan (repeat line n body rest) w0.now → IsJudged plan body w2.now

@@ -3,7 +3,7 @@ use Rattle.std.proofs.Common.{◌≡◌, ◌≢◌, ℕ, zero, suc, ◌+◌, ◌
 use Rattle.std.specs.Prelude.{slice_get}
 use Rattle.std.proofs.lemmas.Bool.{cases_lt}
 use Rattle.mux_config.specs.Configuration.{Configuration}
-use Rattle.script_meaning.specs.declared.flow.Mark.{Mark}
+use Rattle.script_meaning.specs.declared.flow.UnpricedLabel.{UnpricedLabel}
 use Rattle.script_meaning.specs.Compiled.{StandsIn, Added, Tabled}
 use Rattle.script_compiler.specs.Room.{AreNew, HasRoomFor, named_by, Leaves}
 
@@ -62,23 +62,23 @@ room_added c table one cs (inr new) there room = λ xs n.
 pub leaves_same : (table : List Configuration) → Leaves table table []
 leaves_same table = λ more h. h
 
-pub leaves_mark : (m : Mark) (table one both : List Configuration) → Added m.flow.current table one → Added m.flow.next one both → Leaves table both (m ∷ [])
+pub leaves_mark : (m : UnpricedLabel) (table one both : List Configuration) → Added m.flow.current table one → Added m.flow.next one both → Leaves table both (m ∷ [])
 leaves_mark m table one both a b = λ more room.
     let cs = m.flow.current ∷ m.flow.next ∷ more in
     let r1 = room_added m.flow.current table one cs a (0, refl) room in
     let r2 = room_added m.flow.next one both cs b (1, refl) r1 in
     room_fewer both more cs (λ x h. (suc (suc h.0), h.1)) r2
 
-pub named_both : (ms ns : List Mark) → named_by (ms ++ ns) ≡ named_by ms ++ named_by ns
+pub named_both : (ms ns : List UnpricedLabel) → named_by (ms ++ ns) ≡ named_by ms ++ named_by ns
 named_both [] ns = refl
 named_both (m ∷ ms) ns = ap (λ xs. m.flow.current ∷ m.flow.next ∷ xs) (named_both ms ns)
 
-pub leaves_both : (t0 t1 t2 : List Configuration) (ms ns : List Mark) → Leaves t0 t1 ms → Leaves t1 t2 ns → Leaves t0 t2 (ms ++ ns)
+pub leaves_both : (t0 t1 t2 : List Configuration) (ms ns : List UnpricedLabel) → Leaves t0 t1 ms → Leaves t1 t2 ns → Leaves t0 t2 (ms ++ ns)
 leaves_both t0 t1 t2 ms ns h k = λ more room.
     let e : named_by (ms ++ ns) ++ more ≡ named_by ms ++ (named_by ns ++ more) = ap (λ xs. xs ++ more) (named_both ms ns) ∙ append_assoc (named_by ms) (named_by ns) more in
     k more (h (named_by ns ++ more) (subst (λ cs. HasRoomFor t0 cs) e room))
 
-pub room_front : (table : List Configuration) (m : Mark) (ms : List Mark) → HasRoomFor table (named_by (m ∷ ms)) → HasRoomFor table (named_by (m ∷ []))
+pub room_front : (table : List Configuration) (m : UnpricedLabel) (ms : List UnpricedLabel) → HasRoomFor table (named_by (m ∷ ms)) → HasRoomFor table (named_by (m ∷ []))
 room_front table m ms room = room_fewer table (named_by (m ∷ [])) (named_by (m ∷ ms)) (λ c h. by c h.0 h.1) room
   where
     by : (c : Configuration) (i : ℕ) → slice_get (named_by (m ∷ [])) i ≡ Some c → StandsIn c (named_by (m ∷ ms))
@@ -87,14 +87,14 @@ room_front table m ms room = room_fewer table (named_by (m ∷ [])) (named_by (m
     by c (suc (suc i)) e = absurd (none_in_nothing c (i, e))
 
 -- no room for the first of two, or for the second
-pub room_current : (table : List Configuration) (m : Mark) → (HasRoomFor table (m.flow.current ∷ []) → ⊥) → HasRoomFor table (named_by (m ∷ [])) → ⊥
+pub room_current : (table : List Configuration) (m : UnpricedLabel) → (HasRoomFor table (m.flow.current ∷ []) → ⊥) → HasRoomFor table (named_by (m ∷ [])) → ⊥
 room_current table m full room = full (room_fewer table (m.flow.current ∷ []) (named_by (m ∷ [])) (λ c h. by c h.0 h.1) room)
   where
     by : (c : Configuration) (i : ℕ) → slice_get (m.flow.current ∷ []) i ≡ Some c → StandsIn c (named_by (m ∷ []))
     by c zero e = (0, e)
     by c (suc i) e = absurd (none_in_nothing c (i, e))
 
-pub room_next : (table one : List Configuration) (m : Mark) → Added m.flow.current table one → (HasRoomFor one (m.flow.next ∷ []) → ⊥) → HasRoomFor table (named_by (m ∷ [])) → ⊥
+pub room_next : (table one : List Configuration) (m : UnpricedLabel) → Added m.flow.current table one → (HasRoomFor one (m.flow.next ∷ []) → ⊥) → HasRoomFor table (named_by (m ∷ [])) → ⊥
 room_next table one m a full room =
     let more = room_added m.flow.current table one (named_by (m ∷ [])) a (0, refl) room in
     full (room_fewer one (m.flow.next ∷ []) (named_by (m ∷ [])) (λ c h. by c h.0 h.1) more)
@@ -129,7 +129,7 @@ module _ (c : Configuration) (table : List Configuration) where
   added_some : ((new : List Configuration) → Added c table new → ⊥) → ⊥
   added_some k = k (table ++ c ∷ []) (inr ((λ h. k table (inl (h, refl))), refl))
 
-tabled_some : (ms : List Mark) (table : List Configuration) → ((new : List Configuration) → Tabled table ms new → ⊥) → ⊥
+tabled_some : (ms : List UnpricedLabel) (table : List Configuration) → ((new : List Configuration) → Tabled table ms new → ⊥) → ⊥
 tabled_some [] table k = k table refl
 tabled_some (m ∷ ms) table k =
     added_some m.flow.current table (λ one a. added_some m.flow.next one (λ both b. tabled_some ms both (λ new t. k new (one, both, a, b, t))))
@@ -184,11 +184,11 @@ added_stands : (c : Configuration) (table new : List Configuration) → Added c 
 added_stands c table new (inl old) = subst (λ t. StandsIn c t) (sym old.1) old.0
 added_stands c table new (inr fresh) = subst (λ t. StandsIn c t) (sym fresh.1) (length table, stands_last table c)
 
-tabled_keeps : (ms : List Mark) (table new : List Configuration) → Tabled table ms new → (d : Configuration) → StandsIn d table → StandsIn d new
+tabled_keeps : (ms : List UnpricedLabel) (table new : List Configuration) → Tabled table ms new → (d : Configuration) → StandsIn d table → StandsIn d new
 tabled_keeps [] table new t d h = subst (λ x. StandsIn d x) (sym t) h
 tabled_keeps (m ∷ ms) table new t d h = tabled_keeps ms t.1 new t.4 d (grows_stands m.flow.next t.0 t.1 t.3 d (grows_stands m.flow.current table t.0 t.2 d h))
 
-tabled_names : (ms : List Mark) (table new : List Configuration) → Tabled table ms new → (d : Configuration) (i : ℕ) → slice_get (named_by ms) i ≡ Some d → StandsIn d new
+tabled_names : (ms : List UnpricedLabel) (table new : List Configuration) → Tabled table ms new → (d : Configuration) (i : ℕ) → slice_get (named_by ms) i ≡ Some d → StandsIn d new
 tabled_names [] table new t d i e = absurd (none_in_nothing d (i, e))
 tabled_names (m ∷ ms) table new t d zero e =
     let here = grows_stands m.flow.next t.0 t.1 t.3 m.flow.current (added_stands m.flow.current table t.0 t.2) in
@@ -202,7 +202,7 @@ new_differ table cs new [] h n = tt
 new_differ table cs new (x ∷ xs) h n = (h x n.0, n.2, new_differ table cs new xs h n.3)
 
 -- where every table for some labels is small enough, there is room for them from the beginning
-pub room_from : (ms : List Mark) → ((table : List Configuration) → Tabled [] ms table → length table ≤ 256) → HasRoomFor [] (named_by ms)
+pub room_from : (ms : List UnpricedLabel) → ((table : List Configuration) → Tabled [] ms table → length table ≤ 256) → HasRoomFor [] (named_by ms)
 room_from ms most = λ xs n.
     let few : (length xs ≤ 256 → ⊥) → ⊥ = λ many. tabled_some ms [] (λ new t.
     let k = differ_most xs new (new_differ [] (named_by ms) new xs (λ d s. tabled_names ms [] new t d s.0 s.1) n) in

@@ -18,7 +18,7 @@ use Rattle.plan_flow.proofs.Finding.{commit_fine}
 use Rattle.script_front.specs.declared.tree.Act.{Act}
 use Rattle.script_front.specs.declared.tree.Act.TheVariants.{Edit as Edits, Wait as Waits, WaitContact as WaitsContact, Until as WaitsUntil, CommitIn as CommitsIn, CommitAt as CommitsAt, Join as Joins, Settle as Settles}
 use Rattle.script_front.specs.Block.{Block, nothing, basic, stop, when, either, repeat, forever, apply}
-use Rattle.script_meaning.specs.declared.flow.Spot.{Spot}
+use Rattle.script_meaning.specs.declared.flow.ProgramPoint.{ProgramPoint}
 use Rattle.script_meaning.specs.Scheme.{Place, past, at_label, meet, join, onward, head, spot_after, place_of_instr, alone, places, all_places, instr_of_act, falls_out}
 use Rattle.script_meaning.specs.Judged.{IsJudged, WaysAgree, BranchesAgree, ComesRound, Reached}
 use Rattle.script_meaning.specs.Compiled.{first_counters, nested}
@@ -51,7 +51,7 @@ stand_all (p ∷ ps) before =
     let rest' = subst (λ l. Stand l (length (before ++ p ∷ [])) ps) (append_assoc before (p ∷ []) ps) rest in
     (here, subst (λ m. Stand (before ++ p ∷ ps) m ps) n rest')
 
-pub falls_from : (plan : Plan) (b : Block) (s u : Spot) → spot_after plan b s ≡ Some u → falls_out b ≡ true
+pub falls_from : (plan : Plan) (b : Block) (s u : ProgramPoint) → spot_after plan b s ≡ Some u → falls_out b ≡ true
 falls_from plan b s u e = sym (after_falls plan b s) ∙ ap (λ w. is_some w) e
 
 -- ---- a state that fits another
@@ -90,22 +90,22 @@ fits_trans a b c h k = swap_trans a.pending b.pending c.pending (known_at a) (kn
 
 -- ---- ways that meet
 
-record Meeting (w : Option Spot) (t : Flow) : Type 0 where
+record Meeting (w : Option ProgramPoint) (t : Flow) : Type 0 where
   flow : Flow
   there : w ≡ Some (at_label flow)
   fits : FitsFlow t flow
 
-meets_left : (v w : Option Spot) (s : Spot) → WaysAgree v w → v ≡ Some s → Meeting (meet v w) s.flow
+meets_left : (v w : Option ProgramPoint) (s : ProgramPoint) → WaysAgree v w → v ≡ Some s → Meeting (meet v w) s.flow
 meets_left v w s h e = subst (λ x. WaysAgree x w → Meeting (meet x w) s.flow) (sym e) (by w) h
   where
-    by : (w : Option Spot) → WaysAgree (Some s) w → Meeting (meet (Some s) w) s.flow
+    by : (w : Option ProgramPoint) → WaysAgree (Some s) w → Meeting (meet (Some s) w) s.flow
     by None h = record { flow = s.flow; there = refl; fits = fits_same s.flow }
     by (Some t) h = record { flow = merged s.flow t.flow; there = refl; fits = h.0 }
 
-meets_right : (v w : Option Spot) (t : Spot) → WaysAgree v w → w ≡ Some t → Meeting (meet v w) t.flow
+meets_right : (v w : Option ProgramPoint) (t : ProgramPoint) → WaysAgree v w → w ≡ Some t → Meeting (meet v w) t.flow
 meets_right v w t h e = subst (λ x. WaysAgree v x → Meeting (meet v x) t.flow) (sym e) (by v) h
   where
-    by : (v : Option Spot) → WaysAgree v (Some t) → Meeting (meet v (Some t)) t.flow
+    by : (v : Option ProgramPoint) → WaysAgree v (Some t) → Meeting (meet v (Some t)) t.flow
     by None h = record { flow = t.flow; there = refl; fits = fits_same t.flow }
     by (Some s) h = record { flow = merged s.flow t.flow; there = refl; fits = h.1 }
 
@@ -118,7 +118,7 @@ counted _ r = r
 -- ---- what is said of a code
 
 -- this place of the code is known to be so, or a label stands there that it fits
-pub record Lands (code : List Place) (pc r : ℕ) (s : Spot) : Type 0 where
+pub record Lands (code : List Place) (pc r : ℕ) (s : ProgramPoint) : Type 0 where
   pub place : Place
   pub there : slice_get code pc ≡ Some place
   pub repeats : place.repeats ≡ r
@@ -142,13 +142,13 @@ abbrev pub AllHold : Plan → List Place → ℕ → List Place → Type 0
 AllHold plan code pc [] = Unit {0}
 AllHold plan code pc (p ∷ ps) = Holds plan code pc p × AllHold plan code (pc + 1) ps
 
-abbrev pub Exit : List Place → ℕ → ℕ → Option Spot → Type 0
-Exit code pc r w = (u : Spot) → w ≡ Some u → Lands code pc r u
+abbrev pub Exit : List Place → ℕ → ℕ → Option ProgramPoint → Type 0
+Exit code pc r w = (u : ProgramPoint) → w ≡ Some u → Lands code pc r u
 
 no_target : {A : Type 0} (to : ℕ) (o : Option ℕ) → o ≡ None → o ≡ Some to → A
 no_target to o e h = let f : None ≡ Some to = sym e ∙ h in cc
 
-some_same : (s u : Spot) → Some s ≡ Some u → s ≡ u
+some_same : (s u : ProgramPoint) → Some s ≡ Some u → s ≡ u
 some_same s u e = cc
 
 some_number : (m n : ℕ) → Some m ≡ Some n → m ≡ n
@@ -162,36 +162,36 @@ module _ (plan : Plan) (code : List Place) where
       (h.0, hold_both (pc + 1) a b h.1 (subst (λ n. AllHold plan code n b) e k))
 
   -- a label stands where it lands, if one is wanted there
-  lands_meets : (pc r : ℕ) (s : Spot) (t : Flow) → Lands code pc r s → s.labelled ≡ true → FitsFlow t s.flow → Meets code pc r t
+  lands_meets : (pc r : ℕ) (s : ProgramPoint) (t : Flow) → Lands code pc r s → s.labelled ≡ true → FitsFlow t s.flow → Meets code pc r t
   lands_meets pc r s t l e h = elim l.fits [
-    | inl same ↦ record { place = l.place; there = l.there; repeats = l.repeats; labelled = ap (λ (x : Spot). x.labelled) same ∙ e; fits = subst (λ (x : Spot). FitsFlow t x.flow) (sym same) h }
+    | inl same ↦ record { place = l.place; there = l.there; repeats = l.repeats; labelled = ap (λ (x : ProgramPoint). x.labelled) same ∙ e; fits = subst (λ (x : ProgramPoint). FitsFlow t x.flow) (sym same) h }
     | inr k ↦ record { place = l.place; there = l.there; repeats = l.repeats; labelled = k.0; fits = fits_trans t s.flow l.place.spot.flow h k.1 }
   ]
 
-  meets_lands : (pc r : ℕ) (s : Spot) → Meets code pc r s.flow → Lands code pc r s
+  meets_lands : (pc r : ℕ) (s : ProgramPoint) → Meets code pc r s.flow → Lands code pc r s
   meets_lands pc r s m = record { place = m.place; there = m.there; repeats = m.repeats; fits = inr (m.labelled, m.fits) }
 
   -- the head of a loop
-  lands_head : (f : Bool) (pc r : ℕ) (s : Spot) → Lands code pc r (record { flow = s.flow; labelled = if f then true else s.labelled }) → Lands code pc r s
+  lands_head : (f : Bool) (pc r : ℕ) (s : ProgramPoint) → Lands code pc r (record { flow = s.flow; labelled = if f then true else s.labelled }) → Lands code pc r s
   lands_head true pc r s l = meets_lands pc r s (lands_meets pc r (at_label s.flow) s.flow l refl (fits_same s.flow))
   lands_head false pc r s l = l
 
-  lands_at : (line pc r : ℕ) (i : Instr) (s : Spot) → slice_get code pc ≡ Some (place_of_instr line i r s) → Lands code pc r s
+  lands_at : (line pc r : ℕ) (i : Instr) (s : ProgramPoint) → slice_get code pc ≡ Some (place_of_instr line i r s) → Lands code pc r s
   lands_at line pc r i s h = record { place = place_of_instr line i r s; there = h; repeats = refl; fits = inl refl }
 
-  moved_pc : (a b : ℕ) → a ≡ b → (r : ℕ) (s : Spot) → Lands code a r s → Lands code b r s
+  moved_pc : (a b : ℕ) → a ≡ b → (r : ℕ) (s : ProgramPoint) → Lands code a r s → Lands code b r s
   moved_pc a b e r s l = subst (λ n. Lands code n r s) e l
 
-  exit_moved : (a b : ℕ) → a ≡ b → (r : ℕ) (w : Option Spot) → Exit code a r w → Exit code b r w
+  exit_moved : (a b : ℕ) → a ≡ b → (r : ℕ) (w : Option ProgramPoint) → Exit code a r w → Exit code b r w
   exit_moved a b e r w h = subst (λ n. Exit code n r w) e h
 
   -- what holds of a block from a spot on
-  abbrev Good : ℕ → ℕ → List Place → Spot → Type 0
+  abbrev Good : ℕ → ℕ → List Place → ProgramPoint → Type 0
   Good r pc ps s = AllHold plan code pc ps × Lands code pc r s
 
   -- the rest of a block, where it can be reached
-  rest_holds : (q r pc : ℕ) (lay : Spot → List Place) (leave : Spot → Option Spot) (rest : Block) (judged : Spot → Type 0) (w : Option Spot) →
-      ((s : Spot) → w ≡ Some s → judged s → Stand code pc (lay s) → Exit code (pc + length (lay s)) r (leave s) → AllHold plan code pc (lay s) × Lands code pc q s) →
+  rest_holds : (q r pc : ℕ) (lay : ProgramPoint → List Place) (leave : ProgramPoint → Option ProgramPoint) (rest : Block) (judged : ProgramPoint → Type 0) (w : Option ProgramPoint) →
+      ((s : ProgramPoint) → w ≡ Some s → judged s → Stand code pc (lay s) → Exit code (pc + length (lay s)) r (leave s) → AllHold plan code pc (lay s) × Lands code pc q s) →
       Reached w rest judged → Stand code pc (onward w [] lay) → Exit code (pc + length (onward w [] lay)) r (onward w None leave) →
       AllHold plan code pc (onward w [] lay) × Exit code pc q w
   rest_holds q r pc lay leave rest judged None ih j st ex = (tt, λ u e. cc)
@@ -200,35 +200,35 @@ module _ (plan : Plan) (code : List Place) where
       (g.0, λ u e. let same : s ≡ u = some_same s u e in subst (λ x. Lands code pc q x) same g.1)
 
   -- where an instruction stands after a block, if that falls out
-  back_exit : (line : ℕ) (i : Instr) (q pc : ℕ) (more : Spot → List Place) (w : Option Spot) → Stand code pc (onward w [] (λ u. place_of_instr line i q u ∷ more u)) → Exit code pc q w
+  back_exit : (line : ℕ) (i : Instr) (q pc : ℕ) (more : ProgramPoint → List Place) (w : Option ProgramPoint) → Stand code pc (onward w [] (λ u. place_of_instr line i q u ∷ more u)) → Exit code pc q w
   back_exit line i q pc more None st u e = cc
   back_exit line i q pc more (Some s) st u e =
       let same : s ≡ u = some_same s u e in subst (λ x. Lands code pc q x) same (lands_at line pc q i s st.0)
 
   -- one round of a loop
-  comes_round : (w : Option Spot) (start u : Spot) → ComesRound w start → w ≡ Some u → FitsFlow u.flow start.flow
+  comes_round : (w : Option ProgramPoint) (start u : ProgramPoint) → ComesRound w start → w ≡ Some u → FitsFlow u.flow start.flow
   comes_round w start u h e = subst (λ x. ComesRound x start) e h
 
-  head_labelled : (body : Block) (s u : Spot) → spot_after plan body (head body s) ≡ Some u → (head body s).labelled ≡ true
+  head_labelled : (body : Block) (s u : ProgramPoint) → spot_after plan body (head body s) ≡ Some u → (head body s).labelled ≡ true
   head_labelled body s u e = ap (λ f. if f then true else s.labelled) (falls_from plan body (head body s) u e)
 
   -- after a first branch, the jump over the second
-  jump_holds_where : (line end r pc : ℕ) (w : Option Spot) → ((u : Spot) → w ≡ Some u → Holds plan code pc (place_of_instr line (Jump end) r u)) → AllHold plan code pc (onward w [] (alone line (Jump end) r))
+  jump_holds_where : (line end r pc : ℕ) (w : Option ProgramPoint) → ((u : ProgramPoint) → w ≡ Some u → Holds plan code pc (place_of_instr line (Jump end) r u)) → AllHold plan code pc (onward w [] (alone line (Jump end) r))
   jump_holds_where line end r pc None h = tt
   jump_holds_where line end r pc (Some u) h = (h u refl, tt)
 
-  jump_length : (line end r : ℕ) (w : Option Spot) (f : Bool) → is_some w ≡ f → length (onward w [] (alone line (Jump end) r)) ≡ (if f then 1 else 0)
+  jump_length : (line end r : ℕ) (w : Option ProgramPoint) (f : Bool) → is_some w ≡ f → length (onward w [] (alone line (Jump end) r)) ≡ (if f then 1 else 0)
   jump_length line end r None f e = ap (λ b. if b then 1 else 0) e
   jump_length line end r (Some u) f e = ap (λ b. if b then 1 else 0) e
 
   -- the ways out of both branches come to what follows them
-  first_meets : (pc r : ℕ) (a b : Option Spot) → BranchesAgree a b → Exit code pc r (join a b) → (u : Spot) → a ≡ Some u → Meets code pc r u.flow
+  first_meets : (pc r : ℕ) (a b : Option ProgramPoint) → BranchesAgree a b → Exit code pc r (join a b) → (u : ProgramPoint) → a ≡ Some u → Meets code pc r u.flow
   first_meets pc r None b h ex u e = cc
   first_meets pc r (Some s) b h ex u e =
       let m = meets_right b (Some s) u h e in
       lands_meets pc r (at_label m.flow) u.flow (ex (at_label m.flow) m.there) refl m.fits
 
-  second_lands : (pc r : ℕ) (a b : Option Spot) → BranchesAgree a b → Exit code pc r (join a b) → Exit code pc r b
+  second_lands : (pc r : ℕ) (a b : Option ProgramPoint) → BranchesAgree a b → Exit code pc r (join a b) → Exit code pc r b
   second_lands pc r None b h ex u e = ex u e
   second_lands pc r (Some s) b h ex u e =
       let m = meets_left b (Some s) u h e in
@@ -274,7 +274,7 @@ module _ (plan : Plan) (code : List Place) where
   act_fine Joins t c n h = h
   act_fine Settles t c n h = h
 
-  basic_holds : (line : ℕ) (a : Act) (r pc : ℕ) (s : Spot) → IsFine plan (instr_of_act a) (known_at s.flow) → Lands code (pc + 1) r (past (moved plan (instr_of_act a) s.flow)) → Holds plan code pc (place_of_instr line (instr_of_act a) r s)
+  basic_holds : (line : ℕ) (a : Act) (r pc : ℕ) (s : ProgramPoint) → IsFine plan (instr_of_act a) (known_at s.flow) → Lands code (pc + 1) r (past (moved plan (instr_of_act a) s.flow)) → Holds plan code pc (place_of_instr line (instr_of_act a) r s)
   basic_holds line a r pc s h l = record {
     fine = λ n. act_fine a s.flow (first_counters r) n h;
     onward = λ _. subst (λ q. Lands code (pc + 1) q (past (moved plan (instr_of_act a) s.flow))) (sym (act_counted a r)) l;
@@ -282,16 +282,16 @@ module _ (plan : Plan) (code : List Place) where
     counters = act_sets a (first_counters r) ∙ ap first_counters (sym (act_counted a r));
   }
 
-  end_holds : (line : ℕ) (r pc : ℕ) (s : Spot) → Holds plan code pc (place_of_instr line End r s)
+  end_holds : (line : ℕ) (r pc : ℕ) (s : ProgramPoint) → Holds plan code pc (place_of_instr line End r s)
   end_holds line r pc s = record { fine = λ n. tt; onward = λ e. cc; targets = λ to e. cc; counters = refl }
 
-  test_holds : (line : ℕ) (c to r pc : ℕ) (s : Spot) → Lands code (pc + 1) r (past s.flow) → Meets code to r s.flow → Holds plan code pc (place_of_instr line (Test c to) r s)
+  test_holds : (line : ℕ) (c to r pc : ℕ) (s : ProgramPoint) → Lands code (pc + 1) r (past s.flow) → Meets code to r s.flow → Holds plan code pc (place_of_instr line (Test c to) r s)
   test_holds line c to r pc s l m = record { fine = λ n. tt; onward = λ _. l; targets = λ n e. subst (λ x. Meets code x r s.flow) (some_number to n e) m; counters = refl }
 
-  jump_holds : (line : ℕ) (to r pc : ℕ) (s : Spot) → Meets code to r s.flow → Holds plan code pc (place_of_instr line (Jump to) r s)
+  jump_holds : (line : ℕ) (to r pc : ℕ) (s : ProgramPoint) → Meets code to r s.flow → Holds plan code pc (place_of_instr line (Jump to) r s)
   jump_holds line to r pc s m = record { fine = λ n. tt; onward = λ e. cc; targets = λ n e. subst (λ x. Meets code x r s.flow) (some_number to n e) m; counters = refl }
 
-  set_holds : (line : ℕ) (n r pc : ℕ) (s : Spot) → Lands code (pc + 1) (r + 1) (past s.flow) → Holds plan code pc (place_of_instr line (Set r n) r s)
+  set_holds : (line : ℕ) (n r pc : ℕ) (s : ProgramPoint) → Lands code (pc + 1) (r + 1) (past s.flow) → Holds plan code pc (place_of_instr line (Set r n) r s)
   set_holds line n r pc s l = record { fine = λ n. tt; onward = λ _. l; targets = λ to e. cc; counters = let one : suc r ≡ r + 1 = omega arith in ap first_counters one }
 
   -- the last of the first counters is set
@@ -309,10 +309,10 @@ module _ (plan : Plan) (code : List Place) where
   unset_after (suc (suc (suc (suc (suc (suc (suc zero))))))) low = refl
   unset_after (suc (suc (suc (suc (suc (suc (suc (suc r)))))))) low = absurd (omega (arith, low))
 
-  loop_holds : (line : ℕ) (to r pc : ℕ) (s : Spot) → r < 8 → Lands code (pc + 1) r (past s.flow) → Meets code to (r + 1) s.flow → Holds plan code pc (place_of_instr line (Loop r to) (r + 1) s)
+  loop_holds : (line : ℕ) (to r pc : ℕ) (s : ProgramPoint) → r < 8 → Lands code (pc + 1) r (past s.flow) → Meets code to (r + 1) s.flow → Holds plan code pc (place_of_instr line (Loop r to) (r + 1) s)
   loop_holds line to r pc s low l m = record { fine = λ n. set_there r low; onward = λ _. l; targets = λ n e. subst (λ x. Meets code x (r + 1) s.flow) (some_number to n e) m; counters = unset_after r low }
 
-  pub sound : (b : Block) (r pc : ℕ) (s : Spot) → r + nested b ≤ 8 → IsJudged plan b s → Stand code pc (places plan r pc b s) → Exit code (pc + length (places plan r pc b s)) r (spot_after plan b s) → AllHold plan code pc (places plan r pc b s) × Lands code pc r s
+  pub sound : (b : Block) (r pc : ℕ) (s : ProgramPoint) → r + nested b ≤ 8 → IsJudged plan b s → Stand code pc (places plan r pc b s) → Exit code (pc + length (places plan r pc b s)) r (spot_after plan b s) → AllHold plan code pc (places plan r pc b s) × Lands code pc r s
   sound nothing r pc s deep j st ex = (tt, moved_pc (pc + 0) pc (omega arith) r s (ex s refl))
   sound (basic line act rest) r pc s deep j st ex =
       let t = past (moved plan (instr_of_act act) s.flow) in
@@ -367,7 +367,7 @@ module _ (plan : Plan) (code : List Place) where
       let bodies = places plan (r + 1) (pc + 1) body start in
       let a = spot_after plan body start in
       let end = pc + 1 + length bodies in
-      let more = λ (u : Spot). places plan r (end + 1) rest (past u.flow) in
+      let more = λ (u : ProgramPoint). places plan r (end + 1) rest (past u.flow) in
       let rests = onward a [] (λ u. place_of_instr line (Loop r (pc + 1)) (r + 1) u ∷ more u) in
       let e : pc + length (places plan r pc (repeat line n body rest) s) ≡ end + length rests = omega (arith, length-append bodies rests) in
       let st_rests = stand_back code (pc + 1) bodies rests st.1 in
@@ -402,7 +402,7 @@ module _ (plan : Plan) (code : List Place) where
       (hold_both pc names rests front.0 back.0, front.1)
 
 -- the whole code of a script that is judged
-module _ (plan : Plan) (last : ℕ) (b : Block) (s : Spot) where
+module _ (plan : Plan) (last : ℕ) (b : Block) (s : ProgramPoint) where
   whole_holds : nested b ≤ 8 → IsJudged plan b s → AllHold plan (all_places plan last b s) 0 (all_places plan last b s) × Lands (all_places plan last b s) 0 0 s
   whole_holds deep j =
       let code = all_places plan last b s in
@@ -413,7 +413,7 @@ module _ (plan : Plan) (last : ℕ) (b : Block) (s : Spot) where
       let front = sound plan code b 0 0 s (omega (arith, deep)) j (stand_front code 0 body ending st) (back_exit plan code last End 0 (0 + length body) (λ u. []) (spot_after plan b s) st_end) in
       (hold_both plan code 0 body ending front.0 (ending_holds (spot_after plan b s) code (0 + length body)), front.1)
     where
-      ending_holds : (w : Option Spot) (code : List Place) (pc : ℕ) → AllHold plan code pc (onward w [] (alone last End 0))
+      ending_holds : (w : Option ProgramPoint) (code : List Place) (pc : ℕ) → AllHold plan code pc (onward w [] (alone last End 0))
       ending_holds None code pc = tt
       ending_holds (Some u) code pc = (end_holds plan code last 0 pc u, tt)
 

@@ -10,8 +10,8 @@ use Rattle.plan_code.specs.declared.plan.Plan.{Plan}
 use Rattle.plan_flow.specs.Flows.{Flow, known_at, merged, FitsFlow}
 use Rattle.plan_flow.specs.Rules.{FitsSwap}
 use Rattle.script_front.specs.Block.{Block}
-use Rattle.script_meaning.specs.declared.flow.Mark.{Mark}
-use Rattle.script_meaning.specs.declared.flow.Spot.{Spot}
+use Rattle.script_meaning.specs.declared.flow.UnpricedLabel.{UnpricedLabel}
+use Rattle.script_meaning.specs.declared.flow.ProgramPoint.{ProgramPoint}
 use Rattle.script_meaning.specs.Scheme.{Place, place_of_instr, alone, onward, at_label, meet, spot_after, places, mark_of, marks_of}
 use Rattle.script_meaning.specs.Compiled.{StandsIn, Added, Tabled, lines_of_places}
 use Rattle.script_compiler.specs.Working.{Work}
@@ -48,7 +48,7 @@ names_both (p ∷ ps) qs =
     ap (λ xs. if p.spot.labelled then p.spot.flow.current ∷ p.spot.flow.next ∷ xs else xs) (names_both ps qs)
     ∙ names_by p.spot.labelled p.spot.flow.current p.spot.flow.next (names_of ps) (names_of qs)
 
-count_by : (b : Bool) (m : Mark) (ms : List Mark) (n : ℕ) → length ms ≡ n → length (if b then m ∷ ms else ms) ≡ (if b then 1 + n else n)
+count_by : (b : Bool) (m : UnpricedLabel) (ms : List UnpricedLabel) (n : ℕ) → length ms ≡ n → length (if b then m ∷ ms else ms) ≡ (if b then 1 + n else n)
 count_by true m ms n e = omega (arith, e)
 count_by false m ms n e = e
 
@@ -56,7 +56,7 @@ pub marks_count : (pc : ℕ) (ps : List Place) → length (marks_of pc ps) ≡ c
 marks_count pc [] = refl
 marks_count pc (p ∷ ps) = count_by p.spot.labelled (mark_of pc p) (marks_of (pc + 1) ps) (count_of_labels ps) (marks_count (pc + 1) ps)
 
-named_if : (b : Bool) (m : Mark) (ms : List Mark) (xs : List Configuration) → named_by ms ≡ xs → named_by (if b then m ∷ ms else ms) ≡ (if b then m.flow.current ∷ m.flow.next ∷ xs else xs)
+named_if : (b : Bool) (m : UnpricedLabel) (ms : List UnpricedLabel) (xs : List Configuration) → named_by ms ≡ xs → named_by (if b then m ∷ ms else ms) ≡ (if b then m.flow.current ∷ m.flow.next ∷ xs else xs)
 named_if true m ms xs e = ap (λ zs. m.flow.current ∷ m.flow.next ∷ zs) e
 named_if false m ms xs e = e
 
@@ -84,10 +84,10 @@ space_after k v w ps qs l h = space_from k v w (length v.lines.items) ps qs (lai
 pub space_spot : (k : CodeLimit) (w : Work) (p q : Place) (ps : List Place) → p.spot ≡ q.spot → HasSpace k w (p ∷ ps) → HasSpace k w (q ∷ ps)
 space_spot Instructions w p q ps e h = h
 space_spot Labels w p q ps e h =
-    let count : count_of_labels (p ∷ ps) ≡ count_of_labels (q ∷ ps) = ap (λ (s : Spot). if s.labelled then 1 + count_of_labels ps else count_of_labels ps) e in
+    let count : count_of_labels (p ∷ ps) ≡ count_of_labels (q ∷ ps) = ap (λ (s : ProgramPoint). if s.labelled then 1 + count_of_labels ps else count_of_labels ps) e in
     omega (arith, h, count)
 space_spot Configurations w p q ps e h =
-    let names : names_of (p ∷ ps) ≡ names_of (q ∷ ps) = ap (λ (s : Spot). if s.labelled then s.flow.current ∷ s.flow.next ∷ names_of ps else names_of ps) e in
+    let names : names_of (p ∷ ps) ≡ names_of (q ∷ ps) = ap (λ (s : ProgramPoint). if s.labelled then s.flow.current ∷ s.flow.next ∷ names_of ps else names_of ps) e in
     subst (λ cs. HasRoomFor [] (named_by w.marks.items ++ cs)) names h
 space_spot Counters w p q ps e h = tt
 
@@ -101,30 +101,30 @@ space_as Labels v w ps lines marks h = let m = ap length marks in omega (arith, 
 space_as Configurations v w ps lines marks h = subst (λ ms. HasRoomFor [] (named_by ms ++ names_of ps)) (sym marks) h
 space_as Counters v w ps lines marks h = tt
 
-pub space_onward : (k : CodeLimit) (w : Work) (line line' r r' : ℕ) (i j : Instr) (a : Option Spot) (ps : List Place) → HasSpace k w (onward a [] (alone line i r) ++ ps) → HasSpace k w (onward a [] (alone line' j r') ++ ps)
+pub space_onward : (k : CodeLimit) (w : Work) (line line' r r' : ℕ) (i j : Instr) (a : Option ProgramPoint) (ps : List Place) → HasSpace k w (onward a [] (alone line i r) ++ ps) → HasSpace k w (onward a [] (alone line' j r') ++ ps)
 space_onward k w line line' r r' i j None ps h = h
 space_onward k w line line' r r' i j (Some s) ps h = space_spot k w (place_of_instr line i r s) (place_of_instr line' j r' s) ps refl h
 
 -- ---- labels that are wanted
 
-pub covered_here : (s : Spot) (p : Place) (ps : List Place) → p.spot ≡ s → Covers s (p ∷ ps)
+pub covered_here : (s : ProgramPoint) (p : Place) (ps : List Place) → p.spot ≡ s → Covers s (p ∷ ps)
 covered_here s p ps e = λ l. record {
   place = p;
   rest = ps;
   is = refl;
-  labelled = ap (λ (t : Spot). t.labelled) e ∙ l;
-  names = λ c h. subst (λ (t : Spot). StandsIn c (t.flow.current ∷ t.flow.next ∷ [])) (sym e) h;
+  labelled = ap (λ (t : ProgramPoint). t.labelled) e ∙ l;
+  names = λ c h. subst (λ (t : ProgramPoint). StandsIn c (t.flow.current ∷ t.flow.next ∷ [])) (sym e) h;
 }
 
-pub some_of : (w : Option Spot) → true ≡ is_some w → (s : Spot) × (w ≡ Some s)
+pub some_of : (w : Option ProgramPoint) → true ≡ is_some w → (s : ProgramPoint) × (w ≡ Some s)
 some_of None e = absurd cc
 some_of (Some s) e = (s, refl)
 
-pub met_labelled : (v : Option Spot) (t u : Spot) → meet v (Some t) ≡ Some u → u.labelled ≡ true
-met_labelled None t u e = let is : at_label t.flow ≡ u = cc in ap (λ (s : Spot). s.labelled) (sym is)
-met_labelled (Some s) t u e = let is : at_label (merged s.flow t.flow) ≡ u = cc in ap (λ (s : Spot). s.labelled) (sym is)
+pub met_labelled : (v : Option ProgramPoint) (t u : ProgramPoint) → meet v (Some t) ≡ Some u → u.labelled ≡ true
+met_labelled None t u e = let is : at_label t.flow ≡ u = cc in ap (λ (s : ProgramPoint). s.labelled) (sym is)
+met_labelled (Some s) t u e = let is : at_label (merged s.flow t.flow) ≡ u = cc in ap (λ (s : ProgramPoint). s.labelled) (sym is)
 
-pub covered_flow : (s : Spot) (t : Flow) (ps : List Place) → s.flow ≡ t → IsCovered s.flow ps → IsCovered t ps
+pub covered_flow : (s : ProgramPoint) (t : Flow) (ps : List Place) → s.flow ≡ t → IsCovered s.flow ps → IsCovered t ps
 covered_flow s t ps e h = subst (λ x. IsCovered x ps) e h
 
 some_same : (x y : Configuration) → Some x ≡ Some y → x ≡ y
@@ -163,7 +163,7 @@ stands_more : (a b c : Configuration) (more : List Configuration) → StandsIn c
 stands_more a b c more h = (h.0, stays (a ∷ b ∷ []) more h.0 c h.1)
 
 -- a label before a block is that of its first instruction, or of what follows it
-pub covers_block : (plan : Plan) (r pc : ℕ) (b : Block) (s : Spot) (more : List Place) → ((u : Spot) → spot_after plan b s ≡ Some u → Covers u more) → Covers s (places plan r pc b s ++ more)
+pub covers_block : (plan : Plan) (r pc : ℕ) (b : Block) (s : ProgramPoint) (more : List Place) → ((u : ProgramPoint) → spot_after plan b s ≡ Some u → Covers u more) → Covers s (places plan r pc b s ++ more)
 covers_block plan r pc b s more onward_to = λ l. elim (first_of plan r pc b s) [
   | inl none ↦ subst (λ ps. IsCovered s.flow (ps ++ more)) (sym none.0) (onward_to s none.1 l)
   | inr some ↦ record {
@@ -194,7 +194,7 @@ room_names w t ps table cover h =
     room_fewer w.marks.table (t.current ∷ t.next ∷ []) (p.spot.flow.current ∷ p.spot.flow.next ∷ more) (λ c k. stands_more p.spot.flow.current p.spot.flow.next c more (cover.names c k)) room
 
 -- the table after a label
-pub table_mark : (v w : Work) (one : List Configuration) (m : Mark) → Added m.flow.current v.marks.table one → Added m.flow.next one w.marks.table → w.marks.items ≡ v.marks.items ++ m ∷ [] → length w.marks.table ≤ 256 → length v.marks.items < 1024 → HasTable v → HasTable w
+pub table_mark : (v w : Work) (one : List Configuration) (m : UnpricedLabel) → Added m.flow.current v.marks.table one → Added m.flow.next one w.marks.table → w.marks.items ≡ v.marks.items ++ m ∷ [] → length w.marks.table ≤ 256 → length v.marks.items < 1024 → HasTable v → HasTable w
 table_mark v w one m a b e few fewer table = record {
   few = few;
   labels = let n = ap length e ∙ length-append v.marks.items (m ∷ []) in omega (arith, n, fewer);
@@ -243,4 +243,4 @@ none_of (Some a) e = cc
 pub space_restored : (k : CodeLimit) (v w : Work) (falls : Bool) (m n : ℕ) (i : Instr) (ps : List Place) → v.lines ≡ w.lines → v.marks ≡ w.marks → v.now ≡ w.now → HasSpace k w (onward (way falls w) [] (alone m i n) ++ ps) → HasSpace k v (onward (way falls v) [] (alone m i n) ++ ps)
 space_restored k v w falls m n i ps lines marks now h =
     let there = space_as k w v (onward (way falls w) [] (alone m i n) ++ ps) (ap (λ x. length x.items) lines) (ap (λ x. x.items) marks) h in
-    subst (λ (s : Spot). HasSpace k v (onward (if falls then Some s else None) [] (alone m i n) ++ ps)) (sym now) there
+    subst (λ (s : ProgramPoint). HasSpace k v (onward (if falls then Some s else None) [] (alone m i n) ++ ps)) (sym now) there

@@ -8,7 +8,7 @@ use Rattle.plan_flow.specs.Rules.{IsFine}
 use Rattle.script_front.specs.declared.tree.Act.{Act}
 use Rattle.script_front.specs.declared.tree.Statement.{Statement}
 use Rattle.script_front.specs.Block.{Block, nothing, basic, stop, when, either, repeat, forever, apply, named_at, before, block_of}
-use Rattle.script_meaning.specs.declared.flow.Spot.{Spot}
+use Rattle.script_meaning.specs.declared.flow.ProgramPoint.{ProgramPoint}
 use Rattle.script_meaning.specs.Scheme.{past, onward, alone, spot_after, places, instr_of_act, falls_out}
 use Rattle.script_meaning.specs.Judged.{IsJudged, Reached}
 use Rattle.script_meaning.specs.Compiled.{nested}
@@ -44,16 +44,16 @@ act_step plan r line a v w x goes lays now fine = ok_true x _ _ goes (ok_both x 
 module _ (plan : Plan) (r line c at : ℕ) (first : Block) (w0 w2 w3 w5 : Work) (f : Bool) (x : Result Bool CompileFault) where
   pub when_step :
       r ≤ 8 → at ≡ length w0.lines.items → Forks line (Test c 0) r w0 w2 → Left plan r first w2 w3 f nothing → IfOk x (λ g. g ≡ true) →
-      OnOk x ((front : List Spot) (entry : Spot) → w3.saved.items ≡ front ++ entry ∷ [] → ClosesIf f line c at front entry w3 w5) →
+      OnOk x ((front : List ProgramPoint) (entry : ProgramPoint) → w3.saved.items ≡ front ++ entry ∷ [] → ClosesIf f line c at front entry w3 w5) →
       IfOk x (λ g. (rest : Block) → Left plan r (when line c first rest) w0 w5 g rest)
   when_step deep ea fork left goes closes = ok_true x _ _ goes closes (λ h rest. left_when plan r line c first rest w0 w2 w3 w5 f deep fork left (λ front entry e. subst (λ n. ClosesIf f line c n front entry w3 w5) ea (h front entry e)))
 
 module _ (plan : Plan) (r line c at jump : ℕ) (first second : Block) (w0 w2 w3 w6 w7 w8 : Work) (f1 f2 f : Bool) where
   pub either_step :
       r ≤ 8 → at ≡ length w0.lines.items → jump ≡ length w3.lines.items → Forks line (Test c 0) r w0 w2 → Left plan r first w2 w3 f1 nothing →
-      ((front : List Spot) (entry : Spot) → w3.saved.items ≡ front ++ entry ∷ [] → Turns f1 line r c at front entry w3 w6) →
+      ((front : List ProgramPoint) (entry : ProgramPoint) → w3.saved.items ≡ front ++ entry ∷ [] → Turns f1 line r c at front entry w3 w6) →
       Left plan r second w6 w7 f2 nothing →
-      ((front : List Spot) (a : Option Spot) → f1 ≡ is_some a → w7.saved.items ≡ front ++ spots_of a → IsAfterBranches a (way f2 w7) front line jump w7 w8 f) →
+      ((front : List ProgramPoint) (a : Option ProgramPoint) → f1 ≡ is_some a → w7.saved.items ≡ front ++ spots_of a → IsAfterBranches a (way f2 w7) front line jump w7 w8 f) →
       (rest : Block) → Left plan r (either line c first second rest) w0 w8 f rest
   either_step deep ea ej fork left turns left2 arrives rest =
       left_either plan r line c first second rest w0 w2 w3 w6 w7 w8 f1 f2 f deep fork left
@@ -66,11 +66,11 @@ module _ (plan : Plan) (r line n : ℕ) (body : Block) (w0 w1 w2 w3 w4 : Work) (
       falls ≡ falls_out body → w2.lines ≡ w1.lines → w2.marks ≡ w1.marks →
       w2.now ≡ record { flow = w1.now.flow; labelled = if falls then true else w1.now.labelled } → w2.saved.items ≡ w1.saved.items ++ w2.now ∷ [] →
       Left plan (r + 1) body w2 w3 f nothing →
-      ((front : List Spot) (entry : Spot) → w3.saved.items ≡ front ++ entry ∷ [] → GoesRound f line (r + 1) (Loop k at) front entry w3 w4) →
+      ((front : List ProgramPoint) (entry : ProgramPoint) → w3.saved.items ≡ front ++ entry ∷ [] → GoesRound f line (r + 1) (Loop k at) front entry w3 w4) →
       (rest : Block) → Left plan r (repeat line n body rest) w0 w4 f rest
   repeat_step deep ek l1 n1 ea ef c2 m2 n2 s2 left g rest =
       let round = g w1.saved.items w2.now (left.lays.saved ∙ s2) in
-      let now2 = n2 ∙ ap (λ b. let t : Spot = record { flow = w1.now.flow; labelled = if b then true else w1.now.labelled } in t) ef in
+      let now2 = n2 ∙ ap (λ b. let t : ProgramPoint = record { flow = w1.now.flow; labelled = if b then true else w1.now.labelled } in t) ef in
       left_repeat plan r line n body rest w0 w1 w2 w3 w4 f deep (subst (λ m. Lays w0 w1 (alone line (Set m n) r w0.now)) ek l1) n1 (ap (λ v. v.items) c2) (ap (λ v. v.items) m2) now2 left
       (subst (λ m. GoesRound f line (r + 1) (Loop r m) w1.saved.items w2.now w3 w4) ea (subst (λ m. GoesRound f line (r + 1) (Loop m at) w1.saved.items w2.now w3 w4) ek round))
 
@@ -79,11 +79,11 @@ module _ (plan : Plan) (r line : ℕ) (body : Block) (w0 w2 w3 w4 : Work) (f fal
       r ≤ 8 → at ≡ length w0.lines.items → falls ≡ falls_out body → w2.lines ≡ w0.lines → w2.marks ≡ w0.marks →
       w2.now ≡ record { flow = w0.now.flow; labelled = if falls then true else w0.now.labelled } → w2.saved.items ≡ w0.saved.items ++ w2.now ∷ [] →
       Left plan r body w2 w3 f nothing →
-      ((front : List Spot) (entry : Spot) → w3.saved.items ≡ front ++ entry ∷ [] → GoesRound f line r (Jump at) front entry w3 w4) →
+      ((front : List ProgramPoint) (entry : ProgramPoint) → w3.saved.items ≡ front ++ entry ∷ [] → GoesRound f line r (Jump at) front entry w3 w4) →
       (rest : Block) → Left plan r (forever line body rest) w0 w4 false rest
   forever_step deep ea ef c2 m2 n2 s2 left g rest =
       let round = g w0.saved.items w2.now (left.lays.saved ∙ s2) in
-      let now2 = n2 ∙ ap (λ b. let t : Spot = record { flow = w0.now.flow; labelled = if b then true else w0.now.labelled } in t) ef in
+      let now2 = n2 ∙ ap (λ b. let t : ProgramPoint = record { flow = w0.now.flow; labelled = if b then true else w0.now.labelled } in t) ef in
       left_forever plan r line body rest w0 w2 w3 w4 f deep (ap (λ v. v.items) c2) (ap (λ v. v.items) m2) now2 left
       (subst (λ m. GoesRound f line r (Jump m) w0.saved.items w2.now w3 w4) ea round)
 
@@ -124,13 +124,13 @@ silent_named table facts k d e lt = by table k (omega (arith, lt, ap length e)) 
     by (x ∷ xs) zero lt = refl
     by (x ∷ xs) (suc k) lt = by xs k (omega (arith, lt))
 
-record Silent (plan : Plan) (b : Block) (s : Spot) : Type 0 where
+record Silent (plan : Plan) (b : Block) (s : ProgramPoint) : Type 0 where
   empty : (r pc : ℕ) → places plan r pc b s ≡ []
   leads : spot_after plan b s ≡ Some s
   judged : IsJudged plan b s
   flat : nested b ≡ 0
 
-silent_block : (plan : Plan) (b : Block) (s : Spot) → lays_nothing b ≡ true → Silent plan b s
+silent_block : (plan : Plan) (b : Block) (s : ProgramPoint) → lays_nothing b ≡ true → Silent plan b s
 silent_block plan nothing s h = record { empty = λ r pc. refl; leads = refl; judged = tt; flat = refl }
 silent_block plan (basic line act rest) s h = cc
 silent_block plan (stop line rest) s h = cc

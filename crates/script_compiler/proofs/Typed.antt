@@ -21,7 +21,7 @@ use Rattle.plan_flow.proofs.Leaving.{leaves_known}
 use Rattle.plan_verifier.specs.Typing.{Declares, ComesTo, Arrives, HasOpening, LabelStands, Reaches, IsAfter, IsSafe, IsTyped}
 use Rattle.script_front.specs.Block.{Block}
 use Rattle.script_front.specs.Tree.{Tree}
-use Rattle.script_meaning.specs.declared.flow.Spot.{Spot}
+use Rattle.script_meaning.specs.declared.flow.ProgramPoint.{ProgramPoint}
 use Rattle.script_meaning.specs.Scheme.{Place, past, all_places, mark_of, marks_of}
 use Rattle.script_meaning.specs.Judged.{IsJudged}
 use Rattle.script_meaning.specs.Need.{GoesTo, IsNeed, IsWithinBudget}
@@ -262,7 +262,7 @@ module _ (code : Program) (whole : List Place) where
             Arrives code typing pc (label_at code pc) (known_with f (first_counters r) a)
         arrives_at pc r a f n l known true b =
             let fits : FitsFlow f l.place.spot.flow = elim l.fits [
-              | inl same ↦ subst (λ (x : Spot). FitsFlow f x.flow) (sym same) (fits_same f)
+              | inl same ↦ subst (λ (x : ProgramPoint). FitsFlow f x.flow) (sym same) (fits_same f)
               | inr h ↦ h.1
             ] in
             let found = label_there pc l.place l.there b in
@@ -274,7 +274,7 @@ module _ (code : Program) (whole : List Place) where
             ] in
             let same : known_there pc l.place a ≡ known_with f (first_counters r) a =
             ap (λ x. known_with l.place.spot.flow (first_counters l.place.repeats) (if x then need pc else a)) b
-            ∙ ap (λ (x : Spot). known_with x.flow (first_counters l.place.repeats) a) spot ∙ ap (λ n. known_with f (first_counters n) a) l.repeats in
+            ∙ ap (λ (x : ProgramPoint). known_with x.flow (first_counters l.place.repeats) a) spot ∙ ap (λ n. known_with f (first_counters n) a) l.repeats in
             let there : slice_get typing pc ≡ Some (known_with f (first_counters r) a) = known ∙ ap (λ x. Some x) same in
             subst (λ o. Arrives code typing pc o (known_with f (first_counters r) a)) (sym (no_label pc l.place l.there b (label_at code pc) refl)) there
 

@@ -15,7 +15,7 @@ use Rattle.plan_flow.specs.Flows.{known_at}
 use Rattle.plan_flow.specs.Causes.{WhereSome, CommitRefused, FlowRefused}
 use Rattle.script_front.specs.declared.tree.Item.{Item}
 use Rattle.script_front.specs.Block.{Block, nothing, basic, stop, when, either, repeat, forever, apply}
-use Rattle.script_meaning.specs.declared.flow.Spot.{Spot}
+use Rattle.script_meaning.specs.declared.flow.ProgramPoint.{ProgramPoint}
 use Rattle.script_meaning.specs.Scheme.{instr_of_act}
 use Rattle.script_meaning.specs.Compiled.{instrs_of}
 use Rattle.script_meaning.specs.Need.{HasPath}
@@ -86,11 +86,11 @@ unreached_uncosted (apply line number named rest) at given h e = table_uncosted 
 mismatch_uncosted : (line : ℕ) (agree : Type 0) (at : ℕ) (given : Cause) → IsMismatch line agree at given → given ≡ Cost → ⊥
 mismatch_uncosted line agree at given h e = (let x : Mismatch ≡ Cost = sym h.2 ∙ e in cc)
 
-after_uncosted : (o : Option Spot) (rest : Block) (refused : Spot → Type 0) (at : ℕ) (given : Cause) → ((u : Spot) → refused u → ⊥) → given ≡ Cost → IsRefusedAfter o rest refused at given → ⊥
+after_uncosted : (o : Option ProgramPoint) (rest : Block) (refused : ProgramPoint → Type 0) (at : ℕ) (given : Cause) → ((u : ProgramPoint) → refused u → ⊥) → given ≡ Cost → IsRefusedAfter o rest refused at given → ⊥
 after_uncosted None rest refused at given not_cost e h = unreached_uncosted rest at given h e
 after_uncosted (Some u) rest refused at given not_cost e h = not_cost u h
 
-pub in_uncosted : (plan : Plan) (b : Block) (s : Spot) (at : ℕ) (given : Cause) → IsRefusedIn plan b s at given → given ≡ Cost → ⊥
+pub in_uncosted : (plan : Plan) (b : Block) (s : ProgramPoint) (at : ℕ) (given : Cause) → IsRefusedIn plan b s at given → given ≡ Cost → ⊥
 in_uncosted plan nothing s at given h e = h
 in_uncosted plan (basic line act rest) s at given h e = elim h [
   | inl a ↦ flow_uncosted plan (instr_of_act act) (known_at s.flow) given a.1 e

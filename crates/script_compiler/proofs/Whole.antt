@@ -3,7 +3,7 @@ use Rattle.std.proofs.Common.{◌≡◌, ℕ, ◌+◌, ◌≤◌, Bool, [], ◌+
 use Rattle.plan_code.specs.declared.instr.Instr.TheVariants.{End}
 use Rattle.plan_code.specs.declared.plan.Plan.{Plan}
 use Rattle.script_front.specs.Block.{Block, nothing}
-use Rattle.script_meaning.specs.declared.flow.Spot.{Spot}
+use Rattle.script_meaning.specs.declared.flow.ProgramPoint.{ProgramPoint}
 use Rattle.script_meaning.specs.Scheme.{onward, spot_after, alone, places, all_places, marks_of}
 use Rattle.script_meaning.specs.Judged.{IsJudged}
 use Rattle.script_meaning.specs.Compiled.{lines_of_places, nested}
@@ -11,13 +11,13 @@ use Rattle.script_compiler.specs.Working.{Work}
 use Rattle.script_compiler.specs.Laying.{Lays, Left, way}
 use Rattle.script_compiler.proofs.Laid.{whole_of, lines_both, marks_both, length_lines}
 
-pub record LaidWhole (plan : Plan) (last : ℕ) (b : Block) (t : Spot) (w : Work) : Type 0 where
+pub record LaidWhole (plan : Plan) (last : ℕ) (b : Block) (t : ProgramPoint) (w : Work) : Type 0 where
   pub lines : w.lines.items ≡ lines_of_places (all_places plan last b t)
   pub marks : w.marks.items ≡ marks_of 0 (all_places plan last b t)
   pub judged : IsJudged plan b t
   pub repeats : nested b ≤ 8
 
-pub laid_whole : (plan : Plan) (last : ℕ) (b c : Block) (t : Spot) (w0 w1 w2 : Work) (f : Bool) → c ≡ b → w0.lines.items ≡ [] → w0.marks.items ≡ [] → w0.now ≡ t → Left plan 0 c w0 w1 f nothing →
+pub laid_whole : (plan : Plan) (last : ℕ) (b c : Block) (t : ProgramPoint) (w0 w1 w2 : Work) (f : Bool) → c ≡ b → w0.lines.items ≡ [] → w0.marks.items ≡ [] → w0.now ≡ t → Left plan 0 c w0 w1 f nothing →
     Lays w1 w2 (onward (way f w1) [] (alone last End 0)) → LaidWhole plan last b t w2
 laid_whole plan last b c t w0 w1 w2 f same c0 l0 n0 left' lays =
     let left : Left plan 0 b w0 w1 f nothing = subst (λ x. Left plan 0 x w0 w1 f nothing) same left' in

@@ -8,7 +8,7 @@ use Rattle.plan_code.specs.declared.instr.Line.{Line}
 use Rattle.plan_flow.specs.declared.cause.Cause.{Cause}
 use Rattle.script_front.specs.declared.tree.Statement.{Statement}
 use Rattle.script_front.specs.Block.{Block, nothing, apply, table_of}
-use Rattle.script_meaning.specs.declared.flow.Spot.{Spot}
+use Rattle.script_meaning.specs.declared.flow.ProgramPoint.{ProgramPoint}
 use Rattle.script_meaning.specs.Scheme.{Place, onward, spot_after, places, marks_of, alone, past, at_label, meet, join, falls_out}
 use Rattle.script_meaning.specs.Judged.{IsJudged, Reached, WaysAgree, BranchesAgree, ComesRound}
 use Rattle.script_meaning.specs.Refused.{IsRefusedIn, IsRefusedAfter}
@@ -37,7 +37,7 @@ pub record Lays (old new : Work) (ps : List Place) : Type 0 where
   pub saved : new.saved.items ≡ old.saved.items
 
 -- where the code has come to, if it continues
-abbrev pub way : Bool → Work → Option Spot
+abbrev pub way : Bool → Work → Option ProgramPoint
 way goes_on w = if goes_on then Some w.now else None
 
 -- of a block, some has been laid down, and this is left
@@ -63,7 +63,7 @@ pub record Forks (line : ℕ) (i : Instr) (r : ℕ) (old new : Work) : Type 0 wh
   pub saved : new.saved.items ≡ old.saved.items ++ old.now ∷ []
 
 -- a loop goes back to its head, if its body falls out; what was spots_of there is spots_of no more
-pub record GoesRound (falls : Bool) (line r : ℕ) (back : Instr) (front : List Spot) (entry : Spot) (old new : Work) : Type 0 where
+pub record GoesRound (falls : Bool) (line r : ℕ) (back : Instr) (front : List ProgramPoint) (entry : ProgramPoint) (old new : Work) : Type 0 where
   pub lines : new.lines.items ≡ old.lines.items ++ lines_of_places (onward (way falls old) [] (alone line back r))
   pub marks : new.marks.items ≡ old.marks.items ++ marks_of (length old.lines.items) (onward (way falls old) [] (alone line back r))
   pub saved : new.saved.items ≡ front
@@ -71,12 +71,12 @@ pub record GoesRound (falls : Bool) (line r : ℕ) (back : Instr) (front : List 
   pub round : ComesRound (way falls old) entry
 
 -- what is spots_of of a way
-abbrev pub spots_of : Option Spot → List Spot
+abbrev pub spots_of : Option ProgramPoint → List ProgramPoint
 spots_of None = []
 spots_of (Some s) = s ∷ []
 
 -- an `if` without `else` ends: its block's way, if there is one, and the one past it meet
-pub record ClosesIf (falls : Bool) (line contact at : ℕ) (front : List Spot) (entry : Spot) (old new : Work) : Type 0 where
+pub record ClosesIf (falls : Bool) (line contact at : ℕ) (front : List ProgramPoint) (entry : ProgramPoint) (old new : Work) : Type 0 where
   pub lines : new.lines.items ≡ slice_set old.lines.items at (line_of_instr line (Test contact (length old.lines.items)))
   pub marks : new.marks.items ≡ old.marks.items
   pub saved : new.saved.items ≡ front
@@ -88,7 +88,7 @@ abbrev pub jumping : Bool → ℕ → ℕ → Work → List Place
 jumping falls line r w = onward (way falls w) [] (alone line (Jump 0) r)
 
 -- a first branch ends, and the second one begins with what was known before both
-pub record Turns (falls : Bool) (line r contact at : ℕ) (front : List Spot) (entry : Spot) (old new : Work) : Type 0 where
+pub record Turns (falls : Bool) (line r contact at : ℕ) (front : List ProgramPoint) (entry : ProgramPoint) (old new : Work) : Type 0 where
   pub lines :
       new.lines.items ≡ slice_set (old.lines.items ++ lines_of_places (jumping falls line r old)) at
       (line_of_instr line (Test contact (length (old.lines.items ++ lines_of_places (jumping falls line r old)))))
@@ -97,12 +97,12 @@ pub record Turns (falls : Bool) (line r contact at : ℕ) (front : List Spot) (e
   pub saved : new.saved.items ≡ front ++ spots_of (way falls old)
 
 -- a jump that a branch made is aimed at what follows
-abbrev pub aimed_at : Option Spot → ℕ → ℕ → List Line → List Line
+abbrev pub aimed_at : Option ProgramPoint → ℕ → ℕ → List Line → List Line
 aimed_at None line jump code = code
 aimed_at (Some s) line jump code = slice_set code jump (line_of_instr line (Jump (length code)))
 
 -- both branches have been laid down, and what follows comes next
-pub record IsAfterBranches (a b : Option Spot) (front : List Spot) (line jump : ℕ) (old new : Work) (f : Bool) : Type 0 where
+pub record IsAfterBranches (a b : Option ProgramPoint) (front : List ProgramPoint) (line jump : ℕ) (old new : Work) (f : Bool) : Type 0 where
   pub lines : new.lines.items ≡ aimed_at a line jump old.lines.items
   pub marks : new.marks.items ≡ old.marks.items
   pub saved : new.saved.items ≡ front

@@ -2,13 +2,13 @@
 use Rattle.std.specs.Prelude.{ℕ, zero, suc, ◌<◌, ◌≤◌, List, [], ◌∷◌, slice_index}
 use Rattle.mux_config.specs.Configuration.{Configuration, nothing}
 use Rattle.plan_code.specs.declared.label.Label.{Label}
-use Rattle.script_meaning.specs.declared.flow.Mark.{Mark}
+use Rattle.script_meaning.specs.declared.flow.UnpricedLabel.{UnpricedLabel}
 use Rattle.script_meaning.specs.Compiled.{first_counters}
 use Rattle.script_compiler.specs.declared.short.ShortMark.{ShortMark}
 
 -- marks, and the table of the configurations that they name
 pub record MarkedTable : Type 0 where
-  pub items : List Mark
+  pub items : List UnpricedLabel
   pub table : List Configuration
 
 abbrev pub configuration_at : List Configuration → ℕ → Configuration
@@ -17,7 +17,7 @@ configuration_at (x ∷ xs) zero = x
 configuration_at (x ∷ xs) (suc i) = configuration_at xs i
 
 -- the mark, with its configurations
-abbrev pub mark_in : List Configuration → ShortMark → Mark
+abbrev pub mark_in : List Configuration → ShortMark → UnpricedLabel
 mark_in table m =
     record {
       pc = m.pc;

@@ -2,8 +2,8 @@
 use Rattle.std.specs.Prelude.{◌≡◌, ℕ, ◌<◌, List, [], ◌∷◌, ◌++◌, Option, Some, IfSome, slice_get}
 use Rattle.mux_config.specs.Configuration.{Configuration}
 use Rattle.plan_flow.specs.Flows.{Flow}
-use Rattle.script_meaning.specs.declared.flow.Mark.{Mark}
-use Rattle.script_meaning.specs.declared.flow.Spot.{Spot}
+use Rattle.script_meaning.specs.declared.flow.UnpricedLabel.{UnpricedLabel}
+use Rattle.script_meaning.specs.declared.flow.ProgramPoint.{ProgramPoint}
 use Rattle.script_compiler.specs.declared.numbers.Numbers.{Numbers}
 use Rattle.script_compiler.specs.declared.short.ShortSpot.{ShortSpot}
 use Rattle.script_compiler.specs.Marked.{configuration_at}
@@ -30,7 +30,7 @@ pub record PooledTable : Type 0 where
 
 -- and marks whose configurations are in that table
 pub record MarkedPool : Type 0 where
-  pub items : List Mark
+  pub items : List UnpricedLabel
   pub table : List Configuration
   pub pool : List Configuration
 
@@ -40,7 +40,7 @@ AreBelow n [] = Unit {0}
 AreBelow n (k ∷ ks) = (k < n) × AreBelow n ks
 
 -- the spot, with its configurations
-abbrev pub spot_in : List Configuration → ShortSpot → Spot
+abbrev pub spot_in : List Configuration → ShortSpot → ProgramPoint
 spot_in pool s =
     record {
       flow = record { current = configuration_at pool s.current; next = configuration_at pool s.next; pending = s.pending };

@@ -4,7 +4,7 @@ use Rattle.mux_config.specs.Configuration.{Configuration}
 use Rattle.plan_code.specs.declared.plan.Plan.{Plan}
 use Rattle.plan_flow.specs.Flows.{Flow}
 use Rattle.script_front.specs.Block.{Block}
-use Rattle.script_meaning.specs.declared.flow.Spot.{Spot}
+use Rattle.script_meaning.specs.declared.flow.ProgramPoint.{ProgramPoint}
 use Rattle.script_meaning.specs.Scheme.{Place, spot_after, places, marks_of}
 use Rattle.script_meaning.specs.Judged.{IsJudged}
 use Rattle.script_meaning.specs.Compiled.{StandsIn, Tabled, nested}
@@ -52,7 +52,7 @@ pub record IsCovered (t : Flow) (ps : List Place) : Type 0 where
   pub labelled : place.spot.labelled ≡ true
   pub names : (c : Configuration) → StandsIn c (t.current ∷ t.next ∷ []) → StandsIn c (place.spot.flow.current ∷ place.spot.flow.next ∷ [])
 
-abbrev pub Covers : Spot → List Place → Type 0
+abbrev pub Covers : ProgramPoint → List Place → Type 0
 Covers s ps = s.labelled ≡ true → IsCovered s.flow ps
 
 -- a block may stand here, and as far as this limit goes there is room for its code and all that follows it
@@ -60,7 +60,7 @@ pub record CanLay (limit : CodeLimit) (plan : Plan) (r : ℕ) (b : Block) (w : W
   pub judged : IsJudged plan b w.now
   pub deep : HasCounters limit (r + nested b)
   pub more : List Place
-  pub onward : (u : Spot) → spot_after plan b w.now ≡ Some u → Covers u more
+  pub onward : (u : ProgramPoint) → spot_after plan b w.now ≡ Some u → Covers u more
   pub space : HasSpace limit w (places plan r (length w.lines.items) b w.now ++ more)
 
 -- a code that has these places, with repeats this deep, is within this limit

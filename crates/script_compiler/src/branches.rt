@@ -2,7 +2,7 @@
 
 ghost use Rattle.std.specs.Prelude.{◌≡◌, ℕ, ◌+◌, ◌<◌, ◌≤◌, true, if◌then◌else◌, [], ◌∷◌, ◌++◌, length, List, Option, Some, is_some, OnOk, IfOk, IfErr};
 ghost use Rattle.plan_code.specs.declared.instr.Instr.{Instr};
-ghost use Rattle.script_meaning.specs.declared.flow.Spot.{Spot};
+ghost use Rattle.script_meaning.specs.declared.flow.ProgramPoint.{ProgramPoint};
 ghost use Rattle.script_meaning.specs.Scheme.{Place, past, alone, onward, meet, join, marks_of};
 ghost use Rattle.script_meaning.specs.Judged.{WaysAgree, BranchesAgree, ComesRound};
 ghost use Rattle.script_meaning.specs.Compiled.{lines_of_places};
@@ -79,13 +79,13 @@ impl Work {
         requires saved { 0 < length self.old.saved.items }
         requires few { length self.old.lines.items ≤ 4096 }
         requires table { HasTable self.old }
-        ensures round { OnOk result ((front : List Spot) (entry : Spot) → self.old.saved.items
-            ≡ front
-            ++ entry ∷ [] → GoesRound falls line counters back front entry self.old self.new) }
+        ensures round { OnOk result ((front : List ProgramPoint) (entry : ProgramPoint) →
+            self.old.saved.items ≡ front ++ entry ∷ [] → GoesRound falls line counters back front
+            entry self.old self.new) }
         ensures room { OnOk result (length self.new.lines.items ≤ 4096) }
-        ensures refused { IfErr result (λ e. IsRefusal e → (front : List Spot) (entry : Spot)
-            → self.old.saved.items ≡ front
-            ++ entry ∷ [] → ComesRound (way falls self.old) entry → ⊥) }
+        ensures refused { IfErr result (λ e. IsRefusal e → (front : List ProgramPoint) (entry :
+            ProgramPoint) → self.old.saved.items ≡ front ++ entry ∷ [] → ComesRound (way falls
+            self.old) entry → ⊥) }
         ensures why { IfErr result (λ e. IfRefused e (λ at given. (at ≡ line)
             × (given ≡ Mismatch))) }
         ensures table { OnOk result (HasTable self.new) }
@@ -121,9 +121,9 @@ impl Work {
             × (given ≡ Mismatch))) }
         ensures table { OnOk result (HasTable self.new) }
         ensures at { IfErr result (λ e. IfLimit e (λ at _. at ≡ line)) }
-        ensures limited { IfErr result (λ e. IfLimit e (λ _ limit. (ps : List Place) → ((u : Spot)
-            → meet (way falls self.old) (Some (spot_in self.old.pool other.now)) ≡ Some u
-            → IsCovered u.flow ps) → HasSpace limit self.old ps → ⊥)) }
+        ensures limited { IfErr result (λ e. IfLimit e (λ _ limit. (ps : List Place) → ((u :
+            ProgramPoint) → meet (way falls self.old) (Some (spot_in self.old.pool other.now)) ≡
+            Some u → IsCovered u.flow ps) → HasSpace limit self.old ps → ⊥)) }
     {
         if !falls {
             self.take(other);
@@ -149,21 +149,21 @@ impl Work {
         requires few { length self.old.lines.items ≤ 4096 }
         requires table { HasTable self.old }
         ensures goes_on { IfOk result (λ f. f ≡ true) }
-        ensures closes { OnOk result ((front : List Spot) (entry : Spot)
+        ensures closes { OnOk result ((front : List ProgramPoint) (entry : ProgramPoint)
             → self.old.saved.items ≡ front
             ++ entry ∷ [] → ClosesIf falls line contact at front entry self.old self.new) }
         ensures room { OnOk result (length self.new.lines.items ≤ 4096) }
-        ensures refused { IfErr result (λ e. IsRefusal e → (front : List Spot) (entry : Spot)
-            → self.old.saved.items ≡ front
-            ++ entry ∷ [] → WaysAgree (way falls self.old) (Some entry) → ⊥) }
+        ensures refused { IfErr result (λ e. IsRefusal e → (front : List ProgramPoint) (entry :
+            ProgramPoint) → self.old.saved.items ≡ front ++ entry ∷ [] → WaysAgree (way falls
+            self.old) (Some entry) → ⊥) }
         ensures why { IfErr result (λ e. IfRefused e (λ at given. (at ≡ line)
             × (given ≡ Mismatch))) }
         ensures table { OnOk result (HasTable self.new) }
         ensures at { IfErr result (λ e. IfLimit e (λ at _. at ≡ line)) }
-        ensures limited { IfErr result (λ e. IfLimit e (λ _ limit. (front : List Spot)
-            (entry : Spot) → self.old.saved.items ≡ front ++ entry ∷ [] → (ps : List Place) → ((u
-            : Spot) → meet (way falls self.old) (Some entry) ≡ Some u → IsCovered u.flow ps)
-            → HasSpace limit self.old ps → ⊥)) }
+        ensures limited { IfErr result (λ e. IfLimit e (λ _ limit. (front : List ProgramPoint)
+            (entry : ProgramPoint) → self.old.saved.items ≡ front ++ entry ∷ [] → (ps : List Place)
+            → ((u : ProgramPoint) → meet (way falls self.old) (Some entry) ≡ Some u → IsCovered
+            u.flow ps) → HasSpace limit self.old ps → ⊥)) }
     {
         let entry = self.restore();
         let target = self.len() as u16;
@@ -214,17 +214,17 @@ impl Work {
         requires there { at < length self.old.lines.items }
         requires few { length self.old.lines.items ≤ 4096 }
         requires table { HasTable self.old }
-        ensures turns { OnOk result ((front : List Spot) (entry : Spot) → self.old.saved.items
-            ≡ front
-            ++ entry ∷ [] → Turns falls line counters contact at front entry self.old self.new) }
+        ensures turns { OnOk result ((front : List ProgramPoint) (entry : ProgramPoint) →
+            self.old.saved.items ≡ front ++ entry ∷ [] → Turns falls line counters contact at front
+            entry self.old self.new) }
         ensures room { OnOk result (length self.new.lines.items ≤ 4096) }
         ensures refused { IfErr result (λ e. IsRefusal e → ⊥) }
         ensures table { OnOk result (HasTable self.new) }
         ensures at { IfErr result (λ e. IfLimit e (λ at _. at ≡ line)) }
-        ensures limited { IfErr result (λ e. IfLimit e (λ _ limit. (front : List Spot)
-            (entry : Spot) → self.old.saved.items ≡ front ++ entry ∷ [] → (m n : ℕ) (i : Instr)
-            (ps : List Place) → HasSpace limit self.old (onward (way falls self.old) [] (alone m i
-            n) ++ ps) → IsCovered entry.flow ps → ⊥)) }
+        ensures limited { IfErr result (λ e. IfLimit e (λ _ limit. (front : List ProgramPoint)
+            (entry : ProgramPoint) → self.old.saved.items ≡ front ++ entry ∷ [] → (m n : ℕ) (i :
+            Instr) (ps : List Place) → HasSpace limit self.old (onward (way falls self.old) []
+            (alone m i n) ++ ps) → IsCovered entry.flow ps → ⊥)) }
     {
         let entry = self.restore();
         if let Err(fault) = self.leave(falls, line, counters) {
@@ -249,24 +249,21 @@ impl Work {
         requires there { first ≡ true → jump < length self.old.lines.items }
         requires few { length self.old.lines.items ≤ 4096 }
         requires table { HasTable self.old }
-        ensures arrives { IfOk result (λ f. (front : List Spot) (a : Option Spot) → first
-            ≡ is_some a
-            → self.old.saved.items ≡ front ++ spots_of a
-            → IsAfterBranches a (way second self.old) front line jump self.old self.new f) }
+        ensures arrives { IfOk result (λ f. (front : List ProgramPoint) (a : Option ProgramPoint) →
+            first ≡ is_some a → self.old.saved.items ≡ front ++ spots_of a → IsAfterBranches a (way
+            second self.old) front line jump self.old self.new f) }
         ensures room { OnOk result (length self.new.lines.items ≤ 4096) }
-        ensures refused { IfErr result (λ e. IsRefusal e → (front : List Spot) (a : Option Spot)
-            → first
-            ≡ is_some a
-            → self.old.saved.items ≡ front
-            ++ spots_of a → BranchesAgree a (way second self.old) → ⊥) }
+        ensures refused { IfErr result (λ e. IsRefusal e → (front : List ProgramPoint) (a : Option
+            ProgramPoint) → first ≡ is_some a → self.old.saved.items ≡ front ++ spots_of a →
+            BranchesAgree a (way second self.old) → ⊥) }
         ensures why { IfErr result (λ e. IfRefused e (λ at given. (at ≡ line)
             × (given ≡ Mismatch))) }
         ensures table { OnOk result (HasTable self.new) }
         ensures at { IfErr result (λ e. IfLimit e (λ at _. at ≡ line)) }
-        ensures limited { IfErr result (λ e. IfLimit e (λ _ limit. (front : List Spot)
-            (a : Option Spot) → first ≡ is_some a → self.old.saved.items ≡ front ++ spots_of a
-            → (ps : List Place) → ((u : Spot) → join a (way second self.old) ≡ Some u → Covers u ps)
-            → HasSpace limit self.old ps → ⊥)) }
+        ensures limited { IfErr result (λ e. IfLimit e (λ _ limit. (front : List ProgramPoint) (a :
+            Option ProgramPoint) → first ≡ is_some a → self.old.saved.items ≡ front ++ spots_of a →
+            (ps : List Place) → ((u : ProgramPoint) → join a (way second self.old) ≡ Some u → Covers
+            u ps) → HasSpace limit self.old ps → ⊥)) }
     {
         if !first {
             return Ok(second);

@@ -15,7 +15,7 @@ use crate::short::ShortSpot;
 use mux_tables::Tables;
 use plan_code::{Instr, Swap};
 use plan_flow::flow::{is_idle, is_same};
-use script_meaning::Spot;
+use script_meaning::ProgramPoint;
 
 /// The numbers of the two configurations of a flow, as far as they are known: an edit changes a configuration, and then
 /// its number is not known any more.
@@ -128,7 +128,7 @@ fn next_number(
 /// `Memory`.
 pub(crate) fn numbered(
     marks: &mut Marks,
-    spot: &Spot,
+    spot: &ProgramPoint,
     numbers: Numbers,
 ) -> Result<ShortSpot, CompileFault>
     requires known { AreNumbered marks.old.pool numbers spot.now.flow }

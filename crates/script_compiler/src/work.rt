@@ -4,7 +4,7 @@ ghost use Rattle.std.specs.Prelude.{◌≡◌, ◌↔◌, ◌+◌, ◌<◌, true
 ghost use Rattle.plan_code.specs.declared.instr.Instr.{Instr};
 ghost use Rattle.plan_flow.specs.Flows.{known_at, merged, moved, FitsFlow};
 ghost use Rattle.plan_flow.specs.Rules.{IsFine};
-ghost use Rattle.script_meaning.specs.declared.flow.Spot.{Spot};
+ghost use Rattle.script_meaning.specs.declared.flow.ProgramPoint.{ProgramPoint};
 ghost use Rattle.script_meaning.specs.Scheme.{past, meet, instr_of_act};
 ghost use Rattle.script_meaning.specs.Judged.{WaysAgree};
 ghost use Rattle.script_meaning.specs.Compiled.{beginning};
@@ -26,7 +26,7 @@ use plan_code::limits::{MOST_INSTRUCTIONS, MOST_LABELS};
 use plan_code::{ContactId, Instr, Line, Plan};
 use plan_flow::Cause;
 use script_front::Act;
-use script_meaning::Spot;
+use script_meaning::ProgramPoint;
 use std::alloc::Global;
 use std::marker::Model;
 
@@ -37,7 +37,7 @@ pub(crate) struct Work {
     pub(crate) lines: Vec<Line>,
     /// The labels, without what they cost, and the configurations that they name.
     pub(crate) marks: Marks,
-    pub(crate) now: Spot,
+    pub(crate) now: ProgramPoint,
     /// The numbers of the configurations that are known here.
     numbers: Numbers,
     /// What is known where branches and loops come back to.
@@ -82,7 +82,7 @@ impl Work {
         Work {
             lines: Vec::new(alloc),
             marks: Marks::new(alloc),
-            now: Spot::opening(config),
+            now: ProgramPoint::opening(config),
             numbers: Numbers {
                 current: None,
                 next: None,

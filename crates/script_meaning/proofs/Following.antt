@@ -11,7 +11,7 @@ use Rattle.plan_code.specs.Machine.{State, effect, effect_of, step, IsAllowed, S
 use Rattle.plan_flow.specs.Flows.{moved}
 use Rattle.plan_runs.specs.Frames.{is_running}
 use Rattle.script_front.specs.Block.{Block, nothing, basic, stop, when, either, repeat, forever, apply}
-use Rattle.script_meaning.specs.declared.flow.Spot.{Spot}
+use Rattle.script_meaning.specs.declared.flow.ProgramPoint.{ProgramPoint}
 use Rattle.script_meaning.specs.Scheme.{Place, past, at_label, meet, join, onward, head, falls_out, instr_of_act, spot_after, place_of_instr, alone, places}
 use Rattle.script_meaning.specs.Meaning.{acts_as, Scene, Reading, reading, scene_of, followed, first_done, IsFineToDo, Performs}
 use Rattle.script_meaning.proofs.Scenes.{acts_as_compiled, act_scene, act_place, act_fine}
@@ -109,35 +109,35 @@ module _ (p : Program) where
   -- the code is that of these places
   module _ (whole : List Place) (there : (pc : ℕ) (q : Place) → slice_get whole pc ≡ Some q → instr_at p pc ≡ Some q.instr) (formed : (pc : ℕ) (q : Place) → slice_get whole pc ≡ Some q → IsInstr q.instr) where
     -- what comes after a block does what is left
-    abbrev pub Goes : ℕ → ℕ → ℕ → Option Spot → List ℕ → Block → Type 0
-    Goes n pc r w cs k = (m : ℕ) → m ≤ n → (u : Spot) (ds : List ℕ) → w ≡ Some u → SameBelow r cs ds → Follows m pc ds k
+    abbrev pub Goes : ℕ → ℕ → ℕ → Option ProgramPoint → List ℕ → Block → Type 0
+    Goes n pc r w cs k = (m : ℕ) → m ≤ n → (u : ProgramPoint) (ds : List ℕ) → w ≡ Some u → SameBelow r cs ds → Follows m pc ds k
 
     abbrev pub Plays : ℕ → Block → Type 0
     Plays n b =
-        (r pc : ℕ) (s : Spot) (k : Block) (cs : List ℕ) → Stand whole pc (places p.plan r pc b s) → length cs ≡ 8 →
+        (r pc : ℕ) (s : ProgramPoint) (k : Block) (cs : List ℕ) → Stand whole pc (places p.plan r pc b s) → length cs ≡ 8 →
         Goes n (pc + length (places p.plan r pc b s)) r (spot_after p.plan b s) cs k → Follows n pc cs (followed b k)
 
     -- the rest of a block, where it is reached
-    rest_goes : (n r pc : ℕ) (rest : Block) (w : Option Spot) (cs : List ℕ) (k : Block) → ((m : ℕ) → m ≤ n → Plays m rest) →
+    rest_goes : (n r pc : ℕ) (rest : Block) (w : Option ProgramPoint) (cs : List ℕ) (k : Block) → ((m : ℕ) → m ≤ n → Plays m rest) →
         Stand whole pc (onward w [] (λ u. places p.plan r pc rest u)) →
         Goes n (pc + length (onward w [] (λ u. places p.plan r pc rest u))) r (onward w None (λ u. spot_after p.plan rest u)) cs k →
-        (v : Spot) → w ≡ Some v → (m : ℕ) → m ≤ n → (ds : List ℕ) → SameBelow r cs ds → Follows m pc ds (followed rest k)
+        (v : ProgramPoint) → w ≡ Some v → (m : ℕ) → m ≤ n → (ds : List ℕ) → SameBelow r cs ds → Follows m pc ds (followed rest k)
     rest_goes n r pc rest None cs k ih st go v e m le ds same = cc
     rest_goes n r pc rest (Some s) cs k ih st go v e m le ds same =
         ih m le r pc s k ds st same.0 (λ q qm u es eu more. go q (omega (arith, le, qm)) u es eu (same_then r cs ds es same more))
 
-    go_at : (n a b r : ℕ) (w : Option Spot) (cs : List ℕ) (k : Block) → a ≡ b → Goes n a r w cs k → Goes n b r w cs k
+    go_at : (n a b r : ℕ) (w : Option ProgramPoint) (cs : List ℕ) (k : Block) → a ≡ b → Goes n a r w cs k → Goes n b r w cs k
     go_at n a b r w cs k e g = subst (λ x. Goes n x r w cs k) e g
 
     -- where an instruction follows a block
-    pub there_after : (line : ℕ) (i : Instr) (q pc : ℕ) (more : Spot → List Place) (w : Option Spot) (u : Spot) → w ≡ Some u → Stand whole pc (onward w [] (λ v. place_of_instr line i q v ∷ more v)) →
+    pub there_after : (line : ℕ) (i : Instr) (q pc : ℕ) (more : ProgramPoint → List Place) (w : Option ProgramPoint) (u : ProgramPoint) → w ≡ Some u → Stand whole pc (onward w [] (λ v. place_of_instr line i q v ∷ more v)) →
         (slice_get whole pc ≡ Some (place_of_instr line i q u)) × Stand whole (pc + 1) (more u)
     there_after line i q pc more None u e st = cc
     there_after line i q pc more (Some v) u e st =
         let same : v ≡ u = some_same v u e in
         subst (λ x. (slice_get whole pc ≡ Some (place_of_instr line i q x)) × Stand whole (pc + 1) (more x)) same st
 
-    module _ (n : ℕ) (ih : (m : ℕ) → m ≤ n → (b : Block) → Plays m b) (line r pc : ℕ) (low : r < 8) (body rest k : Block) (start : Spot) (cs0 : List ℕ) where
+    module _ (n : ℕ) (ih : (m : ℕ) → m ≤ n → (b : Block) → Plays m b) (line r pc : ℕ) (low : r < 8) (body rest k : Block) (start : ProgramPoint) (cs0 : List ℕ) where
       abbrev end : ℕ
       end = pc + 1 + length (places p.plan (r + 1) (pc + 1) body start)
 
@@ -145,16 +145,16 @@ module _ (p : Program) where
       left = followed rest k
 
       abbrev Out : Type 0
-      Out = (q : ℕ) → q ≤ n → (u : Spot) (ds : List ℕ) → spot_after p.plan body start ≡ Some u → SameBelow r cs0 ds → Follows q (end + 1) ds left
+      Out = (q : ℕ) → q ≤ n → (u : ProgramPoint) (ds : List ℕ) → spot_after p.plan body start ≡ Some u → SameBelow r cs0 ds → Follows q (end + 1) ds left
 
       abbrev There : Type 0
-      There = (u : Spot) → spot_after p.plan body start ≡ Some u → slice_get whole end ≡ Some (place_of_instr line (Loop r (pc + 1)) (r + 1) u)
+      There = (u : ProgramPoint) → spot_after p.plan body start ≡ Some u → slice_get whole end ≡ Some (place_of_instr line (Loop r (pc + 1)) (r + 1) u)
 
       -- what a loop makes of a state, by its test
       abbrev looped : Bool → List ℕ → State → State
       looped more ds d = record d { counters = slice_set ds r (slice_index ds r - 1); pc = if more then pc + 1 else end + 1 }
 
-      last_turn : Out → There → (q : ℕ) (u : Spot) (ds : List ℕ) → q ≤ n → spot_after p.plan body start ≡ Some u → slice_index ds r ≡ 1 → SameBelow r cs0 ds → Follows q end ds (repeat line zero body left)
+      last_turn : Out → There → (q : ℕ) (u : ProgramPoint) (ds : List ℕ) → q ≤ n → spot_after p.plan body start ≡ Some u → slice_index ds r ≡ 1 → SameBelow r cs0 ds → Follows q end ds (repeat line zero body left)
       last_turn out here zero u ds le e count below = tt
       last_turn out here (suc q) u ds le e count below = by_instr q end ds (repeat line zero body left) (Loop r (pc + 1)) (there end (place_of_instr line (Loop r (pc + 1)) (r + 1) u) (here u e)) (λ d runs ok.
           let test : nat_lt 1 (slice_index ds r) ≡ false = le-ltb 1 (slice_index ds r) (omega (arith, count)) in
@@ -162,7 +162,7 @@ module _ (p : Program) where
           (left, comes_by (repeat line zero body left) left (scene_of d) (scene_of d) runs tt refl, out q (omega (arith, le)) u (slice_set ds r (slice_index ds r - 1)) e (set_below r (slice_index ds r - 1) cs0 ds below)))
 
       again : There → (c : ℕ) → ((m : ℕ) (cs : List ℕ) → m ≤ n → slice_index cs r ≡ c + 1 → SameBelow r cs0 cs → Follows m (pc + 1) cs (followed body (repeat line c body left))) →
-          (q : ℕ) (u : Spot) (ds : List ℕ) → q ≤ n → spot_after p.plan body start ≡ Some u → slice_index ds r ≡ suc c + 1 → SameBelow r cs0 ds → Follows q end ds (repeat line (suc c) body left)
+          (q : ℕ) (u : ProgramPoint) (ds : List ℕ) → q ≤ n → spot_after p.plan body start ≡ Some u → slice_index ds r ≡ suc c + 1 → SameBelow r cs0 ds → Follows q end ds (repeat line (suc c) body left)
       again here c next zero u ds le e count below = tt
       again here c next (suc q) u ds le e count below = by_instr q end ds (repeat line (suc c) body left) (Loop r (pc + 1)) (there end (place_of_instr line (Loop r (pc + 1)) (r + 1) u) (here u e)) (λ d runs ok.
           let test : nat_lt 1 (slice_index ds r) ≡ true = lt-ltb 1 (slice_index ds r) (omega (arith, count)) in
@@ -257,11 +257,11 @@ module _ (p : Program) where
         let bodies = places p.plan (r + 1) (pc + 1) body start in
         let a = spot_after p.plan body start in
         let end = pc + 1 + length bodies in
-        let more = λ (u : Spot). places p.plan r (end + 1) rest (past u.flow) in
+        let more = λ (u : ProgramPoint). places p.plan r (end + 1) rest (past u.flow) in
         let rests = onward a [] (λ u. place_of_instr line (Loop r (pc + 1)) (r + 1) u ∷ more u) in
         let e : pc + length (places p.plan r pc (repeat line (suc c) body rest) s) ≡ end + length rests = omega (arith, length-append bodies rests) in
         let st_rests = stand_back whole (pc + 1) bodies rests st.1 in
-        let out : (q : ℕ) → q ≤ n → (u : Spot) (ds : List ℕ) → a ≡ Some u → SameBelow r cs ds → Follows q (end + 1) ds (followed rest k) = λ q le u ds eu same.
+        let out : (q : ℕ) → q ≤ n → (u : ProgramPoint) (ds : List ℕ) → a ≡ Some u → SameBelow r cs ds → Follows q (end + 1) ds (followed rest k) = λ q le u ds eu same.
         let there' = there_after line (Loop r (pc + 1)) (r + 1) end more a u eu st_rests in
         let at' : pc + length (places p.plan r pc (repeat line (suc c) body rest) s) ≡ end + 1 + length (more u) = let x = ap (λ w. length (onward w [] (λ v. place_of_instr line (Loop r (pc + 1)) (r + 1) v ∷ more v))) eu in omega (arith, e, x) in
         let leads : spot_after p.plan (repeat line (suc c) body rest) s ≡ spot_after p.plan rest (past u.flow) = ap (λ w. onward w None (λ v. spot_after p.plan rest (past v.flow))) eu in

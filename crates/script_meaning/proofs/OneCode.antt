@@ -11,7 +11,7 @@ use Rattle.plan_code.specs.declared.label.Swap.{Swap}
 use Rattle.plan_code.specs.declared.plan.Plan.{Plan}
 use Rattle.plan_code.specs.Program.{Program}
 use Rattle.script_front.specs.Tree.{Tree}
-use Rattle.script_meaning.specs.declared.flow.Mark.{Mark}
+use Rattle.script_meaning.specs.declared.flow.UnpricedLabel.{UnpricedLabel}
 use Rattle.script_meaning.specs.Scheme.{marks_of}
 use Rattle.script_meaning.specs.Need.{IsNeed}
 use Rattle.script_meaning.specs.Compiled.{Added, Tabled, IsLabelOf, AreLabelsOf, IsCodeOf, CostsItsNeeds, ScriptsHaveOneCode, instrs_of, places_of}
@@ -27,7 +27,7 @@ added_once c table a b (inl h) (inr k) = absurd (k.0 h.0)
 added_once c table a b (inr h) (inl k) = absurd (h.0 k.0)
 added_once c table a b (inr h) (inr k) = h.1 ∙ sym k.1
 
-pub tabled_once : (table : List Configuration) (ms : List Mark) (a b : List Configuration) → Tabled table ms a → Tabled table ms b → a ≡ b
+pub tabled_once : (table : List Configuration) (ms : List UnpricedLabel) (a b : List Configuration) → Tabled table ms a → Tabled table ms b → a ≡ b
 tabled_once table [] a b h k = h ∙ sym k
 tabled_once table (m ∷ ms) a b h k =
     let one : h.0 ≡ k.0 = added_once m.flow.current table h.0 k.0 h.2 k.2 in
@@ -63,7 +63,7 @@ distinct_added c table new (inr h) d = subst (λ (t : List Configuration). AreDi
     by i j x (inr e) (inl f) = absurd (here x j f e.1)
     by i j x (inr e) (inr f) = e.0 ∙ sym f.0
 
-distinct_tabled : (table : List Configuration) (ms : List Mark) (new : List Configuration) → Tabled table ms new → AreDistinct table → AreDistinct new
+distinct_tabled : (table : List Configuration) (ms : List UnpricedLabel) (new : List Configuration) → Tabled table ms new → AreDistinct table → AreDistinct new
 distinct_tabled table [] new h d = subst (λ (t : List Configuration). AreDistinct t) (sym h) d
 distinct_tabled table (m ∷ ms) new h d = distinct_tabled h.1 ms new h.4 (distinct_added m.flow.next h.0 h.1 h.3 (distinct_added m.flow.current table h.0 h.2 d))
 
@@ -91,7 +91,7 @@ label_once a b pc cur next pending counters cost =
     ∙ ap (λ (c : Counters). let l : Label = record { pc = b.pc; cur = b.cur; next = b.next; pending = b.pending; counters = c; cost = a.cost } in l) counters
     ∙ ap (λ n. let l : Label = record { pc = b.pc; cur = b.cur; next = b.next; pending = b.pending; counters = b.counters; cost = n } in l) cost
 
-labels_once : (code : List Instr) (table : List Configuration) (ms : List Mark) (ls ks : List Label) → AreDistinct table → AreLabelsOf table ms ls → AreLabelsOf table ms ks → AreNeeds code ls → AreNeeds code ks → ls ≡ ks
+labels_once : (code : List Instr) (table : List Configuration) (ms : List UnpricedLabel) (ls ks : List Label) → AreDistinct table → AreLabelsOf table ms ls → AreLabelsOf table ms ks → AreNeeds code ls → AreNeeds code ks → ls ≡ ks
 labels_once code table [] ls ks d h k m n = h ∙ sym k
 labels_once code table (x ∷ ms) [] ks d h k m n = absurd h
 labels_once code table (x ∷ ms) (a ∷ ls) [] d h k m n = absurd k

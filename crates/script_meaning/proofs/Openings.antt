@@ -10,7 +10,7 @@ use Rattle.plan_code.specs.Program.{Program, label_at}
 use Rattle.plan_flow.specs.Flows.{Flow}
 use Rattle.script_front.specs.Block.{Block, nothing, basic, stop, when, either, repeat, forever, apply}
 use Rattle.script_front.specs.Tree.{Tree}
-use Rattle.script_meaning.specs.declared.flow.Spot.{Spot}
+use Rattle.script_meaning.specs.declared.flow.ProgramPoint.{ProgramPoint}
 use Rattle.script_meaning.specs.Scheme.{Place, onward, head, falls_out, spot_after, alone, places, all_places, mark_of, marks_of}
 use Rattle.script_meaning.specs.Compiled.{IsCodeOf, AreLabelsOf, plan_of, body_of, opening_of, places_of, beginning}
 
@@ -24,17 +24,17 @@ begins_then t [] qs h = absurd h
 begins_then t (p ∷ ps) qs h = h
 
 -- it begins there, or it has no instruction and leads to where it begins
-abbrev Begins : Spot → List Place → Option Spot → Type 0
+abbrev Begins : ProgramPoint → List Place → Option ProgramPoint → Type 0
 Begins s ps w = BeginsAt s.flow ps ⊎ ((ps ≡ []) × (w ≡ Some s))
 
-labelled_head : (body : Block) (s : Spot) → s.labelled ≡ true → head body s ≡ s
+labelled_head : (body : Block) (s : ProgramPoint) → s.labelled ≡ true → head body s ≡ s
 labelled_head body s h = by (falls_out body)
   where
-    by : (b : Bool) → (let u : Spot = record { flow = s.flow; labelled = if b then true else s.labelled } in u) ≡ s
-    by true = ap (λ l. let u : Spot = record { flow = s.flow; labelled = l } in u) (sym h)
+    by : (b : Bool) → (let u : ProgramPoint = record { flow = s.flow; labelled = if b then true else s.labelled } in u) ≡ s
+    by true = ap (λ l. let u : ProgramPoint = record { flow = s.flow; labelled = l } in u) (sym h)
     by false = refl
 
-block_begins : (plan : Plan) (r pc : ℕ) (b : Block) (s : Spot) → s.labelled ≡ true → Begins s (places plan r pc b s) (spot_after plan b s)
+block_begins : (plan : Plan) (r pc : ℕ) (b : Block) (s : ProgramPoint) → s.labelled ≡ true → Begins s (places plan r pc b s) (spot_after plan b s)
 block_begins plan r pc nothing s h = inr (refl, refl)
 block_begins plan r pc (basic line act rest) s h = inl (refl, h)
 block_begins plan r pc (stop line rest) s h = inl (refl, h)
@@ -46,7 +46,7 @@ block_begins plan r pc (forever line body rest) s h = by (block_begins plan r pc
     same : head body s ≡ s
     same = labelled_head body s h
 
-    jumping : List Place → Option Spot → List Place
+    jumping : List Place → Option ProgramPoint → List Place
     jumping ps w = ps ++ onward w [] (alone line (Jump pc) r)
 
     goal : List Place → Type 0
@@ -58,7 +58,7 @@ block_begins plan r pc (forever line body rest) s h = by (block_begins plan r pc
         (subst (λ ps. goal (jumping ps (spot_after plan body s))) (sym none.0) (subst (λ w. goal (jumping [] w)) (sym none.1) (inl (refl, h))))
 block_begins plan r pc (apply line number named rest) s h = by (block_begins plan r pc named s h) (block_begins plan r (pc + 0) rest s h)
   where
-    following : List Place → Option Spot → List Place
+    following : List Place → Option ProgramPoint → List Place
     following ps w = ps ++ onward w [] (λ u. places plan r (pc + length ps) rest u)
 
     by : Begins s (places plan r pc named s) (spot_after plan named s) → Begins s (places plan r (pc + 0) rest s) (spot_after plan rest s) →
@@ -70,7 +70,7 @@ block_begins plan r pc (apply line number named rest) s h = by (block_begins pla
         more)
 
 -- the whole code begins there
-all_begin : (plan : Plan) (last : ℕ) (b : Block) (s : Spot) → s.labelled ≡ true → BeginsAt s.flow (all_places plan last b s)
+all_begin : (plan : Plan) (last : ℕ) (b : Block) (s : ProgramPoint) → s.labelled ≡ true → BeginsAt s.flow (all_places plan last b s)
 all_begin plan last b s h = by (block_begins plan 0 0 b s h)
   where
     by : Begins s (places plan 0 0 b s) (spot_after plan b s) → BeginsAt s.flow (places plan 0 0 b s ++ onward (spot_after plan b s) [] (alone last End 0))

@@ -7,7 +7,7 @@ use Rattle.plan_code.specs.declared.plan.Plan.{Plan}
 use Rattle.plan_code.specs.declared.instr.Instr.{Instr}
 use Rattle.plan_flow.specs.Flows.{moved}
 use Rattle.script_front.specs.Block.{Block, nothing, basic, stop, when, either, repeat, forever, apply}
-use Rattle.script_meaning.specs.declared.flow.Spot.{Spot}
+use Rattle.script_meaning.specs.declared.flow.ProgramPoint.{ProgramPoint}
 use Rattle.script_meaning.specs.Scheme.{Place, past, at_label, meet, join, onward, head, instr_of_act, falls_out, spot_after, alone}
 
 -- these are in the code from this pc on
@@ -37,21 +37,21 @@ stand_all (p ∷ ps) before =
 
 -- ---- falling out
 
-onward_falls : (w : Option Spot) (f : Bool) (after_rest : Spot → Option Spot) (g : Bool) → is_some w ≡ f → ((u : Spot) → is_some (after_rest u) ≡ g) → is_some (onward w None after_rest) ≡ (f && g)
+onward_falls : (w : Option ProgramPoint) (f : Bool) (after_rest : ProgramPoint → Option ProgramPoint) (g : Bool) → is_some w ≡ f → ((u : ProgramPoint) → is_some (after_rest u) ≡ g) → is_some (onward w None after_rest) ≡ (f && g)
 onward_falls None f k g e h = ap (λ b. b && g) e
 onward_falls (Some u) f k g e h = h u ∙ ap (λ b. b && g) e
 
-meet_falls : (w : Option Spot) (s : Spot) (k : Spot → Option Spot) (g : Bool) → ((u : Spot) → is_some (k u) ≡ g) → is_some (onward (meet w (Some s)) None k) ≡ g
+meet_falls : (w : Option ProgramPoint) (s : ProgramPoint) (k : ProgramPoint → Option ProgramPoint) (g : Bool) → ((u : ProgramPoint) → is_some (k u) ≡ g) → is_some (onward (meet w (Some s)) None k) ≡ g
 meet_falls None s k g h = h _
 meet_falls (Some u) s k g h = h _
 
-join_falls : (v w : Option Spot) → is_some (join v w) ≡ (is_some v || is_some w)
+join_falls : (v w : Option ProgramPoint) → is_some (join v w) ≡ (is_some v || is_some w)
 join_falls None w = refl
 join_falls (Some u) None = refl
 join_falls (Some u) (Some v) = refl
 
 -- what is known after a block exists where it falls out
-pub after_falls : (plan : Plan) (b : Block) (s : Spot) → is_some (spot_after plan b s) ≡ falls_out b
+pub after_falls : (plan : Plan) (b : Block) (s : ProgramPoint) → is_some (spot_after plan b s) ≡ falls_out b
 after_falls plan nothing s = refl
 after_falls plan (basic line act rest) s = after_falls plan rest (past (moved plan (instr_of_act act) s.flow))
 after_falls plan (stop line rest) s = refl
@@ -68,20 +68,20 @@ after_falls plan (forever line body rest) s = refl
 after_falls plan (apply line k named rest) s = onward_falls (spot_after plan named s) _ _ (falls_out rest) (after_falls plan named s) (λ u. after_falls plan rest u)
 
 -- a jump is at the end of a branch that falls out
-pub jump_length : (line : ℕ) (i : Instr) (r : ℕ) (w : Option Spot) (f : Bool) → is_some w ≡ f → length (onward w [] (alone line i r)) ≡ (if f then 1 else 0)
+pub jump_length : (line : ℕ) (i : Instr) (r : ℕ) (w : Option ProgramPoint) (f : Bool) → is_some w ≡ f → length (onward w [] (alone line i r)) ≡ (if f then 1 else 0)
 jump_length line i r None f e = ap (λ b. if b then 1 else 0) e
 jump_length line i r (Some u) f e = ap (λ b. if b then 1 else 0) e
 
-pub meets_some : (v : Option Spot) (s : Spot) → (u : Spot) × (meet v (Some s) ≡ Some u)
+pub meets_some : (v : Option ProgramPoint) (s : ProgramPoint) → (u : ProgramPoint) × (meet v (Some s) ≡ Some u)
 meets_some None s = (_, refl)
 meets_some (Some t) s = (_, refl)
 
-pub joins_first : (v w : Option Spot) (s : Spot) → v ≡ Some s → (u : Spot) × (join v w ≡ Some u)
+pub joins_first : (v w : Option ProgramPoint) (s : ProgramPoint) → v ≡ Some s → (u : ProgramPoint) × (join v w ≡ Some u)
 joins_first None w s e = cc
 joins_first (Some t) None s e = (_, refl)
 joins_first (Some t) (Some x) s e = (_, refl)
 
-pub joins_second : (v w : Option Spot) (s : Spot) → w ≡ Some s → (u : Spot) × (join v w ≡ Some u)
+pub joins_second : (v w : Option ProgramPoint) (s : ProgramPoint) → w ≡ Some s → (u : ProgramPoint) × (join v w ≡ Some u)
 joins_second None w s e = (s, e)
 joins_second (Some t) None s e = cc
 joins_second (Some t) (Some x) s e = (_, refl)

@@ -19,7 +19,7 @@ use Rattle.plan_runs.proofs.Reached.{starts_are_reached}
 use Rattle.plan_runs.proofs.TypedRuns.{typed_code_runs}
 use Rattle.script_front.specs.Block.{Block, nothing, basic, stop, when, either, repeat, forever, apply}
 use Rattle.script_front.specs.Tree.{Tree}
-use Rattle.script_meaning.specs.declared.flow.Spot.{Spot}
+use Rattle.script_meaning.specs.declared.flow.ProgramPoint.{ProgramPoint}
 use Rattle.script_meaning.specs.Scheme.{Place, place_of_instr, alone, onward, spot_after, places, all_places}
 use Rattle.script_meaning.specs.Compiled.{IsCodeOf, plan_of, body_of, opening_of, lines_of_places, beginning}
 use Rattle.script_meaning.specs.Meaning.{Scene, Reading, reading, scene_of, followed, first_done, Performs, opens, closes, PerformsFrame, PerformsEvent, PerformsAll, begins, ScriptsPlayAsTheyRead}
@@ -117,7 +117,7 @@ then_nothing (forever line body rest) = ap (λ x. forever line body x) (then_not
 then_nothing (apply line k named rest) = ap (λ x. apply line k named x) (then_nothing rest)
 
 -- the code of all of a block follows it from its beginning on
-code_follows : (p : Program) (last : ℕ) (b : Block) (start : Spot) → IsProgram p → p.lines ≡ lines_of_places (all_places p.plan last b start) →
+code_follows : (p : Program) (last : ℕ) (b : Block) (start : ProgramPoint) → IsProgram p → p.lines ≡ lines_of_places (all_places p.plan last b start) →
     (n : ℕ) (cs : List ℕ) → length cs ≡ 8 → Follows p n 0 cs b
 code_follows p last b start formed lines n cs eight =
     let whole = all_places p.plan last b start in

@@ -21,8 +21,8 @@ use Rattle.script_front.specs.declared.tree.Act.TheVariants.{Wait as Waits, Join
 use Rattle.script_front.specs.declared.tree.Item.{Item}
 use Rattle.script_front.specs.Block.{Block, nothing, basic, stop, either, repeat, forever}
 use Rattle.script_front.specs.Tree.{Tree}
-use Rattle.script_meaning.specs.declared.flow.Mark.{Mark}
-use Rattle.script_meaning.specs.declared.flow.Spot.{Spot}
+use Rattle.script_meaning.specs.declared.flow.UnpricedLabel.{UnpricedLabel}
+use Rattle.script_meaning.specs.declared.flow.ProgramPoint.{ProgramPoint}
 use Rattle.script_meaning.specs.Scheme.{at_label, past, falls_out, spot_after, all_places, marks_of}
 use Rattle.script_meaning.specs.Judged.{WaysAgree, BranchesAgree, ComesRound, IsDone, Reached, IsJudged}
 use Rattle.script_meaning.specs.Need.{GoesTo, HasPath, IsWithinBudget, IsNeed}
@@ -43,7 +43,7 @@ one_sub = record { subs = sub ∷ []; services = []; packets = [] }
 abbrev knows : Configuration → Swap → Flow
 knows next pending = record { current = no_configuration; next = next; pending = pending }
 
-abbrev start : Spot
+abbrev start : ProgramPoint
 start = beginning no_configuration
 
 -- `wait 1` in line 3
@@ -201,7 +201,7 @@ two_deep = refl
 
 -- ---- labels and their configurations
 
-abbrev mark : ℕ → Flow → Mark
+abbrev mark : ℕ → Flow → UnpricedLabel
 mark pc flow = record { pc = pc; flow = flow; repeats = 1 }
 
 stands : StandsIn one_sub (no_configuration ∷ one_sub ∷ [])

@@ -14,7 +14,7 @@ use Rattle.script_front.specs.declared.tree.Act.TheVariants.{Edit as Edits, Wait
 use Rattle.script_front.specs.declared.tree.Item.{Item}
 use Rattle.script_front.specs.Block.{Block, nothing, basic, stop, forever}
 use Rattle.script_front.specs.Tree.{Tree}
-use Rattle.script_meaning.specs.declared.flow.Spot.{Spot}
+use Rattle.script_meaning.specs.declared.flow.ProgramPoint.{ProgramPoint}
 use Rattle.script_meaning.specs.Scheme.{past, spot_after}
 use Rattle.script_meaning.specs.Judged.{ComesRound}
 use Rattle.script_meaning.specs.Compiled.{beginning}
@@ -29,7 +29,7 @@ sub = record { id = 1; start = 0; protection = record { set = A; level = 3 }; kb
 abbrev one_sub : Configuration
 one_sub = record { subs = sub ∷ []; services = []; packets = [] }
 
-abbrev start : Spot
+abbrev start : ProgramPoint
 start = beginning no_configuration
 
 -- `join` in line 3, where no swap is pending

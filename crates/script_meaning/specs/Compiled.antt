@@ -16,8 +16,8 @@ use Rattle.plan_flow.specs.Rules.{pages_alone}
 use Rattle.script_front.specs.declared.tree.Item.{Item}
 use Rattle.script_front.specs.Block.{Block, nothing, basic, stop, when, either, repeat, forever, apply, table_of, block_of}
 use Rattle.script_front.specs.Tree.{Tree}
-use Rattle.script_meaning.specs.declared.flow.Mark.{Mark}
-use Rattle.script_meaning.specs.declared.flow.Spot.{Spot}
+use Rattle.script_meaning.specs.declared.flow.UnpricedLabel.{UnpricedLabel}
+use Rattle.script_meaning.specs.declared.flow.ProgramPoint.{ProgramPoint}
 use Rattle.script_meaning.specs.Scheme.{Place, at_label, all_places, marks_of}
 use Rattle.script_meaning.specs.Judged.{IsJudged}
 use Rattle.script_meaning.specs.Need.{IsWithinBudget, IsNeed}
@@ -48,7 +48,7 @@ abbrev pub opening_of : Tree → Configuration
 opening_of s = with_items s.items no_configuration
 
 -- a script begins with its opening, nothing pending, at a label
-abbrev pub beginning : Configuration → Spot
+abbrev pub beginning : Configuration → ProgramPoint
 beginning c = at_label (record { current = c; next = c; pending = Idle })
 
 abbrev pub body_of : Tree → Block
@@ -73,7 +73,7 @@ abbrev pub Added : Configuration → List Configuration → List Configuration �
 Added c table new = (StandsIn c table × (new ≡ table)) ⊎ ((StandsIn c table → ⊥) × (new ≡ table ++ c ∷ []))
 
 -- with those of labels, the current one of each before the next one
-abbrev pub Tabled : List Configuration → List Mark → List Configuration → Type 0
+abbrev pub Tabled : List Configuration → List UnpricedLabel → List Configuration → Type 0
 Tabled table [] new = new ≡ table
 Tabled table (m ∷ ms) new =
     (one both : List Configuration) × Added m.flow.current table one × Added m.flow.next one both × Tabled both ms new
@@ -84,14 +84,14 @@ first_counters zero = record { 0 = 0 }
 first_counters (suc r) = with_counter r (first_counters r)
 
 -- a label says what is known there
-pub record IsLabelOf (table : List Configuration) (m : Mark) (l : Label) : Type 0 where
+pub record IsLabelOf (table : List Configuration) (m : UnpricedLabel) (l : Label) : Type 0 where
   pub place : l.pc ≡ m.pc
   pub current : slice_get table l.cur ≡ Some m.flow.current
   pub following : slice_get table l.next ≡ Some m.flow.next
   pub pending : l.pending ≡ m.flow.pending
   pub counters : l.counters ≡ first_counters m.repeats
 
-abbrev pub AreLabelsOf : List Configuration → List Mark → List Label → Type 0
+abbrev pub AreLabelsOf : List Configuration → List UnpricedLabel → List Label → Type 0
 AreLabelsOf table [] ls = ls ≡ []
 AreLabelsOf table (m ∷ ms) [] = ⊥
 AreLabelsOf table (m ∷ ms) (l ∷ ls) = IsLabelOf table m l × AreLabelsOf table ms ls

@@ -4,20 +4,20 @@ use Rattle.plan_code.specs.declared.plan.Plan.{Plan}
 use Rattle.plan_flow.specs.Rules.{IsFine}
 use Rattle.plan_flow.specs.Flows.{known_at, moved, merged, FitsFlow}
 use Rattle.script_front.specs.Block.{Block, nothing, basic, stop, when, either, repeat, forever, apply}
-use Rattle.script_meaning.specs.declared.flow.Spot.{Spot}
+use Rattle.script_meaning.specs.declared.flow.ProgramPoint.{ProgramPoint}
 use Rattle.script_meaning.specs.Scheme.{at_label, past, meet, join, head, instr_of_act, spot_after}
 
 -- ways that meet fit what is known at the label there; where one way comes alone, it is what is known
-abbrev pub WaysAgree : Option Spot → Option Spot → Type 0
+abbrev pub WaysAgree : Option ProgramPoint → Option ProgramPoint → Type 0
 WaysAgree (Some s) (Some t) = FitsFlow s.flow (merged s.flow t.flow) × FitsFlow t.flow (merged s.flow t.flow)
 WaysAgree _ _ = Unit {0}
 
 -- after two branches
-abbrev pub BranchesAgree : Option Spot → Option Spot → Type 0
+abbrev pub BranchesAgree : Option ProgramPoint → Option ProgramPoint → Type 0
 BranchesAgree first second = WaysAgree second first
 
 -- the body of a loop leads to a state that fits its entry, if it falls out
-abbrev pub ComesRound : Option Spot → Spot → Type 0
+abbrev pub ComesRound : Option ProgramPoint → ProgramPoint → Type 0
 ComesRound None entry = Unit {0}
 ComesRound (Some s) entry = FitsFlow s.flow entry.flow
 
@@ -27,12 +27,12 @@ IsDone nothing = Unit {0}
 IsDone _ = ⊥
 
 -- a statement that can't be reached has no case
-abbrev pub Reached : Option Spot → Block → (Spot → Type 0) → Type 0
+abbrev pub Reached : Option ProgramPoint → Block → (ProgramPoint → Type 0) → Type 0
 Reached None rest judged = IsDone rest
 Reached (Some s) rest judged = judged s
 
 -- from this spot the block leads to `spot_after` it
-abbrev pub IsJudged : Plan → Block → Spot → Type 0
+abbrev pub IsJudged : Plan → Block → ProgramPoint → Type 0
 IsJudged plan nothing s = Unit {0}
 IsJudged plan (basic line act rest) s =
     IsFine plan (instr_of_act act) (known_at s.flow) × IsJudged plan rest (past (moved plan (instr_of_act act) s.flow))

@@ -12,7 +12,7 @@ use Rattle.plan_flow.specs.Causes.{Where, WhereSome, ◌orelse◌, FlowRefused}
 use Rattle.script_front.specs.declared.tree.Item.{Item}
 use Rattle.script_front.specs.Block.{Block, nothing, basic, stop, when, either, repeat, forever, apply}
 use Rattle.script_front.specs.Tree.{Tree}
-use Rattle.script_meaning.specs.declared.flow.Spot.{Spot}
+use Rattle.script_meaning.specs.declared.flow.ProgramPoint.{ProgramPoint}
 use Rattle.script_meaning.specs.Scheme.{at_label, past, meet, join, head, instr_of_act, spot_after}
 use Rattle.script_meaning.specs.Judged.{IsJudged, WaysAgree, BranchesAgree, ComesRound}
 use Rattle.script_meaning.specs.Need.{IsWithinBudget}
@@ -36,12 +36,12 @@ abbrev pub IsMismatch : ℕ → Type 0 → ℕ → Cause → Type 0
 IsMismatch line agree at given = (agree → ⊥) × (at ≡ line) × (given ≡ Mismatch)
 
 -- what follows a way
-abbrev pub IsRefusedAfter : Option Spot → Block → (Spot → Type 0) → ℕ → Cause → Type 0
+abbrev pub IsRefusedAfter : Option ProgramPoint → Block → (ProgramPoint → Type 0) → ℕ → Cause → Type 0
 IsRefusedAfter None rest refused at given = IsUnreached rest at given
 IsRefusedAfter (Some s) rest refused at given = refused s
 
 -- from this spot the block is refused at this line, with this cause: all before it is fine
-abbrev pub IsRefusedIn : Plan → Block → Spot → ℕ → Cause → Type 0
+abbrev pub IsRefusedIn : Plan → Block → ProgramPoint → ℕ → Cause → Type 0
 IsRefusedIn plan nothing s at given = ⊥
 IsRefusedIn plan (basic line act rest) s at given =
     ((at ≡ line) × FlowRefused plan (instr_of_act act) (known_at s.flow) given)

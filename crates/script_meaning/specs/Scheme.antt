@@ -8,33 +8,33 @@ use Rattle.script_front.specs.declared.tree.Act.{Act}
 use Rattle.script_front.specs.declared.tree.Act.TheVariants.{Edit as Edits, Wait as Waits, WaitContact as WaitsContact, Until as WaitsUntil, CommitIn as CommitsIn, CommitAt as CommitsAt, Join as Joins, Settle as Settles}
 use Rattle.script_front.specs.Block.{Block, nothing, basic, stop, when, either, repeat, forever, apply}
 use Rattle.script_front.specs.Times.{frame_at}
-use Rattle.script_meaning.specs.declared.flow.Mark.{Mark}
-use Rattle.script_meaning.specs.declared.flow.Spot.{Spot}
+use Rattle.script_meaning.specs.declared.flow.UnpricedLabel.{UnpricedLabel}
+use Rattle.script_meaning.specs.declared.flow.ProgramPoint.{ProgramPoint}
 
 -- ---- what is known
 
-abbrev pub at_label : Flow → Spot
+abbrev pub at_label : Flow → ProgramPoint
 at_label t = record { flow = t; labelled = true }
 
 -- where there is no label
-abbrev pub past : Flow → Spot
+abbrev pub past : Flow → ProgramPoint
 past t = record { flow = t; labelled = false }
 
 -- ---- ways that meet at a label
 
 -- a way that doesn't come there is None
-abbrev pub meet : Option Spot → Option Spot → Option Spot
+abbrev pub meet : Option ProgramPoint → Option ProgramPoint → Option ProgramPoint
 meet None None = None
 meet None (Some t) = Some (at_label t.flow)
 meet (Some s) None = Some (at_label s.flow)
 meet (Some s) (Some t) = Some (at_label (merged s.flow t.flow))
 
 -- after two branches: where the first doesn't fall out, the second continues and there is no label
-abbrev pub join : Option Spot → Option Spot → Option Spot
+abbrev pub join : Option ProgramPoint → Option ProgramPoint → Option ProgramPoint
 join None second = second
 join (Some s) second = meet second (Some s)
 
-abbrev pub onward : {A : Type 0} → Option Spot → A → (Spot → A) → A
+abbrev pub onward : {A : Type 0} → Option ProgramPoint → A → (ProgramPoint → A) → A
 onward None none some = none
 onward (Some s) none some = some s
 
@@ -62,11 +62,11 @@ falls_out (forever line body rest) = false
 falls_out (apply line number named rest) = falls_out named && falls_out rest
 
 -- the head of a loop: a label, where it can be repeated
-abbrev pub head : Block → Spot → Spot
+abbrev pub head : Block → ProgramPoint → ProgramPoint
 head body s = record { flow = s.flow; labelled = if falls_out body then true else s.labelled }
 
 -- where a block leads: nowhere, if it doesn't fall out
-abbrev pub spot_after : Plan → Block → Spot → Option Spot
+abbrev pub spot_after : Plan → Block → ProgramPoint → Option ProgramPoint
 spot_after plan nothing s = Some s
 spot_after plan (basic line act rest) s = spot_after plan rest (past (moved plan (instr_of_act act) s.flow))
 spot_after plan (stop line rest) s = None
@@ -83,17 +83,17 @@ spot_after plan (apply line number named rest) s = onward (spot_after plan named
 pub record Place : Type 0 where
   pub line : ℕ
   pub instr : Instr
-  pub spot : Spot
+  pub spot : ProgramPoint
   pub repeats : ℕ
 
-abbrev pub place_of_instr : ℕ → Instr → ℕ → Spot → Place
+abbrev pub place_of_instr : ℕ → Instr → ℕ → ProgramPoint → Place
 place_of_instr line i r s = record { line = line; instr = i; spot = s; repeats = r }
 
-abbrev pub alone : ℕ → Instr → ℕ → Spot → List Place
+abbrev pub alone : ℕ → Instr → ℕ → ProgramPoint → List Place
 alone line i r s = place_of_instr line i r s ∷ []
 
 -- the code of a block inside this many repeats, from this pc on
-abbrev pub places : Plan → ℕ → ℕ → Block → Spot → List Place
+abbrev pub places : Plan → ℕ → ℕ → Block → ProgramPoint → List Place
 places plan r pc nothing s = []
 places plan r pc (basic line act rest) s =
     place_of_instr line (instr_of_act act) r s ∷ places plan r (pc + 1) rest (past (moved plan (instr_of_act act) s.flow))
@@ -127,15 +127,15 @@ places plan r pc (apply line number named rest) s =
     names ++ onward (spot_after plan named s) [] (λ u. places plan r (pc + length names) rest u)
 
 -- all of a script: an End follows, in this line, where it falls out
-abbrev pub all_places : Plan → ℕ → Block → Spot → List Place
+abbrev pub all_places : Plan → ℕ → Block → ProgramPoint → List Place
 all_places plan last b s = places plan 0 0 b s ++ onward (spot_after plan b s) [] (alone last End 0)
 
 -- ---- labels
 
-abbrev pub mark_of : ℕ → Place → Mark
+abbrev pub mark_of : ℕ → Place → UnpricedLabel
 mark_of pc p = record { pc = pc; flow = p.spot.flow; repeats = p.repeats }
 
 -- of places from this pc on
-abbrev pub marks_of : ℕ → List Place → List Mark
+abbrev pub marks_of : ℕ → List Place → List UnpricedLabel
 marks_of pc [] = []
 marks_of pc (p ∷ ps) = if p.spot.labelled then mark_of pc p ∷ marks_of (pc + 1) ps else marks_of (pc + 1) ps

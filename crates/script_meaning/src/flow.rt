@@ -10,7 +10,7 @@ use plan_flow::Flow;
 
 /// What is known at an instruction of a code, and whether it has a label.
 #[derive(Drop)]
-pub struct Spot {
+pub struct ProgramPoint {
     /// What is known of the configurations and of the swap from the current one to the next.
     pub flow: Flow<Tables>,
     /// Whether the instruction has a label.
@@ -26,15 +26,15 @@ fn copied(tables: &Tables) -> Tables
     copy
 }
 
-impl Spot {
+impl ProgramPoint {
     /// What is known at the beginning: this configuration, and no swap is pending. It has a label.
-    pub fn opening(config: &Config) -> Spot
+    pub fn opening(config: &Config) -> ProgramPoint
         ensures { result ≡ record {
           flow = record { current = config.now; next = config.now; pending = Idle };
           labelled = true;
         } }
     {
-        Spot {
+        ProgramPoint {
             flow: Flow {
                 current: Tables::from_config(config),
                 next: Tables::from_config(config),
@@ -45,10 +45,10 @@ impl Spot {
     }
 
     /// The same.
-    pub fn copied(&self) -> Spot
+    pub fn copied(&self) -> ProgramPoint
         ensures { result ≡ self.now }
     {
-        Spot {
+        ProgramPoint {
             flow: Flow {
                 current: copied(&self.flow.current),
                 next: copied(&self.flow.next),
@@ -61,7 +61,7 @@ impl Spot {
 
 /// The instruction of a label, and what is known there.
 #[derive(Drop)]
-pub struct Mark {
+pub struct UnpricedLabel {
     /// The pc of the instruction, from 0.
     pub pc: u16,
     /// What is known there.

@@ -4,7 +4,7 @@ use Rattle.plan_code.specs.declared.instr.Line.{Line}
 use Rattle.plan_code.specs.declared.plan.Plan.{Plan}
 use Rattle.plan_code.specs.Program.{Program, IsProgram}
 use Rattle.script_front.specs.declared.tree.Item.{Item}
-use Rattle.script_meaning.specs.declared.flow.Mark.{Mark}
+use Rattle.script_meaning.specs.declared.flow.UnpricedLabel.{UnpricedLabel}
 use Rattle.script_meaning.specs.Scheme.{all_places, marks_of}
 use Rattle.script_meaning.specs.Judged.{IsJudged}
 use Rattle.script_meaning.specs.Need.{IsWithinBudget}
@@ -104,7 +104,7 @@ returns-in_err-work-clause-limit c =
 pub labels-requires-clause-deep : goal.labels-requires-clause-deep
 labels-requires-clause-deep c =
     let s = c.args.script.now in
-    subst (λ (ms : List Mark). IsDeepAtMost 8 ms) (sym c.in_ok-work.ensures.marks) (nested_deep c.plan_of-plan.result s.last_line (body_of s) (beginning c.in_ok-config.config) (c.in_ok-work.ensures.repeats refl))
+    subst (λ (ms : List UnpricedLabel). IsDeepAtMost 8 ms) (sym c.in_ok-work.ensures.marks) (nested_deep c.plan_of-plan.result s.last_line (body_of s) (beginning c.in_ok-config.config) (c.in_ok-work.ensures.repeats refl))
 
 pub unreachable-requires : goal.unreachable-requires
 unreachable-requires c =

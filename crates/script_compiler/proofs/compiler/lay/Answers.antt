@@ -8,7 +8,7 @@ use Rattle.script_compiler.specs.Space.{HasSpace}
 use Rattle.script_compiler.proofs.Whole.{laid_whole}
 use Rattle.script_compiler.proofs.Fitting.{table_none, can_whole, space_whole_end}
 use Rattle.script_compiler.proofs.Spaces.{limit_map}
-use Rattle.script_meaning.specs.declared.flow.Spot.{Spot}
+use Rattle.script_meaning.specs.declared.flow.ProgramPoint.{ProgramPoint}
 use Rattle.script_meaning.specs.Judged.{IsJudged}
 use Rattle.script_meaning.specs.Refused.{IsRefusedIn}
 use Rattle.script_compiler.proofs.Reasons.{refused_map, no_refusal}
@@ -76,14 +76,14 @@ returns-in-Err-clause-refused c = λ is judged.
     let w0 = c.new-work.result in
     let same : block_of (tables c.blocks-3.result.now) c.statements.result.now ≡ body_of s = ap (λ xs. block_of (table_of [] xs) c.statements.result.now) c.blocks-3.ensures.value ∙ ap (λ xs. block_of (table_of [] s.blocks) xs) c.statements.ensures.value in
     let there = subst (λ b. IsJudged c.args.plan.now b (beginning c.args.config.now)) (sym same) judged in
-    c.in-Err.ensures.refused is (subst (λ (x : Spot). IsJudged c.args.plan.now (block_of (tables c.blocks-3.result.now) c.statements.result.now) x) (sym c.new-work.ensures.now) there)
+    c.in-Err.ensures.refused is (subst (λ (x : ProgramPoint). IsJudged c.args.plan.now (block_of (tables c.blocks-3.result.now) c.statements.result.now) x) (sym c.new-work.ensures.now) there)
 
 pub returns-in-Err-clause-why : goal.returns-in-Err-clause-why
 returns-in-Err-clause-why c =
     let s = c.args.script.now in
     let w0 = c.new-work.result in
     let same : block_of (tables c.blocks-3.result.now) c.statements.result.now ≡ body_of s = ap (λ xs. block_of (table_of [] xs) c.statements.result.now) c.blocks-3.ensures.value ∙ ap (λ xs. block_of (table_of [] s.blocks) xs) c.statements.ensures.value in
-    refused_map c.in-Err.fault (λ at given k. subst (λ (x : Spot). IsRefusedIn c.args.plan.now (body_of s) x at given) c.new-work.ensures.now (subst (λ b. IsRefusedIn c.args.plan.now b w0.now at given) same k)) c.in-Err.ensures.why
+    refused_map c.in-Err.fault (λ at given k. subst (λ (x : ProgramPoint). IsRefusedIn c.args.plan.now (body_of s) x at given) c.new-work.ensures.now (subst (λ b. IsRefusedIn c.args.plan.now b w0.now at given) same k)) c.in-Err.ensures.why
 
 pub returns-clause-why : goal.returns-clause-why
 returns-clause-why c = no_refusal c.in-Err-close.fault _ c.in-Err-close.ensures.refused

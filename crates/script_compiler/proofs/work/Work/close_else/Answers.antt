@@ -1,6 +1,6 @@
 use Rattle.std.proofs.Common.{◌≡◌, List, ◌++◌, Some, None, if◌then◌else◌, length, sym, ap, ◌∙◌}
 use Rattle.std.proofs.lemmas.List.{length-set}
-use Rattle.script_meaning.specs.declared.flow.Spot.{Spot}
+use Rattle.script_meaning.specs.declared.flow.ProgramPoint.{ProgramPoint}
 use Rattle.script_meaning.specs.Scheme.{meet, join}
 use Rattle.mux_config.specs.Configuration.{Configuration}
 use Rattle.script_compiler.specs.Pool.{spot_in}
@@ -22,5 +22,5 @@ returns-in-Err-clause-limited c = limit_map c.in-Err.fault (λ at k past front a
     let marks = ap (λ x. x.items) (c.aim.ensures.marks ∙ c.restore-exit.ensures.marks) in
     let now : u.now ≡ w.now = c.aim.ensures.now ∙ c.restore-exit.ensures.now in
     let met : meet (way c.args.second u) (Some exit) ≡ join a (way c.args.second w) =
-    ap (λ (s : Spot). meet (if c.args.second then Some s else None) (Some exit)) now ∙ ap (λ (s : Spot). meet (way c.args.second w) (Some s)) same ∙ ap (λ x. join x (way c.args.second w)) (sym some.1) in
+    ap (λ (s : ProgramPoint). meet (if c.args.second then Some s else None) (Some exit)) now ∙ ap (λ (s : ProgramPoint). meet (way c.args.second w) (Some s)) same ∙ ap (λ x. join x (way c.args.second w)) (sym some.1) in
     past ps (λ x e. cover x (sym met ∙ e) (met_labelled (way c.args.second u) exit x e)) (space_as k w u ps lines marks space)) c.in-Err.ensures.limited

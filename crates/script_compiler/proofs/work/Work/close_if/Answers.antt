@@ -1,6 +1,6 @@
 use Rattle.std.proofs.Common.{◌≡◌, List, Some, None, if◌then◌else◌, length, sym, ap, ◌∙◌}
 use Rattle.std.proofs.lemmas.List.{length-set}
-use Rattle.script_meaning.specs.declared.flow.Spot.{Spot}
+use Rattle.script_meaning.specs.declared.flow.ProgramPoint.{ProgramPoint}
 use Rattle.script_meaning.specs.Scheme.{meet}
 use Rattle.mux_config.specs.Configuration.{Configuration}
 use Rattle.script_compiler.specs.Pool.{spot_in}
@@ -20,5 +20,5 @@ returns-in-Err-clause-limited c = limit_map c.in-Err.fault (λ at k past front e
     let marks = ap (λ x. x.items) (c.aim.ensures.marks ∙ c.restore-entry.ensures.marks) in
     let now : u.now ≡ w.now = c.aim.ensures.now ∙ c.restore-entry.ensures.now in
     let met : meet (way c.args.falls u) (Some exit) ≡ meet (way c.args.falls w) (Some entry) =
-    ap (λ (s : Spot). meet (if c.args.falls then Some s else None) (Some exit)) now ∙ ap (λ (s : Spot). meet (way c.args.falls w) (Some s)) same in
+    ap (λ (s : ProgramPoint). meet (if c.args.falls then Some s else None) (Some exit)) now ∙ ap (λ (s : ProgramPoint). meet (way c.args.falls w) (Some s)) same in
     past ps (λ x e. cover x (sym met ∙ e)) (space_as k w u ps lines marks space)) c.in-Err.ensures.limited

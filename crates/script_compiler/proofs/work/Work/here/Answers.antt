@@ -1,5 +1,5 @@
 use Rattle.std.proofs.Common.{List, ap, ◌∙◌, subst}
-use Rattle.script_meaning.specs.declared.flow.Spot.{Spot}
+use Rattle.script_meaning.specs.declared.flow.ProgramPoint.{ProgramPoint}
 use Rattle.script_compiler.specs.Pool.{AreNumbered}
 use Rattle.script_compiler.specs.Working.{Spots, Work}
 use Rattle.script_compiler.proofs.Pooled.{both_numbered_in, all_in_pool, all_same}
@@ -14,18 +14,18 @@ invariant_of-self c =
 
 pub returns-in-Err-clause-saved : goal.returns-in-Err-clause-saved
 returns-in-Err-clause-saved c =
-    ap (λ (l : List Spot). let x : Spots = record { items = l } in x) (all_same c.self.inside.marks.pool c.numbered.new.marks.pool c.self.inside.saved.items c.numbered.ensures.kept c.self.invariant.1)
+    ap (λ (l : List ProgramPoint). let x : Spots = record { items = l } in x) (all_same c.self.inside.marks.pool c.numbered.new.marks.pool c.self.inside.saved.items c.numbered.ensures.kept c.self.invariant.1)
     ∙ ap (λ (v : Work). v.saved) c.self.view_is
 
 pub invariant_of-self-2 : goal.invariant_of-self-2
 invariant_of-self-2 c =
     let old = c.self.inside.marks.pool in
     let new = c.numbered.new.marks.pool in (
-      subst (λ (s : Spot). AreNumbered new c.numbers_of-self-inside.result s.flow) c.in-Ok.ensures.same (c.numbers_of-self-inside.ensures new c.in-Ok.ensures.within),
+      subst (λ (s : ProgramPoint). AreNumbered new c.numbers_of-self-inside.result s.flow) c.in-Ok.ensures.same (c.numbers_of-self-inside.ensures new c.in-Ok.ensures.within),
       all_in_pool old new c.self.inside.saved.items c.numbered.ensures.kept c.self.invariant.1,
     )
 
 pub returns-clause-saved : goal.returns-clause-saved
 returns-clause-saved c =
-    ap (λ (l : List Spot). let x : Spots = record { items = l } in x) (all_same c.self.inside.marks.pool c.numbered.new.marks.pool c.self.inside.saved.items c.numbered.ensures.kept c.self.invariant.1)
+    ap (λ (l : List ProgramPoint). let x : Spots = record { items = l } in x) (all_same c.self.inside.marks.pool c.numbered.new.marks.pool c.self.inside.saved.items c.numbered.ensures.kept c.self.invariant.1)
     ∙ ap (λ (v : Work). v.saved) c.self.view_is

@@ -1,6 +1,6 @@
 use Rattle.std.proofs.Common.{◌≡◌, Some, length, sym, ap, subst}
 use Rattle.plan_flow.specs.Flows.{Flow, merged}
-use Rattle.script_meaning.specs.declared.flow.Spot.{Spot}
+use Rattle.script_meaning.specs.declared.flow.ProgramPoint.{ProgramPoint}
 use Rattle.script_meaning.specs.Scheme.{at_label, meet}
 use Rattle.script_compiler.specs.Laying.{way}
 use Rattle.script_compiler.specs.Pool.{spot_in}
@@ -16,7 +16,7 @@ returns-then-not-falls-clause-limited c =
     limits_map c.mark.result (λ at k past ps cover space.
     let met : meet (way c.args.falls w) (Some t) ≡ Some (at_label t.flow) = ap (λ f. meet (way f w) (Some t)) c.if-not-falls.true in
     let there = space_as k w v ps (ap (λ x. length x.items) c.take.ensures.lines) (ap (λ x. x.items) c.take.ensures.marks) space in
-    past ps (subst (λ (s : Spot). IsCovered s.flow ps) (sym c.take.ensures.now) (cover (at_label t.flow) met)) there) c.mark.ensures.limited
+    past ps (subst (λ (s : ProgramPoint). IsCovered s.flow ps) (sym c.take.ensures.now) (cover (at_label t.flow) met)) there) c.mark.ensures.limited
 
 pub returns-clause-limited : goal.returns-clause-limited
 returns-clause-limited c =

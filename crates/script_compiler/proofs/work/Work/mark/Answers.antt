@@ -1,5 +1,5 @@
 use Rattle.std.proofs.Common.{◌∷◌, [], length, sym, ap, subst}
-use Rattle.script_meaning.specs.declared.flow.Spot.{Spot}
+use Rattle.script_meaning.specs.declared.flow.ProgramPoint.{ProgramPoint}
 use Rattle.script_compiler.specs.Marked.{configuration_at}
 use Rattle.script_compiler.specs.declared.fault.CodeLimit.TheVariants.{Configurations}
 use Rattle.script_compiler.specs.Room.{HasRoomFor}
@@ -14,7 +14,7 @@ returns-then-not-has_room_for_both-clause-limited c = λ ps cover space.
     let w = c.args.self.now in
     let v = c.here.new.self in
     let s = c.in-Ok.here in
-    let cover' = subst (λ (x : Spot). IsCovered x.flow ps) (sym c.here.ensures.now) cover in
+    let cover' = subst (λ (x : ProgramPoint). IsCovered x.flow ps) (sym c.here.ensures.now) cover in
     let space' = space_as Configurations w v ps (ap (λ x. length x.items) c.here.ensures.lines) (ap (λ x. x.items) c.here.ensures.marks) space in
     let room = room_here v s ps c.in-Ok.ensures.same (table_as w v c.here.ensures.marks c.requires.table) cover' space' in
     let there = subst (λ (x : Work). HasRoomFor x.marks.table (configuration_at x.pool s.current ∷ configuration_at x.pool s.next ∷ [])) (sym c.self-2.view_is) room in

@@ -1,5 +1,5 @@
 use Rattle.std.proofs.Common.{◌++◌, length, ap, ◌∙◌}
-use Rattle.script_meaning.specs.declared.flow.Spot.{Spot}
+use Rattle.script_meaning.specs.declared.flow.ProgramPoint.{ProgramPoint}
 use Rattle.script_meaning.specs.Scheme.{alone, marks_of}
 use Rattle.script_compiler.specs.Marked.{MarkedTable}
 use Rattle.script_compiler.specs.Working.{Lines}
@@ -15,4 +15,4 @@ returns-clause-marks c =
     h line i
     ∙ ap (λ (m : MarkedTable). m.items ++ marks_of (length v.lines.items) (alone line i r v.now)) c.here.ensures.marks
     ∙ ap (λ (l : Lines). w.marks.items ++ marks_of (length l.items) (alone line i r v.now)) c.here.ensures.lines
-    ∙ ap (λ (s : Spot). w.marks.items ++ marks_of (length w.lines.items) (alone line i r s)) c.here.ensures.now) c.put_mark.ensures.marks
+    ∙ ap (λ (s : ProgramPoint). w.marks.items ++ marks_of (length w.lines.items) (alone line i r s)) c.here.ensures.now) c.put_mark.ensures.marks

@@ -1,7 +1,7 @@
 use Rattle.std.proofs.Common.{◌≡◌, ◌≤◌, ◌<◌, ◌++◌, ◌∷◌, [], List, Some, true, length, sym, ap, ◌∙◌, subst, arith}
 use Rattle.std.proofs.lemmas.Option.{slice_get_within}
 use Rattle.mux_config.specs.Configuration.{Configuration}
-use Rattle.script_meaning.specs.declared.flow.Mark.{Mark}
+use Rattle.script_meaning.specs.declared.flow.UnpricedLabel.{UnpricedLabel}
 use Rattle.script_meaning.specs.Scheme.{alone, marks_of}
 use Rattle.script_meaning.specs.Compiled.{Added}
 use Rattle.script_compiler.specs.Marked.{configuration_at, mark_in}
@@ -53,7 +53,7 @@ returns-clause-marks c = λ line i.
     let table = c.index_of-2.new.self.table in
     let there = grown (configuration_at v.marks.pool s.current) (configuration_at c.index_of.new.self.pool s.next) c.in-Ok.cur c.index_of.new.self.table table c.in-Ok-index_of.ensures.added c.in-Ok.ensures.index in
     let then = c.in-Ok-index_of.ensures.index ∙ ap (λ (p : List Configuration). Some (configuration_at p s.next)) c.index_of.ensures.pool in
-    let items = c.in_default.ensures.added ∙ ap (λ (ms : List Mark). ms ++ mark_in table (short_with c.len.result c.in-Ok.cur c.in-Ok-index_of.next c.args.counters s) ∷ []) (c.index_of-2.ensures.items ∙ c.index_of.ensures.items) in
+    let items = c.in_default.ensures.added ∙ ap (λ (ms : List UnpricedLabel). ms ++ mark_in table (short_with c.len.result c.in-Ok.cur c.in-Ok-index_of.next c.args.counters s) ∷ []) (c.index_of-2.ensures.items ∙ c.index_of.ensures.items) in
     let is = marked_as u s table c.in-Ok.cur c.in-Ok-index_of.next c.len.result c.args.counters c.push.new.self.items same there then items in
     let h = marked_here u c.len.result c.args.counters line i c.push.new.self.items labelled (c.len.ensures ∙ v.lines.ok.0) is in
     subst (λ (x : Work). c.push.new.self.items ≡ x.marks.items ++ marks_of (length x.lines.items) (alone line i c.args.counters x.now)) c.self.view_is h
@@ -69,7 +69,7 @@ returns-clause-table c =
     let table = c.index_of-2.new.self.table in
     let there = grown (configuration_at v.marks.pool s.current) (configuration_at c.index_of.new.self.pool s.next) c.in-Ok.cur c.index_of.new.self.table table c.in-Ok-index_of.ensures.added c.in-Ok.ensures.index in
     let then = c.in-Ok-index_of.ensures.index ∙ ap (λ (p : List Configuration). Some (configuration_at p s.next)) c.index_of.ensures.pool in
-    let items = c.in_default.ensures.added ∙ ap (λ (ms : List Mark). ms ++ mark_in table (short_with c.len.result c.in-Ok.cur c.in-Ok-index_of.next c.args.counters s) ∷ []) (c.index_of-2.ensures.items ∙ c.index_of.ensures.items) in
+    let items = c.in_default.ensures.added ∙ ap (λ (ms : List UnpricedLabel). ms ++ mark_in table (short_with c.len.result c.in-Ok.cur c.in-Ok-index_of.next c.args.counters s) ∷ []) (c.index_of-2.ensures.items ∙ c.index_of.ensures.items) in
     let is = marked_as u s table c.in-Ok.cur c.in-Ok-index_of.next c.len.result c.args.counters c.push.new.self.items same there then items in
     let m = mark_with c.len.result c.args.counters v.now in
     let current : Added m.flow.current v.marks.table c.index_of.new.self.table = subst (λ (x : Configuration). Added x v.marks.table c.index_of.new.self.table) (ap (λ x. x.flow.current) same) c.in-Ok.ensures.added in

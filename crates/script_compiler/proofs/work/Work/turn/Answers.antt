@@ -4,7 +4,7 @@ use Rattle.mux_config.specs.Configuration.{Configuration}
 use Rattle.std.specs.Prelude.{slice_set}
 use Rattle.plan_code.specs.declared.instr.Instr.TheVariants.{Jump, Test}
 use Rattle.plan_code.specs.declared.instr.Line.{Line}
-use Rattle.script_meaning.specs.declared.flow.Spot.{Spot}
+use Rattle.script_meaning.specs.declared.flow.ProgramPoint.{ProgramPoint}
 use Rattle.script_meaning.specs.Scheme.{Place, alone, at_label, marks_of, onward}
 use Rattle.script_meaning.specs.Compiled.{lines_of_places}
 use Rattle.script_compiler.specs.Laying.{jumping, line_of_instr, spots_of, way}
@@ -30,7 +30,7 @@ returns-clause-limited c =
     let lines = ap (λ z. length z.items) c.take.ensures.lines ∙ ap length c.aim.ensures.lines ∙ length-set u.lines.items c.args.at _ ∙ ap length c.in_default.ensures.lines ∙ length-append v.lines.items _ in
     let marks = ap (λ z. z.items) (c.take.ensures.marks ∙ c.aim.ensures.marks) ∙ c.in_default.ensures.marks in
     let there = space_left k v _ c.args.falls c.args.line c.args.counters m n i ps lines marks (space_restored k v w c.args.falls m n i ps c.restore-entry.ensures.lines c.restore-entry.ensures.marks c.restore-entry.ensures.now space) in
-    past ps (subst (λ (z : Spot). IsCovered z.flow ps) (sym c.take.ensures.now) (subst (λ (z : Spot). IsCovered z.flow ps) (sym same) cover)) there) c.mark.ensures.limited
+    past ps (subst (λ (z : ProgramPoint). IsCovered z.flow ps) (sym c.take.ensures.now) (subst (λ (z : ProgramPoint). IsCovered z.flow ps) (sym same) cover)) there) c.mark.ensures.limited
 
 pub returns-clause-turns : goal.returns-clause-turns
 returns-clause-turns c =
@@ -46,7 +46,7 @@ returns-clause-turns c =
     let there = c.restore-entry.ensures.saved ∙ saved in
     let here : spot_in x.pool s ≡ spot_in v.pool s = ap (λ (p : List Configuration). spot_in p s) c.aim.ensures.pool ∙ spot_same v.pool u.pool s c.leave.ensures.pool c.restore-entry.ensures.within in
     let same : spot_in x.pool s ≡ entry = here ∙ snoc_last v.saved.items front (spot_in v.pool s) entry there in
-    let jumps : jumping f line r v ≡ jumping f line r w = ap (λ (z : Spot). onward (if f then Some z else None) [] (alone line (Jump 0) r)) c.restore-entry.ensures.now in
+    let jumps : jumping f line r v ≡ jumping f line r w = ap (λ (z : ProgramPoint). onward (if f then Some z else None) [] (alone line (Jump 0) r)) c.restore-entry.ensures.now in
     let lines : u.lines.items ≡ w.lines.items ++ lines_of_places (jumping f line r w) =
     c.in_default.ensures.lines ∙ ap (λ (l : Lines). l.items ++ lines_of_places (jumping f line r v)) c.restore-entry.ensures.lines ∙ ap (λ (ps : List Place). w.lines.items ++ lines_of_places ps) jumps in
     record {
@@ -59,9 +59,9 @@ returns-clause-turns c =
           ∙ ap (λ (m : MarkedTable). m.items ++ marks_of (length v.lines.items) (jumping f line r v)) c.restore-entry.ensures.marks
           ∙ ap (λ (l : Lines). w.marks.items ++ marks_of (length l.items) (jumping f line r v)) c.restore-entry.ensures.lines
           ∙ ap (λ (ps : List Place). w.marks.items ++ marks_of (length w.lines.items) ps) jumps;
-      now = now ∙ ap (λ (z : Spot). at_label z.flow) c.take.ensures.now ∙ ap (λ (z : Spot). at_label z.flow) same;
+      now = now ∙ ap (λ (z : ProgramPoint). at_label z.flow) c.take.ensures.now ∙ ap (λ (z : ProgramPoint). at_label z.flow) same;
       saved =
           ap (λ (l : Spots). l.items) (c.mark.ensures.saved ∙ c.take.ensures.saved ∙ c.aim.ensures.saved) ∙ c.in_default.ensures.saved
-          ∙ ap (λ (l : List Spot). l ++ spots_of (way f v)) (snoc_front v.saved.items front (spot_in v.pool s) entry there)
-          ∙ ap (λ (z : Spot). front ++ spots_of (if f then Some z else None)) c.restore-entry.ensures.now;
+          ∙ ap (λ (l : List ProgramPoint). l ++ spots_of (way f v)) (snoc_front v.saved.items front (spot_in v.pool s) entry there)
+          ∙ ap (λ (z : ProgramPoint). front ++ spots_of (if f then Some z else None)) c.restore-entry.ensures.now;
     }) c.mark.ensures.now
