@@ -20,8 +20,27 @@ copy_crate() {
   fi
 }
 
+# crates_of CRATE..: these crates and all that their lines in crates.txt name from there on, in its order.
+crates_of() {
+  awk -F: -v wanted="$*" '
+    !/^#/ && NF > 1 { below[$1] = $2; order[++lines] = $1 }
+    END {
+      count = split(wanted, waiting, " ")
+      for (at = 1; at <= count; at++) found[waiting[at]]
+      for (at = 1; at <= count; at++) {
+        size = split(below[waiting[at]], names, " ")
+        for (i = 1; i <= size; i++)
+          if (names[i] in below && !(names[i] in found)) {
+            found[names[i]]
+            waiting[++count] = names[i]
+          }
+      }
+      for (at = 1; at <= lines; at++) if (order[at] in found) print order[at]
+    }' crates.txt
+}
+
 # run_program NAME INPUT CRATE..: proves, builds and runs the program on standard input, over copies of these
-# crates and with INPUT as its own standard input. The modules that it names are those of modules.sh. What it prints is
+# crates and those below them, and with INPUT as its own standard input. The modules that it names are those of modules.sh. What it prints is
 # printed; what the proof says only if it fails.
 run_program() {
   local name=$1 input=$2 crate module
@@ -32,7 +51,7 @@ run_program() {
     "module_$module" >"$work/top/crates/$name/src/$module.rt"
   done
   git init -q "$work/top"
-  for crate in "$@"; do
+  for crate in $(crates_of "$@"); do
     copy_crate "$crate"
     grep "^$crate:" crates.txt
   done >"$work/top/crates.txt"
